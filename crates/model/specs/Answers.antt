@@ -1,0 +1,57 @@
+-- NUMBERS GIVEN BACK (document 01): for each operation the table's rows in their order, each with number, count and the whole content of what was lent.
+use mathlib.Core.Path.{_≡_}
+use mathlib.Core.List.{List, _++_}
+use Prim.Native.Nat.{ℕ, _≤_, _<_}
+use lib.ListN.{length, take, drop}
+use Rattle.model.specs.Tree.{Tree}
+use Rattle.model.specs.Grammar.{IsRule}
+use Rattle.model.specs.Writing.{writing}
+use Rattle.model.specs.Edges.{states, depth}
+use Rattle.model.specs.Ends.{EndsAre}
+use Rattle.model.specs.Image.{image}
+
+-- an answer: the number, the count, and what was lent as it is afterwards
+pub record Answer : Type 0 where
+  pub number : ℕ
+  pub count : ℕ
+  pub lent : List ℕ
+
+-- "Any refusal gives count 0 and changes nothing."
+abbrev pub refused : ℕ → List ℕ → Answer
+refused n before = record { number = n; count = 0; lent = before }
+
+-- "Done" gives the length of the whole; what fits of it is written. "Words or bytes past what is written stay as they were."
+abbrev pub done : List ℕ → List ℕ → Answer
+done whole before = record { number = 0; count = length whole; lent = take (length before) whole ++ drop (length whole) before }
+
+-- BUILD, from rule bytes into lent words
+pub data BuildSays (rule before : List ℕ) (a : Answer) : Type 0 where
+  rule-too-long : 1024 < length rule → a ≡ refused 1 before → BuildSays rule before a
+  not-a-rule : length rule ≤ 1024 → ((t : Tree) → IsRule rule t → ⊥) → a ≡ refused 2 before → BuildSays rule before a
+  too-many-states : (t : Tree) → length rule ≤ 1024 → IsRule rule t → 512 < states t → a ≡ refused 3 before → BuildSays rule before a
+  too-deep : (t : Tree) → length rule ≤ 1024 → IsRule rule t → states t ≤ 512 → 8 < depth t → a ≡ refused 4 before → BuildSays rule before a
+  no-room : (t : Tree) → length rule ≤ 1024 → IsRule rule t → states t ≤ 512 → depth t ≤ 8 → length before < length (image t) → a ≡ refused 5 before → BuildSays rule before a
+  built : (t : Tree) → length rule ≤ 1024 → IsRule rule t → states t ≤ 512 → depth t ≤ 8 → length (image t) ≤ length before → a ≡ done (image t) before → BuildSays rule before a
+
+-- "the image of a tree within 512 states and depth 8"; "a tree is that of any rule in the grammar, however long the rule"
+pub record ImageOf (words : List ℕ) (t : Tree) : Type 0 where
+  pub rule : List ℕ
+  pub is-rule : IsRule rule t
+  pub few : states t ≤ 512
+  pub shallow : depth t ≤ 8
+  pub laid : words ≡ image t
+
+abbrev pub NoImage : List ℕ → Type 0
+NoImage words = (t : Tree) → ImageOf words t → ⊥
+
+-- READ BACK, from image words into lent bytes
+pub data ReadBackSays (words before : List ℕ) (a : Answer) : Type 0 where
+  not-an-image : NoImage words → a ≡ refused 6 before → ReadBackSays words before a
+  no-room : (t : Tree) → ImageOf words t → length before < length (writing t) → a ≡ refused 8 before → ReadBackSays words before a
+  written : (t : Tree) → ImageOf words t → length (writing t) ≤ length before → a ≡ done (writing t) before → ReadBackSays words before a
+
+-- MATCH, from image words and text bytes into lent places. "Match writes the first ends that fit; a short list is no refusal."
+pub data MatchSays (words text before : List ℕ) (a : Answer) : Type 0 where
+  not-an-image : NoImage words → a ≡ refused 6 before → MatchSays words text before a
+  text-too-long : (t : Tree) → ImageOf words t → 65535 < length text → a ≡ refused 7 before → MatchSays words text before a
+  matched : (t : Tree) (ends : List ℕ) → ImageOf words t → length text ≤ 65535 → EndsAre t text ends → a ≡ done ends before → MatchSays words text before a

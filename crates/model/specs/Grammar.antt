@@ -1,0 +1,104 @@
+-- THE GRAMMAR OF RULES (document 01, "The grammar"), as a relation between bytes and what they mean. It is no parser: it says only what is a rule, and of which tree.
+use mathlib.Core.Path.{_≡_}
+use mathlib.Core.Bool.{Bool, not, _&&_}
+use mathlib.Core.List.{List, [], _∷_, _++_}
+use Prim.Native.Nat.{ℕ, zero, suc, _+_, _-_, _*_, _^_, _≤_}
+use lib.Dec.{T, eqb, leb}
+use lib.Bits.{bitOr}
+use Rattle.model.specs.Bits.{mask}
+use Rattle.model.specs.Bytes.{byte, plain, IsDigit, IsEscape}
+use Rattle.model.specs.Tree.{Repeat, once, option, star, plus, Seq, end, letter, union, Alts, last, more, Tree, glue}
+
+-- ---- classes: the number whose bit b says that byte b is in it
+-- "In a class a single is an escape or a plain byte other than `-`; the signs need escapes there too."
+abbrev pub bare : ℕ → Bool
+bare b = plain b && not (eqb b (byte "-"))
+
+pub data IsSingle : List ℕ → ℕ → Type 0 where
+  itself : {w : List ℕ} {b : ℕ} → w ≡ b ∷ [] → T (bare b) → IsSingle w b
+  escaped : {w : List ℕ} {b : ℕ} → IsEscape w b → IsSingle w b
+
+-- the bytes from lo to hi; "every byte, 0 to 255"
+abbrev pub span : ℕ → ℕ → ℕ
+span lo hi = mask 256 (λ b. leb lo b && leb b hi)
+
+abbrev pub every : ℕ
+every = 2 ^ 256 - 1
+
+-- "singles or ranges `lo-hi` of two singles, lo at most hi"
+pub data IsMember : List ℕ → ℕ → Type 0 where
+  single : {w : List ℕ} {c b : ℕ} → c ≡ span b b → IsSingle w b → IsMember w c
+  range : {w u v : List ℕ} {c lo hi : ℕ} → w ≡ u ++ (byte "-" ∷ v) → c ≡ span lo hi → lo ≤ hi → IsSingle u lo → IsSingle v hi → IsMember w c
+
+-- "one or more" of them
+pub data IsMembers : List ℕ → ℕ → Type 0 where
+  member : {w : List ℕ} {c : ℕ} → IsMember w c → IsMembers w c
+  beside : {w u v : List ℕ} {c d e : ℕ} → w ≡ u ++ v → c ≡ bitOr d e → IsMember u d → IsMembers v e → IsMembers w c
+
+-- ---- letters
+-- "A letter is a plain byte, an escape, `.` (every byte, 0 to 255) or a class `[...]`"
+pub data IsLetter : List ℕ → ℕ → Type 0 where
+  itself : {w : List ℕ} {c b : ℕ} → w ≡ b ∷ [] → c ≡ 2 ^ b → T (plain b) → IsLetter w c
+  escape : {w : List ℕ} {c b : ℕ} → c ≡ 2 ^ b → IsEscape w b → IsLetter w c
+  dot : {w : List ℕ} {c : ℕ} → w ≡ byte "." ∷ [] → c ≡ every → IsLetter w c
+  class : {w u : List ℕ} {c : ℕ} → w ≡ byte "[" ∷ (u ++ (byte "]" ∷ [])) → IsMembers u c → IsLetter w c
+
+-- ---- repeat signs
+-- "Numbers have 1 to 3 digits and no leading zero except `0` itself."
+pub data IsNumber : List ℕ → ℕ → Type 0 where
+  one : {w : List ℕ} {n x : ℕ} → w ≡ x ∷ [] → IsDigit x n → IsNumber w n
+  two : {w : List ℕ} {n x y d e : ℕ} → w ≡ x ∷ y ∷ [] → n ≡ 10 * d + e → 1 ≤ d → IsDigit x d → IsDigit y e → IsNumber w n
+  three : {w : List ℕ} {n x y z d e f : ℕ} → w ≡ x ∷ y ∷ z ∷ [] → n ≡ 100 * d + 10 * e + f → 1 ≤ d → IsDigit x d → IsDigit y e → IsDigit z f → IsNumber w n
+
+-- what stands in `{ }`: "`{x}` is `{x,x}` and `{,y}` is `{0,y}`"
+pub data IsBounds : List ℕ → ℕ → ℕ → Type 0 where
+  both : {w u v : List ℕ} {x y : ℕ} → w ≡ u ++ (byte "," ∷ v) → IsNumber u x → IsNumber v y → IsBounds w x y
+  same : {w : List ℕ} {x y : ℕ} → y ≡ x → IsNumber w x → IsBounds w x y
+  upto : {w v : List ℕ} {x y : ℕ} → w ≡ byte "," ∷ v → x ≡ 0 → IsNumber v y → IsBounds w x y
+
+pub data Sign : Type 0 where
+  plainly : Repeat → Sign
+  times : ℕ → ℕ → Sign
+
+-- "at most one repeat sign": "`?`, `*`, `+`, `{x}`, `{x,y}`, `{,y}`. x is at most y, and y at least 1."
+pub data IsSign : List ℕ → Sign → Type 0 where
+  absent : {w : List ℕ} {q : Sign} → w ≡ [] → q ≡ plainly once → IsSign w q
+  question : {w : List ℕ} {q : Sign} → w ≡ byte "?" ∷ [] → q ≡ plainly option → IsSign w q
+  asterisk : {w : List ℕ} {q : Sign} → w ≡ byte "*" ∷ [] → q ≡ plainly star → IsSign w q
+  cross : {w : List ℕ} {q : Sign} → w ≡ byte "+" ∷ [] → q ≡ plainly plus → IsSign w q
+  braces : {w u : List ℕ} {q : Sign} {x y : ℕ} → w ≡ byte "{" ∷ (u ++ (byte "}" ∷ [])) → q ≡ times x y → x ≤ y → 1 ≤ y → IsBounds u x y → IsSign w q
+
+-- n times the letter c with r, and then s
+abbrev pub copies : ℕ → ℕ → Repeat → Seq → Seq
+copies zero c r s = s
+copies (suc n) c r s = letter c r (copies n c r s)
+
+-- "`b{x,y}` becomes y-x times `b?`, then x times `b`"
+abbrev pub repeated : ℕ → Sign → Seq
+repeated c (plainly r) = letter c r end
+repeated c (times x y) = copies (y - x) c option (copies x c once end)
+
+-- ---- the tree
+-- "brackets around one alternative vanish and their items join the sequence outside"; several are a union
+abbrev pub bracket : Alts → Seq
+bracket (last s) = s
+bracket (more s a) = union (more s a) end
+
+-- "Alternatives hold sequences, sequences hold items, items hold alternatives: an item is a letter with at most one repeat sign, or
+-- bracketed alternatives without one. No sequence is empty." An item means the sequence that it adds to the one outside.
+mutual
+  pub data IsAlts : List ℕ → Alts → Type 0 where
+    only : {w : List ℕ} {s : Seq} → IsSeq w s → IsAlts w (last s)
+    also : {w u v : List ℕ} {s : Seq} {a : Alts} → w ≡ u ++ (byte "|" ∷ v) → IsSeq u s → IsAlts v a → IsAlts w (more s a)
+
+  pub data IsSeq : List ℕ → Seq → Type 0 where
+    item : {w : List ℕ} {s : Seq} → IsItem w s → IsSeq w s
+    then : {w u v : List ℕ} {s h t : Seq} → w ≡ u ++ v → s ≡ glue h t → IsItem u h → IsSeq v t → IsSeq w s
+
+  pub data IsItem : List ℕ → Seq → Type 0 where
+    lone : {w u v : List ℕ} {s : Seq} {c : ℕ} {q : Sign} → w ≡ u ++ v → s ≡ repeated c q → IsLetter u c → IsSign v q → IsItem w s
+    group : {w u : List ℕ} {s : Seq} {a : Alts} → w ≡ byte "(" ∷ (u ++ (byte ")" ∷ [])) → s ≡ bracket a → IsAlts u a → IsItem w s
+
+-- THE RULE w HAS THE TREE t: "A rule is alternatives separated by `|`."
+pub data IsRule : List ℕ → Tree → Type 0 where
+  rule : {w : List ℕ} {t : Tree} {a : Alts} → t ≡ bracket a → IsAlts w a → IsRule w t

@@ -1,0 +1,62 @@
+-- THE PLAIN WRITING (document 01, "Plain writing"): "the tree written out".
+use mathlib.Core.Bool.{Bool, true, false, _&&_, cond}
+use mathlib.Core.List.{List, [], _∷_, _++_}
+use Prim.Native.Nat.{ℕ, zero, suc, _+_, _-_, _/_, _%_, _^_}
+use lib.Dec.{leb, ltb, eqb}
+use Rattle.model.specs.Lists.{within}
+use Rattle.model.specs.Bits.{bit}
+use Rattle.model.specs.Bytes.{byte, bytes, signs}
+use Rattle.model.specs.Tree.{Repeat, once, option, star, plus, Seq, end, letter, union, Alts, last, more, Tree}
+use Rattle.model.specs.Grammar.{every}
+
+-- an "upper-case digit"
+abbrev pub hexDigit : ℕ → ℕ
+hexDigit d = cond (ltb d 10) (byte "0" + d) (55 + d)
+
+-- a byte: "plain and not `-`, itself; a sign or `-`, with `\` before it; else `\x` and two upper-case digits"
+abbrev pub byteWriting : ℕ → List ℕ
+byteWriting b =
+    cond (within b (byte "-" ∷ signs)) (byte "\\" ∷ b ∷ [])
+    (cond (leb 33 b && leb b 126) (b ∷ []) (byte "\\" ∷ byte "x" ∷ hexDigit (b / 16) ∷ hexDigit (b % 16) ∷ []))
+
+-- "a run of one as the byte, a longer run as `lo-hi`"
+abbrev pub runWriting : ℕ → ℕ → List ℕ
+runWriting lo hi = cond (eqb lo hi) (byteWriting lo) (byteWriting lo ++ (byte "-" ∷ byteWriting hi))
+
+-- "its maximal runs in rising order": of the class c the n bytes from b on, outside any run, and inside one that began in lo
+abbrev mutual
+  pub outside : ℕ → ℕ → ℕ → List ℕ
+  outside zero c b = []
+  outside (suc n) c b = cond (bit c b) (inside n c (suc b) b) (outside n c (suc b))
+
+  pub inside : ℕ → ℕ → ℕ → ℕ → List ℕ
+  inside zero c b lo = runWriting lo 255
+  inside (suc n) c b lo = cond (bit c b) (inside n c (suc b) lo) (runWriting lo (b - 1) ++ outside n c (suc b))
+
+-- the only byte of a class, looked for among n bytes from b on; 256 if it has no or several bytes
+abbrev pub sole : ℕ → ℕ → ℕ → ℕ
+sole zero c b = 256
+sole (suc n) c b = cond (eqb c (2 ^ b)) b (sole n c (suc b))
+
+-- "A class of one byte is that byte. All 256 bytes are `.`. Any other class is its maximal runs in rising order in `[ ]`"
+abbrev pub classWriting : ℕ → List ℕ
+classWriting c =
+    let b = sole 256 c 0 in
+    cond (ltb b 256) (byteWriting b) (cond (eqb c every) (bytes ".") ((byte "[" ∷ outside 256 c 0) ++ (byte "]" ∷ [])))
+
+abbrev pub repeatWriting : Repeat → List ℕ
+repeatWriting once = []
+repeatWriting option = bytes "?"
+repeatWriting star = bytes "*"
+repeatWriting plus = bytes "+"
+
+-- "Every union is bracketed, also at the top."
+abbrev mutual
+  pub writing : Tree → List ℕ
+  writing end = []
+  writing (letter c r s) = classWriting c ++ (repeatWriting r ++ writing s)
+  writing (union a s) = byte "(" ∷ (altsWriting a ++ (byte ")" ∷ writing s))
+
+  pub altsWriting : Alts → List ℕ
+  altsWriting (last s) = writing s
+  altsWriting (more s a) = writing s ++ (byte "|" ∷ altsWriting a)

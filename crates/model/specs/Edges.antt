@@ -56,6 +56,12 @@ abbrev pub ways : Alts → ℕ → List Way
 ways (last s) p = (suc p, seqEnd s (suc p)) ∷ []
 ways (more s a) p = (suc p, seqEnd s (suc p)) ∷ ways a (seqEnd s (suc p))
 
+abbrev pub startsOf : List Way → List ℕ
+startsOf ws = map (λ a. a .0) ws
+
+abbrev pub endsOf : List Way → List ℕ
+endsOf ws = map (λ a. a .1) ws
+
 -- a letter where it lies: its class, its repeat, its depth, the state i that it starts from;
 -- a union where it lies: whether it can be empty, its depth, its start, its alternatives, its end
 pub data Part : Type 0 where

@@ -38,7 +38,7 @@ pub data IsMembers : List ℕ → ℕ → Type 0 where
 -- ---- letters
 -- "A letter is a plain byte, an escape, `.` (every byte, 0 to 255) or a class `[...]`"
 pub data IsLetter : List ℕ → ℕ → Type 0 where
-  itself : {w : List ℕ} {c b : ℕ} → w ≡ b ∷ [] → c ≡ 2 ^ b → T (plain b) → IsLetter w c
+  plain-byte : {w : List ℕ} {c b : ℕ} → w ≡ b ∷ [] → c ≡ 2 ^ b → T (plain b) → IsLetter w c
   escape : {w : List ℕ} {c b : ℕ} → c ≡ 2 ^ b → IsEscape w b → IsLetter w c
   dot : {w : List ℕ} {c : ℕ} → w ≡ byte "." ∷ [] → c ≡ every → IsLetter w c
   class : {w u : List ℕ} {c : ℕ} → w ≡ byte "[" ∷ (u ++ (byte "]" ∷ [])) → IsMembers u c → IsLetter w c

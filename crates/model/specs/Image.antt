@@ -1,13 +1,13 @@
 -- THE IMAGE (document 01, "The image").
 use mathlib.Core.Bool.{Bool, true, false, not, _&&_, _||_}
-use mathlib.Core.List.{List, [], _∷_, _++_, map}
+use mathlib.Core.List.{List, [], _∷_, _++_}
 use Prim.Native.Nat.{ℕ, zero, suc, _+_, _/_, _%_, _^_}
 use lib.Dec.{eqb, leb, ltb}
 use lib.ListN.{length}
 use Rattle.model.specs.Lists.{any, within}
 use Rattle.model.specs.Bits.{mask}
 use Rattle.model.specs.Tree.{Tree}
-use Rattle.model.specs.Edges.{states, depth, Way, Part, letterAt, unionAt, parts, Edge, edges, byLetter, byLoop, isPropagate}
+use Rattle.model.specs.Edges.{states, depth, Way, startsOf, endsOf, Part, letterAt, unionAt, parts, Edge, edges, byLetter, byLoop, isPropagate}
 
 -- ---- the sets of states that the masks hold
 -- "letters: bit i+1 where a letter edge i to i+1 takes the byte"; "repeats: likewise, the bit of each loop"
@@ -42,14 +42,14 @@ abbrev pub scatterSource : Tree → ℕ → ℕ → Bool
 scatterSource t k x = someUnion t k (λ start ws close. eqb x start)
 
 abbrev pub scatterTarget : Tree → ℕ → ℕ → Bool
-scatterTarget t k x = someUnion t k (λ start ws close. within x (map (λ a. a .0) ws))
+scatterTarget t k x = someUnion t k (λ start ws close. within x (startsOf ws))
 
 -- gather: "block (every state from the first alternative's end to the union's end less 1), source (alternative ends), target (union ends)"
 abbrev pub gatherBlock : Tree → ℕ → ℕ → Bool
 gatherBlock t k x = someUnion t k (λ start ws close. leb (firstEnd ws) x && ltb x close)
 
 abbrev pub gatherSource : Tree → ℕ → ℕ → Bool
-gatherSource t k x = someUnion t k (λ start ws close. within x (map (λ a. a .1) ws))
+gatherSource t k x = someUnion t k (λ start ws close. within x (endsOf ws))
 
 abbrev pub gatherTarget : Tree → ℕ → ℕ → Bool
 gatherTarget t k x = someUnion t k (λ start ws close. eqb x close)

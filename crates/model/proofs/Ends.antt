@@ -1,0 +1,3 @@
+-- Ends
+pub mod Run
+pub mod Stops

@@ -1,0 +1,80 @@
+-- A value for each state, handed on along the tree: one law for depths, homes and languages.
+use mathlib.Core.Path.{_≡_, refl, _∙_}
+use mathlib.Core.Bool.{cond}
+use Prim.Native.Nat.{ℕ, suc, _≤_, _<_}
+use native.Mathlib.Nat.{le-refl}
+use native.Mathlib.Omega.{arith}
+use lib.Dec.{leb}
+use Rattle.model.specs.Tree.{Alts, Repeat, Seq, end, last, letter, more, union}
+use Rattle.model.specs.Edges.{altsEnd, seqEnd}
+use Rattle.model.proofs.Language.Languages.{fin-le, finA-lt}
+use Rattle.model.proofs.Laws.Bool.{pick-gt, pick-le}
+
+-- the value goes through a letter, past a union, and from a union's start t into the alternative that starts in p
+module _ {ℓ} (X : Type ℓ) (through : ℕ → Repeat → X → X) (past : Alts → X → X) (inside : ℕ → ℕ → X → X) where
+  abbrev mutual
+    pub val : Seq → ℕ → X → ℕ → X
+    val end t v = λ q. v
+    val (letter c r s) t v = λ q. cond (leb q t) v (val s (suc t) (through c r v) q)
+    val (union a s) t v = λ q. cond (leb q t) v (cond (leb q (altsEnd a t)) (valA a t t v q) (val s (suc (altsEnd a t)) (past a v) q))
+
+    pub valA : Alts → ℕ → ℕ → X → ℕ → X
+    valA (last s) t p v = λ q. val s (suc p) (inside t (suc p) v) q
+    valA (more s a) t p v = λ q. cond (leb q (seqEnd s (suc p))) (val s (suc p) (inside t (suc p) v) q) (valA a t (seqEnd s (suc p)) v q)
+
+  -- the value at a sequence's end
+  abbrev pub out : Seq → X → X
+  out end v = v
+  out (letter c r s) v = out s (through c r v)
+  out (union a s) v = out s (past a v)
+
+  -- W is such a table
+  module _ (W : ℕ → X) where
+    abbrev mutual
+      pub Has : Seq → ℕ → X → Type ℓ
+      Has end t v = W t ≡ v
+      Has (letter c r s) t v = (W t ≡ v) × Has s (suc t) (through c r v)
+      Has (union a s) t v = (W t ≡ v) × HasA a t t v × Has s (suc (altsEnd a t)) (past a v)
+
+      pub HasA : Alts → ℕ → ℕ → X → Type ℓ
+      HasA (last s) t p v = Has s (suc p) (inside t (suc p) v)
+      HasA (more s a) t p v = Has s (suc p) (inside t (suc p) v) × HasA a t (seqEnd s (suc p)) v
+
+    pub has-start : (s : Seq) (t : ℕ) (v : X) → Has s t v → W t ≡ v
+    has-start end t v h = h
+    has-start (letter c r s) t v h = h .0
+    has-start (union a s) t v h = h .0
+
+    pub has-end : (s : Seq) (t : ℕ) (v : X) → Has s t v → W (seqEnd s t) ≡ out s v
+    has-end end t v h = h
+    has-end (letter c r s) t v h = has-end s (suc t) (through c r v) (h .1)
+    has-end (union a s) t v h = has-end s (suc (altsEnd a t)) (past a v) (h .2)
+
+    -- what agrees with the table on a sequence's states is one
+    mutual
+      pub has : (s : Seq) (t : ℕ) (v : X) → ((q : ℕ) → t ≤ q → q ≤ seqEnd s t → W q ≡ val s t v q) → Has s t v
+      has end t v A = A t (le-refl t) (le-refl t)
+      has (letter c r s) t v A = (
+        A t (le-refl t) (fin-le (letter c r s) t) ∙ pick-le t t v (val s (suc t) (through c r v) t) (le-refl t),
+        has s (suc t) (through c r v) (λ q h k. A q (omega arith) k ∙ pick-gt q t v (val s (suc t) (through c r v) q) h),
+      )
+      has (union a s) t v A = (
+        A t (le-refl t) (fin-le (union a s) t) ∙ pick-le t t v (rest t) (le-refl t),
+        hasA a t t v (λ q h k. A q (omega arith) (omega (arith, fin-le s (suc (altsEnd a t)))) ∙ pick-gt q t v (rest q) h
+            ∙ pick-le q (altsEnd a t) (valA a t t v q) (val s (suc (altsEnd a t)) (past a v) q) k),
+        has s (suc (altsEnd a t)) (past a v) (λ q h k. A q (omega (arith, finA-lt a t)) k ∙ pick-gt q t v (rest q) (omega (arith, finA-lt a t))
+            ∙ pick-gt q (altsEnd a t) (valA a t t v q) (val s (suc (altsEnd a t)) (past a v) q) h),
+      )
+        where
+          rest : ℕ → X
+          rest q = cond (leb q (altsEnd a t)) (valA a t t v q) (val s (suc (altsEnd a t)) (past a v) q)
+
+      pub hasA : (a : Alts) (t p : ℕ) (v : X) → ((q : ℕ) → p < q → q ≤ altsEnd a p → W q ≡ valA a t p v q) → HasA a t p v
+      hasA (last s) t p v A = has s (suc p) (inside t (suc p) v) A
+      hasA (more s a) t p v A = (
+        has s (suc p) (inside t (suc p) v) (λ q h k. A q h (omega (arith, finA-lt a (seqEnd s (suc p)))) ∙ pick-le q (seqEnd s (suc p)) (val s (suc p) (inside t (suc p) v) q) (valA a t (seqEnd s (suc p)) v q) k),
+        hasA a t (seqEnd s (suc p)) v (λ q h k. A q (omega (arith, fin-le s (suc p))) k ∙ pick-gt q (seqEnd s (suc p)) (val s (suc p) (inside t (suc p) v) q) (valA a t (seqEnd s (suc p)) v q) h),
+      )
+
+  pub table : (s : Seq) (t : ℕ) (v : X) → Has (val s t v) s t v
+  table s t v = has (val s t v) s t v (λ q h k. refl)

@@ -1,0 +1,3 @@
+-- Laws
+pub mod Bool
+pub mod Lists

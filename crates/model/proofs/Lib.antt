@@ -1,0 +1,8 @@
+-- theorems
+pub mod Laws
+pub mod Reading
+pub mod Language
+pub mod Passes
+pub mod Words
+pub mod Ends
+pub mod Image

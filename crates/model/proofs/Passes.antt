@@ -1,0 +1,3 @@
+-- Passes
+pub mod Closure
+pub mod OnTrees

@@ -1,0 +1,9 @@
+-- Reading
+pub mod Reader
+pub mod Answers
+pub mod Letters
+pub mod Signs
+pub mod Decides
+pub mod Cycle
+pub mod WellFormed
+pub mod Written

@@ -1,0 +1,160 @@
+-- The trees that rules have.
+use mathlib.Core.Path.{_≡_, sym, subst}
+use mathlib.Core.Bool.{not, _&&_}
+use mathlib.Core.List.{List, _∷_}
+use Prim.Native.Nat.{ℕ, zero, suc, _+_, _-_, _^_, _≤_, _<_}
+use native.Mathlib.Nat.{le-refl}
+use native.Mathlib.Omega.{arith}
+use lib.Dec.{T, eqb, leb, ltb, leb→le, le→leb, lit<, lit≤}
+use lib.Bits.{bitOr, or-lt, or-add-and, and-le-r}
+use lib.Pow.{pow-pos, pow-lt}
+use Rattle.model.specs.Lists.{within}
+use Rattle.model.specs.Bits.{bit}
+use Rattle.model.specs.Bytes.{IsEscape, IsHex, decimal, digit, lower, number, plain, sign, signs, upper}
+use Rattle.model.specs.Tree.{Alts, Repeat, Seq, end, glue, last, letter, more, once, option, plus, star, union}
+use Rattle.model.specs.Grammar.{IsAlts, IsItem, IsLetter, IsMember, IsMembers, IsRule, IsSeq, IsSign, IsSingle, Sign, absent, also, asterisk, beside, braces, bracket, class, copies, cross, dot, escape, escaped, group, item, itself, lone, member, only, plain-byte, question, range, repeated, rule, single, span, then, times}
+use Rattle.model.proofs.Laws.Bool.{and-both, and-split}
+use Rattle.model.proofs.Reading.Answers.{within-every}
+use Rattle.model.proofs.Words.Bits.{bit-mask, mask-lt}
+
+-- a class holds some bytes, and nothing past 255
+pub record Class (c : ℕ) : Type 0 where
+  pub some-byte : 1 ≤ c
+  pub bytes-only : c < 2 ^ 256
+
+abbrev pub Full : Seq → Type 0
+Full end = ⊥
+Full (letter c p s) = Unit {0}
+Full (union a s) = Unit {0}
+
+abbrev pub Several : Alts → Type 0
+Several (last s) = ⊥
+Several (more s a) = Unit {0}
+
+-- no alternative is empty, a union has at least two
+abbrev mutual
+  pub Good : Seq → Type 0
+  Good end = Unit {0}
+  Good (letter c p s) = Class c × Good s
+  Good (union a s) = Several a × GoodA a × Good s
+
+  pub GoodA : Alts → Type 0
+  GoodA (last s) = Full s × Good s
+  GoodA (more s a) = Full s × Good s × GoodA a
+
+-- THE TREE OF SOME RULE
+pub record WellFormed (s : Seq) : Type 0 where
+  pub full : Full s
+  pub good : Good s
+
+-- ---- classes
+bit-some : (i c : ℕ) → T (bit c i) → 1 ≤ c
+bit-some i zero h = absurd (no-bit i h)
+  where
+    no-bit : (i : ℕ) → T (bit 0 i) → ⊥
+    no-bit zero h = h
+    no-bit (suc i) h = no-bit i h
+bit-some i (suc c) h = omega arith
+
+hex-small : {x d : ℕ} → IsHex x d → d ≤ 15
+hex-small (decimal (digit p h)) = omega arith
+hex-small (upper p h k) = k
+hex-small (lower p h k) = k
+
+plain-small : (b : ℕ) → T (plain b) → b < 256
+plain-small b h = let k = leb→le b 126 (and-split (leb b 126) (not (within b signs)) (and-split (leb 33 b) (leb b 126 && not (within b signs)) h .1) .0) in omega arith
+
+escape-small : {w : List ℕ} {b : ℕ} → IsEscape w b → b < 256
+escape-small (sign {b} p h) = ltb-lt (within-every (λ y. T (ltb y 256)) b (45 ∷ signs) h (tt, (tt, (tt, (tt, (tt, (tt, (tt, (tt, (tt, (tt, (tt, (tt, (tt, tt))))))))))))))
+  where
+    ltb-lt : T (ltb b 256) → b < 256
+    ltb-lt t = leb→le (suc b) 256 t
+escape-small (number {h} {k} p q a b) = let m = hex-small a in let n = hex-small b in omega arith
+
+pub single-small : {w : List ℕ} {b : ℕ} → IsSingle w b → b < 256
+single-small (itself {b} p h) = plain-small b (and-split (plain b) (not (eqb b 45)) h .0)
+single-small (escaped d) = escape-small d
+
+pub bit-span : (lo hi i : ℕ) → i < 256 → bit (span lo hi) i ≡ (leb lo i && leb i hi)
+bit-span lo hi i h = bit-mask 256 i (λ b. leb lo b && leb b hi) h
+
+pub span-class : (lo hi : ℕ) → lo ≤ hi → lo < 256 → Class (span lo hi)
+span-class lo hi h k = record {
+  some-byte = bit-some lo (span lo hi) (subst T (sym (bit-span lo hi lo k)) (and-both (leb lo lo) (leb lo hi) (le→leb lo lo (le-refl lo)) (le→leb lo hi h)));
+  bytes-only = mask-lt 256 (λ b. leb lo b && leb b hi);
+}
+
+pub member-class : {w : List ℕ} {c : ℕ} → IsMember w c → Class c
+member-class (single {b} q d) = subst Class (sym q) (span-class b b (le-refl b) (single-small d))
+member-class (range {lo} {hi} p q h d b) = subst Class (sym q) (span-class lo hi h (single-small d))
+
+or-some : (c d : ℕ) → 1 ≤ c → 1 ≤ bitOr c d
+or-some c d h = omega (arith, or-add-and c d, and-le-r c d)
+
+or-class : (c d : ℕ) → Class c → Class d → Class (bitOr c d)
+or-class c d h k = record { some-byte = or-some c d (h .some-byte); bytes-only = or-lt 256 c d (h .bytes-only) (k .bytes-only) }
+
+pub members-class : {w : List ℕ} {c : ℕ} → IsMembers w c → Class c
+members-class (member d) = member-class d
+members-class (beside {d} {e} p q a b) = subst Class (sym q) (or-class d e (member-class a) (members-class b))
+
+one-class : (b : ℕ) → b < 256 → Class (2 ^ b)
+one-class b h = record { some-byte = pow-pos b; bytes-only = pow-lt h }
+
+pub letter-class : {w : List ℕ} {c : ℕ} → IsLetter w c → Class c
+letter-class (plain-byte {b} p q h) = subst Class (sym q) (one-class b (plain-small b h))
+letter-class (escape {b} q d) = subst Class (sym q) (one-class b (escape-small d))
+letter-class (dot p q) = subst Class (sym q) (record { some-byte = lit≤ tt; bytes-only = lit< tt })
+letter-class (class p d) = members-class d
+
+-- ---- trees
+glue-full : (h t : Seq) → Full h → Full (glue h t)
+glue-full end t f = absurd f
+glue-full (letter c p s) t f = tt
+glue-full (union a s) t f = tt
+
+glue-good : (h t : Seq) → Good h → Good t → Good (glue h t)
+glue-good end t g k = k
+glue-good (letter c p s) t g k = (g .0, glue-good s t (g .1) k)
+glue-good (union a s) t g k = (g .0, g .1, glue-good s t (g .2) k)
+
+copies-good : (n c : ℕ) (p : Repeat) (s : Seq) → Class c → Good s → Good (copies n c p s)
+copies-good zero c p s h g = g
+copies-good (suc n) c p s h g = (h, copies-good n c p s h g)
+
+copies-full : (n m c : ℕ) (p q : Repeat) (s : Seq) → 1 ≤ n + m → Full (copies n c p (copies m c q s))
+copies-full zero zero c p q s h = absurd (omega arith)
+copies-full zero (suc m) c p q s h = tt
+copies-full (suc n) m c p q s h = tt
+
+well : (s : Seq) → Full s → Good s → WellFormed s
+well s f g = record { full = f; good = g }
+
+repeated-well : {w : List ℕ} {q : Sign} (c : ℕ) → Class c → IsSign w q → WellFormed (repeated c q)
+repeated-well c h (absent p q) = rw q (well (letter c once end) tt (h, tt))
+repeated-well c h (question p q) = rw q (well (letter c option end) tt (h, tt))
+repeated-well c h (asterisk p q) = rw q (well (letter c star end) tt (h, tt))
+repeated-well c h (cross p q) = rw q (well (letter c plus end) tt (h, tt))
+repeated-well c h (braces {x} {y} p q k l b) =
+    rw q (well (repeated c (times x y)) (copies-full (y - x) x c option once end (omega arith)) (copies-good (y - x) c option (copies x c once end) h (copies-good x c once end h tt)))
+
+bracket-well : (a : Alts) → GoodA a → WellFormed (bracket a)
+bracket-well (last s) g = well s (g .0) (g .1)
+bracket-well (more s a) g = well (union (more s a) end) tt (tt, g, tt)
+
+mutual
+  alts-good : {w : List ℕ} {a : Alts} → IsAlts w a → GoodA a
+  alts-good (only d) = let k = seq-well d in (k .full, k .good)
+  alts-good (also p d b) = let k = seq-well d in (k .full, k .good, alts-good b)
+
+  seq-well : {w : List ℕ} {s : Seq} → IsSeq w s → WellFormed s
+  seq-well (item d) = item-well d
+  seq-well (then {h} {t} p q d b) = let i = item-well d in let k = seq-well b in subst WellFormed (sym q) (well (glue h t) (glue-full h t (i .full)) (glue-good h t (i .good) (k .good)))
+
+  item-well : {w : List ℕ} {s : Seq} → IsItem w s → WellFormed s
+  item-well (lone {c} p q d b) = subst WellFormed (sym q) (repeated-well c (letter-class d) b)
+  item-well (group {a} p q d) = subst WellFormed (sym q) (bracket-well a (alts-good d))
+
+-- EVERY RULE'S TREE IS WELL FORMED
+pub rule-well : {w : List ℕ} {s : Seq} → IsRule w s → WellFormed s
+rule-well (rule {a} q d) = subst WellFormed (sym q) (bracket-well a (alts-good d))

@@ -11,10 +11,10 @@ use lib.Pow.{pow-add, pow-mono}
 use Rattle.model.specs.Bits.{bit, mask}
 use Rattle.model.specs.Tree.{Repeat, once, option, plus, star}
 use Rattle.model.specs.Image.{join, section, width, words}
-use Rattle.model.proofs.Image.Laid.{blkP, build, set, srcP, tgtP, three}
-use Rattle.model.proofs.Image.LayOut.{Which, gatherBlockP, gatherSourceP, gatherTargetP, scatterBlockP, scatterSourceP, scatterTargetP}
+use Rattle.model.proofs.Image.Laid.{blockOf, build, set, sourceOf, targetOf, three}
+use Rattle.model.proofs.Image.LayOut.{Which, gather-block, gather-source, gather-target, scatter-block, scatter-source, scatter-target}
 use Rattle.model.proofs.Image.Tokens.{Token, aBar, aClose, aLetter, anOpen}
-use Rattle.model.proofs.Words.Bits.{bit-mask, mask-lt, val}
+use Rattle.model.proofs.Words.Bits.{bit-mask, mask-lt, value}
 
 -- ---- the sets that words hold
 -- part k of the parts of w words each
@@ -31,27 +31,27 @@ abbrev pub depthWord : List ℕ → ℕ
 depthWord ws = getD ws 3 0
 
 -- what follows each section's count
-abbrev pub letS : List ℕ → List ℕ
-letS ws = drop 5 ws
+abbrev pub lettersIn : List ℕ → List ℕ
+lettersIn ws = drop 5 ws
 
-abbrev pub repS : List ℕ → List ℕ
-repS ws = drop 1 (drop (widthWord ws * 256) (letS ws))
+abbrev pub repeatsIn : List ℕ → List ℕ
+repeatsIn ws = drop 1 (drop (widthWord ws * 256) (lettersIn ws))
 
-abbrev pub scatS : List ℕ → List ℕ
-scatS ws = drop 1 (drop (widthWord ws * 256) (repS ws))
+abbrev pub scatterIn : List ℕ → List ℕ
+scatterIn ws = drop 1 (drop (widthWord ws * 256) (repeatsIn ws))
 
-abbrev pub gathS : List ℕ → List ℕ
-gathS ws = drop 1 (drop (3 * widthWord ws * depthWord ws) (scatS ws))
+abbrev pub gatherIn : List ℕ → List ℕ
+gatherIn ws = drop 1 (drop (3 * widthWord ws * depthWord ws) (scatterIn ws))
 
-abbrev pub propS : List ℕ → List ℕ
-propS ws = drop 1 (drop (3 * widthWord ws * depthWord ws) (gathS ws))
+abbrev pub propagateIn : List ℕ → List ℕ
+propagateIn ws = drop 1 (drop (3 * widthWord ws * depthWord ws) (gatherIn ws))
 
 -- bit x of mask k of a section; of part j of the three masks of depth k
 abbrev pub bitOf : ℕ → List ℕ → ℕ → ℕ → Bool
-bitOf W ws k x = bit (val (chunk W k ws)) x
+bitOf W ws k x = bit (value (chunk W k ws)) x
 
 abbrev pub bitOf3 : ℕ → List ℕ → ℕ → ℕ → ℕ → Bool
-bitOf3 W ws j k x = bit (val (chunk W j (chunk (3 * W) k ws))) x
+bitOf3 W ws j k x = bit (value (chunk W j (chunk (3 * W) k ws))) x
 
 -- ---- the tokens that sets show
 abbrev pub anyTo : ℕ → (ℕ → Bool) → Bool
@@ -75,9 +75,9 @@ abbrev pub tokenAt : List ℕ → ℕ → Token
 tokenAt ws i =
     let W = widthWord ws in
     let d = depthWord ws in
-    tokenOf (anyTo 256 (λ b. bitOf W (letS ws) b (suc i))) (mask 256 (λ b. bitOf W (letS ws) b (suc i)))
-    (anyTo (suc d) (λ k. bitOf3 W (propS ws) 0 k (suc i) && not (bitOf3 W (propS ws) 1 k (suc i)))) (anyTo 256 (λ b. bitOf W (repS ws) b (suc i)))
-    (anyTo d (λ k. bitOf3 W (gathS ws) 2 k (suc i))) (anyTo d (λ k. bitOf3 W (scatS ws) 1 k i))
+    tokenOf (anyTo 256 (λ b. bitOf W (lettersIn ws) b (suc i))) (mask 256 (λ b. bitOf W (lettersIn ws) b (suc i)))
+    (anyTo (suc d) (λ k. bitOf3 W (propagateIn ws) 0 k (suc i) && not (bitOf3 W (propagateIn ws) 1 k (suc i)))) (anyTo 256 (λ b. bitOf W (repeatsIn ws) b (suc i)))
+    (anyTo d (λ k. bitOf3 W (gatherIn ws) 2 k (suc i))) (anyTo d (λ k. bitOf3 W (scatterIn ws) 1 k i))
 
 abbrev pub gen : ℕ → ℕ → (ℕ → Token) → List Token
 gen zero a f = []
@@ -126,11 +126,11 @@ pub wide-is : (w : ℕ) → wide w ≡ 64 * w
 wide-is zero = refl
 wide-is (suc w) = omega (arith, wide-is w)
 
-pub val-words : (w n : ℕ) → n < 2 ^ wide w → val (words w n) ≡ n
+pub val-words : (w n : ℕ) → n < 2 ^ wide w → value (words w n) ≡ n
 val-words zero n h = omega arith
 val-words (suc w) n h = omega (arith, val-words w (n / 2 ^ 64) (omega (arith, pow-add 2 64 (wide w))))
 
-pub set-bit : (m W : ℕ) (f : ℕ → Bool) → m ≤ wide W → (x : ℕ) → x < m → bit (val (set m W f)) x ≡ f x
+pub set-bit : (m W : ℕ) (f : ℕ → Bool) → m ≤ wide W → (x : ℕ) → x < m → bit (value (set m W f)) x ≡ f x
 set-bit m W f h x l = ap (λ (n : ℕ). bit n x) (val-words W (mask m f) (le-trans (mask-lt m f) (pow-mono h))) ∙ bit-mask m x f l
 
 pub length-set : (m W : ℕ) (f : ℕ → Bool) → length (set m W f) ≡ W
@@ -160,98 +160,98 @@ module _ (m W d : ℕ) (L R : ℕ → ℕ → Bool) (B : Which → ℕ → ℕ �
   abbrev all : List ℕ
   all = build m W d L R B
 
-  abbrev pub fL : ℕ → List ℕ
-  fL b = set m W (L b)
+  abbrev pub letterWordsAt : ℕ → List ℕ
+  letterWordsAt b = set m W (L b)
 
-  abbrev pub fR : ℕ → List ℕ
-  fR b = set m W (R b)
+  abbrev pub loopWordsAt : ℕ → List ℕ
+  loopWordsAt b = set m W (R b)
 
-  abbrev pub fS : ℕ → List ℕ
-  fS k = three m W (B scatterBlockP k) (B scatterSourceP k) (B scatterTargetP k)
+  abbrev pub scatterWordsAt : ℕ → List ℕ
+  scatterWordsAt k = three m W (B scatter-block k) (B scatter-source k) (B scatter-target k)
 
-  abbrev pub fG : ℕ → List ℕ
-  fG k = three m W (B gatherBlockP k) (B gatherSourceP k) (B gatherTargetP k)
+  abbrev pub gatherWordsAt : ℕ → List ℕ
+  gatherWordsAt k = three m W (B gather-block k) (B gather-source k) (B gather-target k)
 
-  abbrev pub fP : ℕ → List ℕ
-  fP k = three m W (blkP B k) (srcP B k) (tgtP B k)
+  abbrev pub propagateWordsAt : ℕ → List ℕ
+  propagateWordsAt k = three m W (blockOf B k) (sourceOf B k) (targetOf B k)
 
   abbrev pub after-G : List ℕ
-  after-G = section (join (suc d) 0 fP)
+  after-G = section (join (suc d) 0 propagateWordsAt)
 
   abbrev pub after-S : List ℕ
-  after-S = section (join d 0 fG) ++ after-G
+  after-S = section (join d 0 gatherWordsAt) ++ after-G
 
   abbrev pub after-R : List ℕ
-  after-R = section (join d 0 fS) ++ after-S
+  after-R = section (join d 0 scatterWordsAt) ++ after-S
 
   abbrev pub after-L : List ℕ
-  after-L = section (join 256 0 fR) ++ after-R
+  after-L = section (join 256 0 loopWordsAt) ++ after-R
 
-  pub repS-is : repS all ≡ join 256 0 fR ++ after-R
-  repS-is = past-join W fL (λ b. length-set m W (L b)) 256 0 (length (join 256 0 fR)) (join 256 0 fR ++ after-R)
+  pub repS-is : repeatsIn all ≡ join 256 0 loopWordsAt ++ after-R
+  repS-is = past-join W letterWordsAt (λ b. length-set m W (L b)) 256 0 (length (join 256 0 loopWordsAt)) (join 256 0 loopWordsAt ++ after-R)
 
-  pub scatS-is : scatS all ≡ join d 0 fS ++ after-S
-  scatS-is = ap (λ (l : List ℕ). drop 1 (drop (W * 256) l)) repS-is ∙ past-join W fR (λ b. length-set m W (R b)) 256 0 (length (join d 0 fS)) (join d 0 fS ++ after-S)
+  pub scatS-is : scatterIn all ≡ join d 0 scatterWordsAt ++ after-S
+  scatS-is = ap (λ (l : List ℕ). drop 1 (drop (W * 256) l)) repS-is ∙ past-join W loopWordsAt (λ b. length-set m W (R b)) 256 0 (length (join d 0 scatterWordsAt)) (join d 0 scatterWordsAt ++ after-S)
 
-  pub gathS-is : gathS all ≡ join d 0 fG ++ after-G
-  gathS-is = ap (λ (l : List ℕ). drop 1 (drop (3 * W * d) l)) scatS-is ∙ past-join (3 * W) fS (λ k. length-three m W (B scatterBlockP k) (B scatterSourceP k) (B scatterTargetP k)) d 0 (length (join d 0 fG)) (join d 0 fG ++ after-G)
+  pub gathS-is : gatherIn all ≡ join d 0 gatherWordsAt ++ after-G
+  gathS-is = ap (λ (l : List ℕ). drop 1 (drop (3 * W * d) l)) scatS-is ∙ past-join (3 * W) scatterWordsAt (λ k. length-three m W (B scatter-block k) (B scatter-source k) (B scatter-target k)) d 0 (length (join d 0 gatherWordsAt)) (join d 0 gatherWordsAt ++ after-G)
 
-  pub propS-is : propS all ≡ join (suc d) 0 fP
-  propS-is = ap (λ (l : List ℕ). drop 1 (drop (3 * W * d) l)) gathS-is ∙ past-join (3 * W) fG (λ k. length-three m W (B gatherBlockP k) (B gatherSourceP k) (B gatherTargetP k)) d 0 (length (join (suc d) 0 fP)) (join (suc d) 0 fP)
+  pub propS-is : propagateIn all ≡ join (suc d) 0 propagateWordsAt
+  propS-is = ap (λ (l : List ℕ). drop 1 (drop (3 * W * d) l)) gathS-is ∙ past-join (3 * W) gatherWordsAt (λ k. length-three m W (B gather-block k) (B gather-source k) (B gather-target k)) d 0 (length (join (suc d) 0 propagateWordsAt)) (join (suc d) 0 propagateWordsAt)
 
   app-nil : (l : List ℕ) → l ≡ l ++ []
   app-nil [] = refl
   app-nil (x ∷ l) = ap (λ (r : List ℕ). x ∷ r) (app-nil l)
 
-  pub part-let : (b : ℕ) → b < 256 → chunk W b (letS all) ≡ set m W (L b)
-  part-let b h = chunk-join W fL (λ b. length-set m W (L b)) 256 0 b after-L h ∙ (let e : 0 + b ≡ b = omega arith in ap fL e)
+  pub part-let : (b : ℕ) → b < 256 → chunk W b (lettersIn all) ≡ set m W (L b)
+  part-let b h = chunk-join W letterWordsAt (λ b. length-set m W (L b)) 256 0 b after-L h ∙ (let e : 0 + b ≡ b = omega arith in ap letterWordsAt e)
 
-  pub part-rep : (b : ℕ) → b < 256 → chunk W b (repS all) ≡ set m W (R b)
-  part-rep b h = ap (chunk W b) repS-is ∙ chunk-join W fR (λ b. length-set m W (R b)) 256 0 b after-R h ∙ (let e : 0 + b ≡ b = omega arith in ap fR e)
+  pub part-rep : (b : ℕ) → b < 256 → chunk W b (repeatsIn all) ≡ set m W (R b)
+  part-rep b h = ap (chunk W b) repS-is ∙ chunk-join W loopWordsAt (λ b. length-set m W (R b)) 256 0 b after-R h ∙ (let e : 0 + b ≡ b = omega arith in ap loopWordsAt e)
 
-  pub part-S : (k : ℕ) → k < d → chunk (3 * W) k (scatS all) ≡ fS k
-  part-S k h = ap (chunk (3 * W) k) scatS-is ∙ chunk-join (3 * W) fS (λ k. length-three m W (B scatterBlockP k) (B scatterSourceP k) (B scatterTargetP k)) d 0 k after-S h ∙ (let e : 0 + k ≡ k = omega arith in ap fS e)
+  pub part-S : (k : ℕ) → k < d → chunk (3 * W) k (scatterIn all) ≡ scatterWordsAt k
+  part-S k h = ap (chunk (3 * W) k) scatS-is ∙ chunk-join (3 * W) scatterWordsAt (λ k. length-three m W (B scatter-block k) (B scatter-source k) (B scatter-target k)) d 0 k after-S h ∙ (let e : 0 + k ≡ k = omega arith in ap scatterWordsAt e)
 
-  pub part-G : (k : ℕ) → k < d → chunk (3 * W) k (gathS all) ≡ fG k
-  part-G k h = ap (chunk (3 * W) k) gathS-is ∙ chunk-join (3 * W) fG (λ k. length-three m W (B gatherBlockP k) (B gatherSourceP k) (B gatherTargetP k)) d 0 k after-G h ∙ (let e : 0 + k ≡ k = omega arith in ap fG e)
+  pub part-G : (k : ℕ) → k < d → chunk (3 * W) k (gatherIn all) ≡ gatherWordsAt k
+  part-G k h = ap (chunk (3 * W) k) gathS-is ∙ chunk-join (3 * W) gatherWordsAt (λ k. length-three m W (B gather-block k) (B gather-source k) (B gather-target k)) d 0 k after-G h ∙ (let e : 0 + k ≡ k = omega arith in ap gatherWordsAt e)
 
-  pub part-P : (k : ℕ) → k < suc d → chunk (3 * W) k (propS all) ≡ fP k
+  pub part-P : (k : ℕ) → k < suc d → chunk (3 * W) k (propagateIn all) ≡ propagateWordsAt k
   part-P k h =
-      ap (chunk (3 * W) k) (propS-is ∙ app-nil (join (suc d) 0 fP)) ∙ chunk-join (3 * W) fP (λ k. length-three m W (blkP B k) (srcP B k) (tgtP B k)) (suc d) 0 k [] h ∙ (let e : 0 + k ≡ k = omega arith in ap fP e)
+      ap (chunk (3 * W) k) (propS-is ∙ app-nil (join (suc d) 0 propagateWordsAt)) ∙ chunk-join (3 * W) propagateWordsAt (λ k. length-three m W (blockOf B k) (sourceOf B k) (targetOf B k)) (suc d) 0 k [] h ∙ (let e : 0 + k ≡ k = omega arith in ap propagateWordsAt e)
 
   module _ (room : m ≤ wide W) where
-    pub read-let : (b x : ℕ) → b < 256 → x < m → bitOf W (letS all) b x ≡ L b x
-    read-let b x h l = ap (λ (ws : List ℕ). bit (val ws) x) (part-let b h) ∙ set-bit m W (L b) room x l
+    pub read-let : (b x : ℕ) → b < 256 → x < m → bitOf W (lettersIn all) b x ≡ L b x
+    read-let b x h l = ap (λ (ws : List ℕ). bit (value ws) x) (part-let b h) ∙ set-bit m W (L b) room x l
 
-    pub read-rep : (b x : ℕ) → b < 256 → x < m → bitOf W (repS all) b x ≡ R b x
-    read-rep b x h l = ap (λ (ws : List ℕ). bit (val ws) x) (part-rep b h) ∙ set-bit m W (R b) room x l
+    pub read-rep : (b x : ℕ) → b < 256 → x < m → bitOf W (repeatsIn all) b x ≡ R b x
+    read-rep b x h l = ap (λ (ws : List ℕ). bit (value ws) x) (part-rep b h) ∙ set-bit m W (R b) room x l
 
-    pub read-srcS : (k x : ℕ) → k < d → x < m → bitOf3 W (scatS all) 1 k x ≡ B scatterSourceP k x
-    read-srcS k x h l = ap (λ (ws : List ℕ). bit (val ws) x) (ap (chunk W 1) (part-S k h) ∙ three-1 m W (B scatterBlockP k) (B scatterSourceP k) (B scatterTargetP k)) ∙ set-bit m W (B scatterSourceP k) room x l
+    pub read-srcS : (k x : ℕ) → k < d → x < m → bitOf3 W (scatterIn all) 1 k x ≡ B scatter-source k x
+    read-srcS k x h l = ap (λ (ws : List ℕ). bit (value ws) x) (ap (chunk W 1) (part-S k h) ∙ three-1 m W (B scatter-block k) (B scatter-source k) (B scatter-target k)) ∙ set-bit m W (B scatter-source k) room x l
 
-    pub read-tgtG : (k x : ℕ) → k < d → x < m → bitOf3 W (gathS all) 2 k x ≡ B gatherTargetP k x
-    read-tgtG k x h l = ap (λ (ws : List ℕ). bit (val ws) x) (ap (chunk W 2) (part-G k h) ∙ three-2 m W (B gatherBlockP k) (B gatherSourceP k) (B gatherTargetP k)) ∙ set-bit m W (B gatherTargetP k) room x l
+    pub read-tgtG : (k x : ℕ) → k < d → x < m → bitOf3 W (gatherIn all) 2 k x ≡ B gather-target k x
+    read-tgtG k x h l = ap (λ (ws : List ℕ). bit (value ws) x) (ap (chunk W 2) (part-G k h) ∙ three-2 m W (B gather-block k) (B gather-source k) (B gather-target k)) ∙ set-bit m W (B gather-target k) room x l
 
-    pub read-blkP : (k x : ℕ) → k < suc d → x < m → bitOf3 W (propS all) 0 k x ≡ blkP B k x
-    read-blkP k x h l = ap (λ (ws : List ℕ). bit (val ws) x) (ap (chunk W 0) (part-P k h) ∙ three-0 m W (blkP B k) (srcP B k) (tgtP B k)) ∙ set-bit m W (blkP B k) room x l
+    pub read-blkP : (k x : ℕ) → k < suc d → x < m → bitOf3 W (propagateIn all) 0 k x ≡ blockOf B k x
+    read-blkP k x h l = ap (λ (ws : List ℕ). bit (value ws) x) (ap (chunk W 0) (part-P k h) ∙ three-0 m W (blockOf B k) (sourceOf B k) (targetOf B k)) ∙ set-bit m W (blockOf B k) room x l
 
-    pub read-srcP : (k x : ℕ) → k < suc d → x < m → bitOf3 W (propS all) 1 k x ≡ srcP B k x
-    read-srcP k x h l = ap (λ (ws : List ℕ). bit (val ws) x) (ap (chunk W 1) (part-P k h) ∙ three-1 m W (blkP B k) (srcP B k) (tgtP B k)) ∙ set-bit m W (srcP B k) room x l
+    pub read-srcP : (k x : ℕ) → k < suc d → x < m → bitOf3 W (propagateIn all) 1 k x ≡ sourceOf B k x
+    read-srcP k x h l = ap (λ (ws : List ℕ). bit (value ws) x) (ap (chunk W 1) (part-P k h) ∙ three-1 m W (blockOf B k) (sourceOf B k) (targetOf B k)) ∙ set-bit m W (sourceOf B k) room x l
 
   -- the length
   pub length-build : length all ≡ 9 + W * (515 + 9 * d)
   length-build =
       omega (
         arith,
-        length-append (section (join 256 0 fL)) after-L,
-        length-append (section (join 256 0 fR)) after-R,
-        length-append (section (join d 0 fS)) after-S,
-        length-append (section (join d 0 fG)) after-G,
-        length-join W fL (λ b. length-set m W (L b)) 256 0,
-        length-join W fR (λ b. length-set m W (R b)) 256 0,
-        length-join (3 * W) fS (λ k. length-three m W (B scatterBlockP k) (B scatterSourceP k) (B scatterTargetP k)) d 0,
-        length-join (3 * W) fG (λ k. length-three m W (B gatherBlockP k) (B gatherSourceP k) (B gatherTargetP k)) d 0,
-        length-join (3 * W) fP (λ k. length-three m W (blkP B k) (srcP B k) (tgtP B k)) (suc d) 0,
+        length-append (section (join 256 0 letterWordsAt)) after-L,
+        length-append (section (join 256 0 loopWordsAt)) after-R,
+        length-append (section (join d 0 scatterWordsAt)) after-S,
+        length-append (section (join d 0 gatherWordsAt)) after-G,
+        length-join W letterWordsAt (λ b. length-set m W (L b)) 256 0,
+        length-join W loopWordsAt (λ b. length-set m W (R b)) 256 0,
+        length-join (3 * W) scatterWordsAt (λ k. length-three m W (B scatter-block k) (B scatter-source k) (B scatter-target k)) d 0,
+        length-join (3 * W) gatherWordsAt (λ k. length-three m W (B gather-block k) (B gather-source k) (B gather-target k)) d 0,
+        length-join (3 * W) propagateWordsAt (λ k. length-three m W (blockOf B k) (sourceOf B k) (targetOf B k)) (suc d) 0,
         mul-suc (3 * W) d,
       )
 

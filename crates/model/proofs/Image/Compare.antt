@@ -13,34 +13,34 @@ use Rattle.model.specs.Lists.{any}
 use Rattle.model.specs.Bits.{bit, mask}
 use Rattle.model.specs.Tree.{canLoop, once, option, plus, star}
 use Rattle.model.specs.Image.{join, width}
-use Rattle.model.proofs.Image.Apart.{after-G, after-R, after-S, anyTo, before, bitOf, chunk, depthWord, fG, fL, fP, fR, fS, gathS, gathS-is, gen, length-build, length-join, length-set, length-three, letS, part-G, part-P, part-S, part-let, part-rep, propS, repS, repS-is, room, scatS, scatS-is, stateWord, tape, tokenAt, tokenOf, wide, widthWord}
+use Rattle.model.proofs.Image.Apart.{after-G, after-R, after-S, anyTo, before, bitOf, chunk, depthWord, gatherWordsAt, letterWordsAt, propagateWordsAt, loopWordsAt, scatterWordsAt, gatherIn, gathS-is, gen, length-build, length-join, length-set, length-three, lettersIn, part-G, part-P, part-S, part-let, part-rep, propagateIn, repeatsIn, repS-is, room, scatterIn, scatS-is, stateWord, tape, tokenAt, tokenOf, wide, widthWord}
 use Rattle.model.proofs.Image.Fine.{AllFine, Fine, fine-at}
-use Rattle.model.proofs.Image.Laid.{blkP, build, laid, letL, repL, set, srcP, tgtP, three}
-use Rattle.model.proofs.Image.LayOut.{Frame, Scan, Which, begin, gatherBlockP, gatherSourceP, gatherTargetP, layOut, letterPlaces, loopPlaces, mark, scatterBlockP, scatterSourceP, scatterTargetP, step}
-use Rattle.model.proofs.Image.Shown.{loopT}
+use Rattle.model.proofs.Image.Laid.{blockOf, build, laid, tokenLetters, tokenLoops, set, sourceOf, targetOf, three}
+use Rattle.model.proofs.Image.LayOut.{Frame, Scan, Which, begin, gather-block, gather-source, gather-target, layOut, letter-place, loop-place, mark, scatter-block, scatter-source, scatter-target, step}
+use Rattle.model.proofs.Image.Shown.{tokenLoop}
 use Rattle.model.proofs.Image.Tokens.{Token, aBar, aClose, aLetter, anOpen, classOf}
 use Rattle.model.proofs.Image.Valid.{reach, valid}
-use Rattle.model.proofs.Image.Verdict.{accepts, anyTo-in, eqL, eqL-eq, eqL-refl, no-bits, some-bit}
+use Rattle.model.proofs.Image.Verdict.{accepts, anyTo-in, sameWords, sameWords-eq, sameWords-refl, no-bits, some-bit}
 use Rattle.model.proofs.Laws.Bool.{and-both, and-split, is-true, le-or-lt, unequal}
-use Rattle.model.proofs.Words.Bits.{bit-ext, bit-mask, bitsOf, val}
+use Rattle.model.proofs.Words.Bits.{bit-ext, bit-mask, bitsOf, value}
 use Rattle.model.proofs.Words.Borrows.{Fit}
-use Rattle.model.proofs.Words.Operations.{Holds, andW, near-and, none-and-l, set-holds, val-lt, width-is}
+use Rattle.model.proofs.Words.Operations.{Holds, andWords, near-and, none-and-l, set-holds, val-lt, width-is}
 
 -- ---- rows of words with the same bits
-val-inj : (xs ys : List ℕ) → length xs ≡ length ys → Fit xs → Fit ys → val xs ≡ val ys → xs ≡ ys
+val-inj : (xs ys : List ℕ) → length xs ≡ length ys → Fit xs → Fit ys → value xs ≡ value ys → xs ≡ ys
 val-inj [] [] e h k v = refl
 val-inj [] (y ∷ ys) e h k v = absurd (omega arith)
 val-inj (x ∷ xs) [] e h k v = absurd (omega arith)
 val-inj (x ∷ xs) (y ∷ ys) e h k v = ap₂ (λ (a : ℕ) (l : List ℕ). a ∷ l) (omega (arith, h .0, k .0)) (val-inj xs ys (omega arith) (h .1) (k .1) (omega (arith, h .0, k .0)))
 
-pub rows-ext : (xs ys : List ℕ) → length xs ≡ length ys → Fit xs → Fit ys → ((x : ℕ) → bit (val xs) x ≡ bit (val ys) x) → xs ≡ ys
+pub rows-ext : (xs ys : List ℕ) → length xs ≡ length ys → Fit xs → Fit ys → ((x : ℕ) → bit (value xs) x ≡ bit (value ys) x) → xs ≡ ys
 rows-ext xs ys e h k b =
-    val-inj xs ys e h k (bit-ext (bitsOf xs) (val xs) (val ys) (val-lt xs h) (subst (λ (n : ℕ). val ys < 2 ^ n) (width-is ys ∙ ap wide (sym e) ∙ sym (width-is xs)) (val-lt ys k)) (λ i l. b i))
+    val-inj xs ys e h k (bit-ext (bitsOf xs) (value xs) (value ys) (val-lt xs h) (subst (λ (n : ℕ). value ys < 2 ^ n) (width-is ys ∙ ap wide (sym e) ∙ sym (width-is xs)) (val-lt ys k)) (λ i l. b i))
 
 pub holds-one : (m W : ℕ) (xs ys : List ℕ) (f g : ℕ → Bool) → Holds m W xs f → Holds m W ys g → ((x : ℕ) → x < m → f x ≡ g x) → xs ≡ ys
 holds-one m W xs ys f g X Y same = rows-ext xs ys (X .near .len ∙ sym (Y .near .len)) (X .near .fit) (Y .near .fit) (λ x. go x (le-or-lt m x))
   where
-    go : (x : ℕ) → (m ≤ x) ⊎ (x < m) → bit (val xs) x ≡ bit (val ys) x
+    go : (x : ℕ) → (m ≤ x) ⊎ (x < m) → bit (value xs) x ≡ bit (value ys) x
     go x (inl h) = X .none x h ∙ sym (Y .none x h)
     go x (inr h) = X .near .bits x h ∙ same x h ∙ sym (Y .near .bits x h)
 
@@ -71,11 +71,11 @@ pos-step aBar q = go (q .stack)
     go (f ∷ st) = refl
 pos-step aClose q = go (q .stack)
   where
-    go : (st : List Frame) → Rattle.model.proofs.Image.LayOut.onCls (q .pos) (q .can) st .pos ≡ suc (q .pos)
+    go : (st : List Frame) → Rattle.model.proofs.Image.LayOut.onClose (q .pos) (q .can) st .pos ≡ suc (q .pos)
     go [] = refl
     go (f ∷ st) = refl
 
-mark-loop : (y : Token) (q : Scan) (x : ℕ) → mark y q loopPlaces 0 x ≡ (loopy y && eqb x (suc (q .pos)))
+mark-loop : (y : Token) (q : Scan) (x : ℕ) → mark y q loop-place 0 x ≡ (loopy y && eqb x (suc (q .pos)))
 mark-loop (aLetter c once) q x = refl
 mark-loop (aLetter c option) q x = refl
 mark-loop (aLetter c star) q x = or-false (eqb x (suc (q .pos)) && true) ∙ and-true (eqb x (suc (q .pos)))
@@ -83,39 +83,39 @@ mark-loop (aLetter c plus) q x = or-false (eqb x (suc (q .pos)) && true) ∙ and
 mark-loop anOpen q x = refl
 mark-loop aBar q x = go (q .stack)
   where
-    go : (st : List Frame) → Rattle.model.proofs.Image.LayOut.barF (q .pos) st loopPlaces 0 x ≡ false
+    go : (st : List Frame) → Rattle.model.proofs.Image.LayOut.barMarksIn (q .pos) st loop-place 0 x ≡ false
     go [] = refl
     go (f ∷ st) = refl
 mark-loop aClose q x = go (q .stack)
   where
-    go : (st : List Frame) → Rattle.model.proofs.Image.LayOut.clsF (q .pos) (q .can) st loopPlaces 0 x ≡ false
+    go : (st : List Frame) → Rattle.model.proofs.Image.LayOut.closeMarksIn (q .pos) (q .can) st loop-place 0 x ≡ false
     go [] = refl
     go (f ∷ st) = and-false (f .any || q .can)
 
-no-loop : (l : List Token) (q : Scan) (x : ℕ) → x ≤ q .pos → layOut l q loopPlaces 0 x ≡ false
+no-loop : (l : List Token) (q : Scan) (x : ℕ) → x ≤ q .pos → layOut l q loop-place 0 x ≡ false
 no-loop [] q x h = refl
 no-loop (y ∷ ys) q x h =
     ap₂ (λ (a b : Bool). a || b) (mark-loop y q x ∙ ap (λ (b : Bool). loopy y && b) (unequal x (suc (q .pos)) (λ e. omega arith)) ∙ and-false (loopy y))
     (no-loop ys (step y q) x (omega (arith, pos-step y q)))
 
-pub lay-loops : (l : List Token) (q : Scan) (i : ℕ) → i < length l → layOut l q loopPlaces 0 (suc (q .pos + i)) ≡ loopy (getD l i aClose)
+pub lay-loops : (l : List Token) (q : Scan) (i : ℕ) → i < length l → layOut l q loop-place 0 (suc (q .pos + i)) ≡ loopy (getD l i aClose)
 lay-loops [] q i h = absurd (not-suc-le-zero h)
 lay-loops (y ∷ ys) q zero h =
-    (let e : suc (q .pos + 0) ≡ suc (q .pos) = omega arith in ap (λ (x : ℕ). layOut (y ∷ ys) q loopPlaces 0 x) e)
+    (let e : suc (q .pos + 0) ≡ suc (q .pos) = omega arith in ap (λ (x : ℕ). layOut (y ∷ ys) q loop-place 0 x) e)
     ∙ ap₂ (λ (a b : Bool). a || b) (mark-loop y q (suc (q .pos)) ∙ ap (λ (b : Bool). loopy y && b) (is-true (eqb (suc (q .pos)) (suc (q .pos))) (eqb-refl (suc (q .pos)))) ∙ and-true (loopy y))
     (no-loop ys (step y q) (suc (q .pos)) (omega (arith, pos-step y q)))
     ∙ or-false (loopy y)
 lay-loops (y ∷ ys) q (suc i) h =
-    ap (λ (a : Bool). a || layOut ys (step y q) loopPlaces 0 (suc (q .pos + suc i)))
+    ap (λ (a : Bool). a || layOut ys (step y q) loop-place 0 (suc (q .pos + suc i)))
     (mark-loop y q (suc (q .pos + suc i)) ∙ ap (λ (b : Bool). loopy y && b) (unequal (suc (q .pos + suc i)) (suc (q .pos)) (λ e. omega arith)) ∙ and-false (loopy y))
-    ∙ (let e : suc (q .pos + suc i) ≡ suc (step y q .pos + i) = omega (arith, pos-step y q) in ap (λ (x : ℕ). layOut ys (step y q) loopPlaces 0 x) e)
+    ∙ (let e : suc (q .pos + suc i) ≡ suc (step y q .pos + i) = omega (arith, pos-step y q) in ap (λ (x : ℕ). layOut ys (step y q) loop-place 0 x) e)
     ∙ lay-loops ys (step y q) i (le-of-suc-le-suc h)
 
 bit-0 : (i : ℕ) → bit 0 i ≡ false
 bit-0 zero = refl
 bit-0 (suc i) = bit-0 i
 
-loop-class : (y : Token) (b : ℕ) → (bit (classOf y) b && loopy y) ≡ bit (loopT y) b
+loop-class : (y : Token) (b : ℕ) → (bit (classOf y) b && loopy y) ≡ bit (tokenLoop y) b
 loop-class (aLetter c once) b = and-false (bit c b) ∙ sym (bit-0 b)
 loop-class (aLetter c option) b = and-false (bit c b) ∙ sym (bit-0 b)
 loop-class (aLetter c star) b = and-true (bit c b)
@@ -125,10 +125,10 @@ loop-class aBar b = and-false (bit 0 b) ∙ sym (bit-0 b)
 loop-class aClose b = and-false (bit 0 b) ∙ sym (bit-0 b)
 
 -- the repeats by the letters and the loop places
-rep-by-let : (l : List Token) (b x : ℕ) → x < suc (length l) → (letL l b x && layOut l begin loopPlaces 0 x) ≡ repL l b x
+rep-by-let : (l : List Token) (b x : ℕ) → x < suc (length l) → (tokenLetters l b x && layOut l begin loop-place 0 x) ≡ tokenLoops l b x
 rep-by-let l b zero h = refl
 rep-by-let l b (suc i) h =
-    ap (λ (a : Bool). bit (classOf (getD l i aClose)) b && a) ((let e : suc i ≡ suc (0 + i) = omega arith in ap (λ (x : ℕ). layOut l begin loopPlaces 0 x) e) ∙ lay-loops l begin i (le-of-suc-le-suc h))
+    ap (λ (a : Bool). bit (classOf (getD l i aClose)) b && a) ((let e : suc i ≡ suc (0 + i) = omega arith in ap (λ (x : ℕ). layOut l begin loop-place 0 x) e) ∙ lay-loops l begin i (le-of-suc-le-suc h))
     ∙ loop-class (getD l i aClose) b
 
 -- ---- the letters by the words themselves
@@ -170,15 +170,15 @@ pub record Compared (ws : List ℕ) (l : List Token) : Type 0 where
   pub bitsOf : widthWord ws ≡ width (stateWord ws)
   pub level : depthWord ws ≡ reach l begin
   pub n-let : getD ws 4 0 ≡ widthWord ws * 256
-  pub n-rep : getD (drop (widthWord ws * 256) (letS ws)) 0 0 ≡ widthWord ws * 256
-  pub n-S : getD (drop (widthWord ws * 256) (repS ws)) 0 0 ≡ 3 * widthWord ws * depthWord ws
-  pub n-G : getD (drop (3 * widthWord ws * depthWord ws) (scatS ws)) 0 0 ≡ 3 * widthWord ws * depthWord ws
-  pub n-P : getD (drop (3 * widthWord ws * depthWord ws) (gathS ws)) 0 0 ≡ 3 * widthWord ws * suc (depthWord ws)
-  pub letterPlaces : (b x : ℕ) → b < 256 → (x ≡ 0) ⊎ (stateWord ws ≤ x) → bitOf (widthWord ws) (letS ws) b x ≡ false
-  pub reps : (b : ℕ) → b < 256 → chunk (widthWord ws) b (repS ws) ≡ andW (chunk (widthWord ws) b (letS ws)) (set (stateWord ws) (widthWord ws) (layOut l begin loopPlaces 0))
-  pub scat : (k : ℕ) → k < depthWord ws → chunk (3 * widthWord ws) k (scatS ws) ≡ three (stateWord ws) (widthWord ws) (layOut l begin scatterBlockP k) (layOut l begin scatterSourceP k) (layOut l begin scatterTargetP k)
-  pub gath : (k : ℕ) → k < depthWord ws → chunk (3 * widthWord ws) k (gathS ws) ≡ three (stateWord ws) (widthWord ws) (layOut l begin gatherBlockP k) (layOut l begin gatherSourceP k) (layOut l begin gatherTargetP k)
-  pub prop : (k : ℕ) → k < suc (depthWord ws) → chunk (3 * widthWord ws) k (propS ws) ≡ three (stateWord ws) (widthWord ws) (blkP (layOut l begin) k) (srcP (layOut l begin) k) (tgtP (layOut l begin) k)
+  pub n-rep : getD (drop (widthWord ws * 256) (lettersIn ws)) 0 0 ≡ widthWord ws * 256
+  pub n-S : getD (drop (widthWord ws * 256) (repeatsIn ws)) 0 0 ≡ 3 * widthWord ws * depthWord ws
+  pub n-G : getD (drop (3 * widthWord ws * depthWord ws) (scatterIn ws)) 0 0 ≡ 3 * widthWord ws * depthWord ws
+  pub n-P : getD (drop (3 * widthWord ws * depthWord ws) (gatherIn ws)) 0 0 ≡ 3 * widthWord ws * suc (depthWord ws)
+  pub letter-place : (b x : ℕ) → b < 256 → (x ≡ 0) ⊎ (stateWord ws ≤ x) → bitOf (widthWord ws) (lettersIn ws) b x ≡ false
+  pub reps : (b : ℕ) → b < 256 → chunk (widthWord ws) b (repeatsIn ws) ≡ andWords (chunk (widthWord ws) b (lettersIn ws)) (set (stateWord ws) (widthWord ws) (layOut l begin loop-place 0))
+  pub scat : (k : ℕ) → k < depthWord ws → chunk (3 * widthWord ws) k (scatterIn ws) ≡ three (stateWord ws) (widthWord ws) (layOut l begin scatter-block k) (layOut l begin scatter-source k) (layOut l begin scatter-target k)
+  pub gath : (k : ℕ) → k < depthWord ws → chunk (3 * widthWord ws) k (gatherIn ws) ≡ three (stateWord ws) (widthWord ws) (layOut l begin gather-block k) (layOut l begin gather-source k) (layOut l begin gather-target k)
+  pub prop : (k : ℕ) → k < suc (depthWord ws) → chunk (3 * widthWord ws) k (propagateIn ws) ≡ three (stateWord ws) (widthWord ws) (blockOf (layOut l begin) k) (sourceOf (layOut l begin) k) (targetOf (layOut l begin) k)
 
 -- ---- words from their parts
 join-of : (w n a : ℕ) (f : ℕ → List ℕ) (S : List ℕ) → ((k : ℕ) → k < n → chunk w k S ≡ f (a + k)) → take (w * n) S ≡ join n a f
@@ -210,11 +210,11 @@ module _ (ws : List ℕ) (L R : ℕ → ℕ → Bool) (B : Which → ℕ → ℕ
   abbrev d : ℕ
   d = depthWord ws
 
-  rebuild : length ws ≡ 9 + W * (515 + 9 * d) → getD ws 0 0 ≡ 3 → getD ws 4 0 ≡ length (join 256 0 (fL m W d L R B))
-      → getD (drop (W * 256) (letS ws)) 0 0 ≡ length (join 256 0 (fR m W d L R B)) → getD (drop (W * 256) (repS ws)) 0 0 ≡ length (join d 0 (fS m W d L R B))
-      → getD (drop (3 * W * d) (scatS ws)) 0 0 ≡ length (join d 0 (fG m W d L R B)) → getD (drop (3 * W * d) (gathS ws)) 0 0 ≡ length (join (suc d) 0 (fP m W d L R B))
-      → ((b : ℕ) → b < 256 → chunk W b (letS ws) ≡ fL m W d L R B b) → ((b : ℕ) → b < 256 → chunk W b (repS ws) ≡ fR m W d L R B b)
-      → ((k : ℕ) → k < d → chunk (3 * W) k (scatS ws) ≡ fS m W d L R B k) → ((k : ℕ) → k < d → chunk (3 * W) k (gathS ws) ≡ fG m W d L R B k) → ((k : ℕ) → k < suc d → chunk (3 * W) k (propS ws) ≡ fP m W d L R B k)
+  rebuild : length ws ≡ 9 + W * (515 + 9 * d) → getD ws 0 0 ≡ 3 → getD ws 4 0 ≡ length (join 256 0 (letterWordsAt m W d L R B))
+      → getD (drop (W * 256) (lettersIn ws)) 0 0 ≡ length (join 256 0 (loopWordsAt m W d L R B)) → getD (drop (W * 256) (repeatsIn ws)) 0 0 ≡ length (join d 0 (scatterWordsAt m W d L R B))
+      → getD (drop (3 * W * d) (scatterIn ws)) 0 0 ≡ length (join d 0 (gatherWordsAt m W d L R B)) → getD (drop (3 * W * d) (gatherIn ws)) 0 0 ≡ length (join (suc d) 0 (propagateWordsAt m W d L R B))
+      → ((b : ℕ) → b < 256 → chunk W b (lettersIn ws) ≡ letterWordsAt m W d L R B b) → ((b : ℕ) → b < 256 → chunk W b (repeatsIn ws) ≡ loopWordsAt m W d L R B b)
+      → ((k : ℕ) → k < d → chunk (3 * W) k (scatterIn ws) ≡ scatterWordsAt m W d L R B k) → ((k : ℕ) → k < d → chunk (3 * W) k (gatherIn ws) ≡ gatherWordsAt m W d L R B k) → ((k : ℕ) → k < suc d → chunk (3 * W) k (propagateIn ws) ≡ propagateWordsAt m W d L R B k)
       → ws ≡ build m W d L R B
   rebuild long h0 h4 c2 c3 c4 c5 pL pR pS pG pP =
       drop-cons ws 0 0 (omega arith)
@@ -223,54 +223,54 @@ module _ (ws : List ℕ) (L R : ℕ → ℕ → Bool) (B : Which → ℕ → ℕ
       (drop-cons ws 2 0 (omega arith) ∙ ap (λ (r : List ℕ). W ∷ r)
       (drop-cons ws 3 0 (omega arith) ∙ ap (λ (r : List ℕ). d ∷ r)
       (drop-cons ws 4 0 (omega arith) ∙ ap₂ (λ (x : ℕ) (r : List ℕ). x ∷ r) h4
-      (sec-on W 256 (fL m W d L R B) (letS ws) (λ k l. pL k l ∙ (let e : k ≡ 0 + k = omega arith in ap (fL m W d L R B) e)) (length (join 256 0 (fR m W d L R B))) n1 c2
-      ∙ ap (λ (r : List ℕ). join 256 0 (fL m W d L R B) ++ (length (join 256 0 (fR m W d L R B)) ∷ r))
-      (sec-on W 256 (fR m W d L R B) (repS ws) (λ k l. pR k l ∙ (let e : k ≡ 0 + k = omega arith in ap (fR m W d L R B) e)) (length (join d 0 (fS m W d L R B))) n2 c3
-      ∙ ap (λ (r : List ℕ). join 256 0 (fR m W d L R B) ++ (length (join d 0 (fS m W d L R B)) ∷ r))
-      (sec-on (3 * W) d (fS m W d L R B) (scatS ws) (λ k l. pS k l ∙ (let e : k ≡ 0 + k = omega arith in ap (fS m W d L R B) e)) (length (join d 0 (fG m W d L R B))) n3 c4
-      ∙ ap (λ (r : List ℕ). join d 0 (fS m W d L R B) ++ (length (join d 0 (fG m W d L R B)) ∷ r))
-      (sec-on (3 * W) d (fG m W d L R B) (gathS ws) (λ k l. pG k l ∙ (let e : k ≡ 0 + k = omega arith in ap (fG m W d L R B) e)) (length (join (suc d) 0 (fP m W d L R B))) n4 c5
-      ∙ ap (λ (r : List ℕ). join d 0 (fG m W d L R B) ++ (length (join (suc d) 0 (fP m W d L R B)) ∷ r))
-      (sec-end (3 * W) (suc d) (fP m W d L R B) (propS ws) (λ k l. pP k l ∙ (let e : k ≡ 0 + k = omega arith in ap (fP m W d L R B) e)) n5)))))))))
+      (sec-on W 256 (letterWordsAt m W d L R B) (lettersIn ws) (λ k l. pL k l ∙ (let e : k ≡ 0 + k = omega arith in ap (letterWordsAt m W d L R B) e)) (length (join 256 0 (loopWordsAt m W d L R B))) n1 c2
+      ∙ ap (λ (r : List ℕ). join 256 0 (letterWordsAt m W d L R B) ++ (length (join 256 0 (loopWordsAt m W d L R B)) ∷ r))
+      (sec-on W 256 (loopWordsAt m W d L R B) (repeatsIn ws) (λ k l. pR k l ∙ (let e : k ≡ 0 + k = omega arith in ap (loopWordsAt m W d L R B) e)) (length (join d 0 (scatterWordsAt m W d L R B))) n2 c3
+      ∙ ap (λ (r : List ℕ). join 256 0 (loopWordsAt m W d L R B) ++ (length (join d 0 (scatterWordsAt m W d L R B)) ∷ r))
+      (sec-on (3 * W) d (scatterWordsAt m W d L R B) (scatterIn ws) (λ k l. pS k l ∙ (let e : k ≡ 0 + k = omega arith in ap (scatterWordsAt m W d L R B) e)) (length (join d 0 (gatherWordsAt m W d L R B))) n3 c4
+      ∙ ap (λ (r : List ℕ). join d 0 (scatterWordsAt m W d L R B) ++ (length (join d 0 (gatherWordsAt m W d L R B)) ∷ r))
+      (sec-on (3 * W) d (gatherWordsAt m W d L R B) (gatherIn ws) (λ k l. pG k l ∙ (let e : k ≡ 0 + k = omega arith in ap (gatherWordsAt m W d L R B) e)) (length (join (suc d) 0 (propagateWordsAt m W d L R B))) n4 c5
+      ∙ ap (λ (r : List ℕ). join d 0 (gatherWordsAt m W d L R B) ++ (length (join (suc d) 0 (propagateWordsAt m W d L R B)) ∷ r))
+      (sec-end (3 * W) (suc d) (propagateWordsAt m W d L R B) (propagateIn ws) (λ k l. pP k l ∙ (let e : k ≡ 0 + k = omega arith in ap (propagateWordsAt m W d L R B) e)) n5)))))))))
     where
-      l1 : length (letS ws) ≡ 4 + W * (515 + 9 * d)
+      l1 : length (lettersIn ws) ≡ 4 + W * (515 + 9 * d)
       l1 = omega (arith, length-drop 5 ws)
 
-      n1 : W * 256 < length (letS ws)
+      n1 : W * 256 < length (lettersIn ws)
       n1 = omega (arith, l1)
 
-      l2 : length (repS ws) ≡ 3 + (259 * W + 9 * (W * d))
-      l2 = omega (arith, l1, length-drop 1 (drop (W * 256) (letS ws)), length-drop (W * 256) (letS ws))
+      l2 : length (repeatsIn ws) ≡ 3 + (259 * W + 9 * (W * d))
+      l2 = omega (arith, l1, length-drop 1 (drop (W * 256) (lettersIn ws)), length-drop (W * 256) (lettersIn ws))
 
-      n2 : W * 256 < length (repS ws)
+      n2 : W * 256 < length (repeatsIn ws)
       n2 = omega (arith, l2)
 
-      l3 : length (scatS ws) ≡ 2 + (3 * W + 9 * (W * d))
-      l3 = omega (arith, l2, length-drop 1 (drop (W * 256) (repS ws)), length-drop (W * 256) (repS ws))
+      l3 : length (scatterIn ws) ≡ 2 + (3 * W + 9 * (W * d))
+      l3 = omega (arith, l2, length-drop 1 (drop (W * 256) (repeatsIn ws)), length-drop (W * 256) (repeatsIn ws))
 
-      n3 : 3 * W * d < length (scatS ws)
+      n3 : 3 * W * d < length (scatterIn ws)
       n3 = omega (arith, l3)
 
-      l4 : length (gathS ws) ≡ 1 + (3 * W + 6 * (W * d))
-      l4 = omega (arith, l3, length-drop 1 (drop (3 * W * d) (scatS ws)), length-drop (3 * W * d) (scatS ws))
+      l4 : length (gatherIn ws) ≡ 1 + (3 * W + 6 * (W * d))
+      l4 = omega (arith, l3, length-drop 1 (drop (3 * W * d) (scatterIn ws)), length-drop (3 * W * d) (scatterIn ws))
 
-      n4 : 3 * W * d < length (gathS ws)
+      n4 : 3 * W * d < length (gatherIn ws)
       n4 = omega (arith, l4)
 
-      n5 : length (propS ws) ≤ 3 * W * suc d
-      n5 = omega (arith, l4, length-drop 1 (drop (3 * W * d) (gathS ws)), length-drop (3 * W * d) (gathS ws), mul-suc (3 * W) d)
+      n5 : length (propagateIn ws) ≤ 3 * W * suc d
+      n5 = omega (arith, l4, length-drop 1 (drop (3 * W * d) (gatherIn ws)), length-drop (3 * W * d) (gatherIn ws), mul-suc (3 * W) d)
 
 -- SOUND: what was compared is all
 pub compared-laid : (ws : List ℕ) → Fit ws → T (valid (tape ws) begin) → Compared ws (tape ws) → ws ≡ laid (tape ws)
 compared-laid ws fit v C =
-    rebuild ws (letL l) (repL l) (layOut l begin) (C .long) (C .shape)
-    (C .n-let ∙ sym (length-join W (fL m W d (letL l) (repL l) B) (λ b. length-set m W (letL l b)) 256 0))
-    (C .n-rep ∙ sym (length-join W (fR m W d (letL l) (repL l) B) (λ b. length-set m W (repL l b)) 256 0))
-    (C .n-S ∙ sym (length-join (3 * W) (fS m W d (letL l) (repL l) B) (λ k. length-three m W (B scatterBlockP k) (B scatterSourceP k) (B scatterTargetP k)) d 0))
-    (C .n-G ∙ sym (length-join (3 * W) (fG m W d (letL l) (repL l) B) (λ k. length-three m W (B gatherBlockP k) (B gatherSourceP k) (B gatherTargetP k)) d 0))
-    (C .n-P ∙ sym (length-join (3 * W) (fP m W d (letL l) (repL l) B) (λ k. length-three m W (blkP B k) (srcP B k) (tgtP B k)) (suc d) 0))
+    rebuild ws (tokenLetters l) (tokenLoops l) (layOut l begin) (C .long) (C .shape)
+    (C .n-let ∙ sym (length-join W (letterWordsAt m W d (tokenLetters l) (tokenLoops l) B) (λ b. length-set m W (tokenLetters l b)) 256 0))
+    (C .n-rep ∙ sym (length-join W (loopWordsAt m W d (tokenLetters l) (tokenLoops l) B) (λ b. length-set m W (tokenLoops l b)) 256 0))
+    (C .n-S ∙ sym (length-join (3 * W) (scatterWordsAt m W d (tokenLetters l) (tokenLoops l) B) (λ k. length-three m W (B scatter-block k) (B scatter-source k) (B scatter-target k)) d 0))
+    (C .n-G ∙ sym (length-join (3 * W) (gatherWordsAt m W d (tokenLetters l) (tokenLoops l) B) (λ k. length-three m W (B gather-block k) (B gather-source k) (B gather-target k)) d 0))
+    (C .n-P ∙ sym (length-join (3 * W) (propagateWordsAt m W d (tokenLetters l) (tokenLoops l) B) (λ k. length-three m W (blockOf B k) (sourceOf B k) (targetOf B k)) (suc d) 0))
     let-words rep-words (C .scat) (C .gath) (C .prop)
-    ∙ (λ i. build (C .states i) ((C .bitsOf ∙ ap width (C .states)) i) (C .level i) (letL l) (repL l) (layOut l begin))
+    ∙ (λ i. build (C .states i) ((C .bitsOf ∙ ap width (C .states)) i) (C .level i) (tokenLetters l) (tokenLoops l) (layOut l begin))
   where
     l : List Token
     l = tape ws
@@ -290,32 +290,32 @@ compared-laid ws fit v C =
     has-room : m ≤ wide W
     has-room = subst (λ (n : ℕ). m ≤ wide n) (sym (C .bitsOf)) (room m)
 
-    in-words : (b : ℕ) → b < 256 → W ≤ length (drop (W * b) (letS ws))
-    in-words b h = omega (arith, C .long, length-drop (W * b) (letS ws), length-drop 5 ws, mul-le-mul-left W h, mul-suc W b)
+    in-words : (b : ℕ) → b < 256 → W ≤ length (drop (W * b) (lettersIn ws))
+    in-words b h = omega (arith, C .long, length-drop (W * b) (lettersIn ws), length-drop 5 ws, mul-le-mul-left W h, mul-suc W b)
 
-    at-let : (b : ℕ) → b < 256 → (x : ℕ) → x < m → bit (val (chunk W b (letS ws))) x ≡ letL l b x
-    at-let b h zero k = C .letterPlaces b 0 h (inl refl)
+    at-let : (b : ℕ) → b < 256 → (x : ℕ) → x < m → bit (value (chunk W b (lettersIn ws))) x ≡ tokenLetters l b x
+    at-let b h zero k = C .letter-place b 0 h (inl refl)
     at-let b h (suc i) k =
-        sym (ap (λ (y : Token). bit (classOf y) b) (getD-before m i (tokenAt ws) k) ∙ class-of (λ b. bitOf W (letS ws) b (suc i)) (anyTo 256 (λ b. bitOf W (letS ws) b (suc i))) _ _ _ _ b h refl)
+        sym (ap (λ (y : Token). bit (classOf y) b) (getD-before m i (tokenAt ws) k) ∙ class-of (λ b. bitOf W (lettersIn ws) b (suc i)) (anyTo 256 (λ b. bitOf W (lettersIn ws) b (suc i))) _ _ _ _ b h refl)
 
-    let-holds : (b : ℕ) → b < 256 → Holds m W (chunk W b (letS ws)) (letL l b)
+    let-holds : (b : ℕ) → b < 256 → Holds m W (chunk W b (lettersIn ws)) (tokenLetters l b)
     let-holds b h = record {
-      near = record { len = length-take-le W (drop (W * b) (letS ws)) (in-words b h); fit = fit-take W (drop (W * b) (letS ws)) (fit-drop (W * b) (letS ws) (fit-drop 5 ws fit)); bits = at-let b h };
-      none = λ x k. C .letterPlaces b x h (inr k);
+      near = record { len = length-take-le W (drop (W * b) (lettersIn ws)) (in-words b h); fit = fit-take W (drop (W * b) (lettersIn ws)) (fit-drop (W * b) (lettersIn ws) (fit-drop 5 ws fit)); bits = at-let b h };
+      none = λ x k. C .letter-place b x h (inr k);
     }
 
-    let-words : (b : ℕ) → b < 256 → chunk W b (letS ws) ≡ set m W (letL l b)
-    let-words b h = holds-one m W (chunk W b (letS ws)) (set m W (letL l b)) (letL l b) (letL l b) (let-holds b h) (set-holds m W (letL l b) has-room) (λ x k. refl)
+    let-words : (b : ℕ) → b < 256 → chunk W b (lettersIn ws) ≡ set m W (tokenLetters l b)
+    let-words b h = holds-one m W (chunk W b (lettersIn ws)) (set m W (tokenLetters l b)) (tokenLetters l b) (tokenLetters l b) (let-holds b h) (set-holds m W (tokenLetters l b) has-room) (λ x k. refl)
 
-    rep-words : (b : ℕ) → b < 256 → chunk W b (repS ws) ≡ set m W (repL l b)
+    rep-words : (b : ℕ) → b < 256 → chunk W b (repeatsIn ws) ≡ set m W (tokenLoops l b)
     rep-words b h =
         C .reps b h
-        ∙ holds-one m W (andW (chunk W b (letS ws)) (set m W (layOut l begin loopPlaces 0))) (set m W (repL l b)) (λ x. letL l b x && layOut l begin loopPlaces 0 x) (repL l b)
+        ∙ holds-one m W (andWords (chunk W b (lettersIn ws)) (set m W (layOut l begin loop-place 0))) (set m W (tokenLoops l b)) (λ x. tokenLetters l b x && layOut l begin loop-place 0 x) (tokenLoops l b)
         (record {
-          near = near-and m W (chunk W b (letS ws)) (set m W (layOut l begin loopPlaces 0)) (letL l b) (layOut l begin loopPlaces 0) (let-holds b h .near) (set-holds m W (layOut l begin loopPlaces 0) has-room .near);
-          none = none-and-l m W (chunk W b (letS ws)) (set m W (layOut l begin loopPlaces 0)) (letL l b) (layOut l begin loopPlaces 0) (let-holds b h .near) (set-holds m W (layOut l begin loopPlaces 0) has-room .near) (let-holds b h .none);
+          near = near-and m W (chunk W b (lettersIn ws)) (set m W (layOut l begin loop-place 0)) (tokenLetters l b) (layOut l begin loop-place 0) (let-holds b h .near) (set-holds m W (layOut l begin loop-place 0) has-room .near);
+          none = none-and-l m W (chunk W b (lettersIn ws)) (set m W (layOut l begin loop-place 0)) (tokenLetters l b) (layOut l begin loop-place 0) (let-holds b h .near) (set-holds m W (layOut l begin loop-place 0) has-room .near) (let-holds b h .none);
         })
-        (set-holds m W (repL l b) has-room) (λ x k. rep-by-let l b x (subst (λ (n : ℕ). x < n) (C .states) k))
+        (set-holds m W (tokenLoops l b) has-room) (λ x k. rep-by-let l b x (subst (λ (n : ℕ). x < n) (C .states) k))
 
 -- COMPLETE: what is laid out for a row of tokens compares equal
 module _ (l : List Token) where
@@ -331,55 +331,55 @@ module _ (l : List Token) where
   abbrev lB : Which → ℕ → ℕ → Bool
   lB = layOut l begin
 
-  sized-L : length (join 256 0 (fL lm lW ld (letL l) (repL l) lB)) ≡ lW * 256
-  sized-L = length-join lW (fL lm lW ld (letL l) (repL l) lB) (λ b. length-set lm lW (letL l b)) 256 0
+  sized-L : length (join 256 0 (letterWordsAt lm lW ld (tokenLetters l) (tokenLoops l) lB)) ≡ lW * 256
+  sized-L = length-join lW (letterWordsAt lm lW ld (tokenLetters l) (tokenLoops l) lB) (λ b. length-set lm lW (tokenLetters l b)) 256 0
 
-  sized-R : length (join 256 0 (fR lm lW ld (letL l) (repL l) lB)) ≡ lW * 256
-  sized-R = length-join lW (fR lm lW ld (letL l) (repL l) lB) (λ b. length-set lm lW (repL l b)) 256 0
+  sized-R : length (join 256 0 (loopWordsAt lm lW ld (tokenLetters l) (tokenLoops l) lB)) ≡ lW * 256
+  sized-R = length-join lW (loopWordsAt lm lW ld (tokenLetters l) (tokenLoops l) lB) (λ b. length-set lm lW (tokenLoops l b)) 256 0
 
-  sized-S : length (join ld 0 (fS lm lW ld (letL l) (repL l) lB)) ≡ 3 * lW * ld
-  sized-S = length-join (3 * lW) (fS lm lW ld (letL l) (repL l) lB) (λ k. length-three lm lW (lB scatterBlockP k) (lB scatterSourceP k) (lB scatterTargetP k)) ld 0
+  sized-S : length (join ld 0 (scatterWordsAt lm lW ld (tokenLetters l) (tokenLoops l) lB)) ≡ 3 * lW * ld
+  sized-S = length-join (3 * lW) (scatterWordsAt lm lW ld (tokenLetters l) (tokenLoops l) lB) (λ k. length-three lm lW (lB scatter-block k) (lB scatter-source k) (lB scatter-target k)) ld 0
 
-  sized-G : length (join ld 0 (fG lm lW ld (letL l) (repL l) lB)) ≡ 3 * lW * ld
-  sized-G = length-join (3 * lW) (fG lm lW ld (letL l) (repL l) lB) (λ k. length-three lm lW (lB gatherBlockP k) (lB gatherSourceP k) (lB gatherTargetP k)) ld 0
+  sized-G : length (join ld 0 (gatherWordsAt lm lW ld (tokenLetters l) (tokenLoops l) lB)) ≡ 3 * lW * ld
+  sized-G = length-join (3 * lW) (gatherWordsAt lm lW ld (tokenLetters l) (tokenLoops l) lB) (λ k. length-three lm lW (lB gather-block k) (lB gather-source k) (lB gather-target k)) ld 0
 
-  sized-P : length (join (suc ld) 0 (fP lm lW ld (letL l) (repL l) lB)) ≡ 3 * lW * suc ld
-  sized-P = length-join (3 * lW) (fP lm lW ld (letL l) (repL l) lB) (λ k. length-three lm lW (blkP lB k) (srcP lB k) (tgtP lB k)) (suc ld) 0
+  sized-P : length (join (suc ld) 0 (propagateWordsAt lm lW ld (tokenLetters l) (tokenLoops l) lB)) ≡ 3 * lW * suc ld
+  sized-P = length-join (3 * lW) (propagateWordsAt lm lW ld (tokenLetters l) (tokenLoops l) lB) (λ k. length-three lm lW (blockOf lB k) (sourceOf lB k) (targetOf lB k)) (suc ld) 0
 
   head-of : (xs r : List ℕ) (c n : ℕ) → length xs ≡ n → getD (drop n (xs ++ (c ∷ r))) 0 0 ≡ c
   head-of xs r c n e = ap (λ (z : List ℕ). getD z 0 0) (drop-at xs (c ∷ r) n e)
 
-  set-zero : (f : ℕ → Bool) (x : ℕ) → f 0 ≡ false → (x ≡ 0) ⊎ (lm ≤ x) → bit (val (set lm lW f)) x ≡ false
-  set-zero f x h (inl e) = ap (λ (y : ℕ). bit (val (set lm lW f)) y) e ∙ set-holds lm lW f (room lm) .near .bits 0 (zero-lt-suc (length l)) ∙ h
+  set-zero : (f : ℕ → Bool) (x : ℕ) → f 0 ≡ false → (x ≡ 0) ⊎ (lm ≤ x) → bit (value (set lm lW f)) x ≡ false
+  set-zero f x h (inl e) = ap (λ (y : ℕ). bit (value (set lm lW f)) y) e ∙ set-holds lm lW f (room lm) .near .bits 0 (zero-lt-suc (length l)) ∙ h
   set-zero f x h (inr k) = set-holds lm lW f (room lm) .none x k
 
   pub laid-compared : Compared (laid l) l
   laid-compared = record {
-    long = length-build lm lW ld (letL l) (repL l) lB;
+    long = length-build lm lW ld (tokenLetters l) (tokenLoops l) lB;
     shape = refl;
     states = refl;
     bitsOf = refl;
     level = refl;
     n-let = sized-L;
-    n-rep = head-of (join 256 0 (fL lm lW ld (letL l) (repL l) lB)) (join 256 0 (fR lm lW ld (letL l) (repL l) lB) ++ after-R lm lW ld (letL l) (repL l) lB) (length (join 256 0 (fR lm lW ld (letL l) (repL l) lB))) (lW * 256) sized-L ∙ sized-R;
-    n-S = ap (λ (z : List ℕ). getD (drop (lW * 256) z) 0 0) (repS-is lm lW ld (letL l) (repL l) lB)
-        ∙ head-of (join 256 0 (fR lm lW ld (letL l) (repL l) lB)) (join ld 0 (fS lm lW ld (letL l) (repL l) lB) ++ after-S lm lW ld (letL l) (repL l) lB) (length (join ld 0 (fS lm lW ld (letL l) (repL l) lB))) (lW * 256) sized-R ∙ sized-S;
-    n-G = ap (λ (z : List ℕ). getD (drop (3 * lW * ld) z) 0 0) (scatS-is lm lW ld (letL l) (repL l) lB)
-        ∙ head-of (join ld 0 (fS lm lW ld (letL l) (repL l) lB)) (join ld 0 (fG lm lW ld (letL l) (repL l) lB) ++ after-G lm lW ld (letL l) (repL l) lB) (length (join ld 0 (fG lm lW ld (letL l) (repL l) lB))) (3 * lW * ld) sized-S ∙ sized-G;
-    n-P = ap (λ (z : List ℕ). getD (drop (3 * lW * ld) z) 0 0) (gathS-is lm lW ld (letL l) (repL l) lB)
-        ∙ head-of (join ld 0 (fG lm lW ld (letL l) (repL l) lB)) (join (suc ld) 0 (fP lm lW ld (letL l) (repL l) lB)) (length (join (suc ld) 0 (fP lm lW ld (letL l) (repL l) lB))) (3 * lW * ld) sized-G ∙ sized-P;
-    letterPlaces = λ b x h o. ap (λ (z : List ℕ). bit (val z) x) (part-let lm lW ld (letL l) (repL l) lB b h) ∙ set-zero (letL l b) x refl o;
-    reps = λ b h. part-rep lm lW ld (letL l) (repL l) lB b h
-        ∙ sym (ap (λ (z : List ℕ). andW z (set lm lW (lB loopPlaces 0))) (part-let lm lW ld (letL l) (repL l) lB b h)
-        ∙ holds-one lm lW (andW (set lm lW (letL l b)) (set lm lW (lB loopPlaces 0))) (set lm lW (repL l b)) (λ x. letL l b x && lB loopPlaces 0 x) (repL l b)
+    n-rep = head-of (join 256 0 (letterWordsAt lm lW ld (tokenLetters l) (tokenLoops l) lB)) (join 256 0 (loopWordsAt lm lW ld (tokenLetters l) (tokenLoops l) lB) ++ after-R lm lW ld (tokenLetters l) (tokenLoops l) lB) (length (join 256 0 (loopWordsAt lm lW ld (tokenLetters l) (tokenLoops l) lB))) (lW * 256) sized-L ∙ sized-R;
+    n-S = ap (λ (z : List ℕ). getD (drop (lW * 256) z) 0 0) (repS-is lm lW ld (tokenLetters l) (tokenLoops l) lB)
+        ∙ head-of (join 256 0 (loopWordsAt lm lW ld (tokenLetters l) (tokenLoops l) lB)) (join ld 0 (scatterWordsAt lm lW ld (tokenLetters l) (tokenLoops l) lB) ++ after-S lm lW ld (tokenLetters l) (tokenLoops l) lB) (length (join ld 0 (scatterWordsAt lm lW ld (tokenLetters l) (tokenLoops l) lB))) (lW * 256) sized-R ∙ sized-S;
+    n-G = ap (λ (z : List ℕ). getD (drop (3 * lW * ld) z) 0 0) (scatS-is lm lW ld (tokenLetters l) (tokenLoops l) lB)
+        ∙ head-of (join ld 0 (scatterWordsAt lm lW ld (tokenLetters l) (tokenLoops l) lB)) (join ld 0 (gatherWordsAt lm lW ld (tokenLetters l) (tokenLoops l) lB) ++ after-G lm lW ld (tokenLetters l) (tokenLoops l) lB) (length (join ld 0 (gatherWordsAt lm lW ld (tokenLetters l) (tokenLoops l) lB))) (3 * lW * ld) sized-S ∙ sized-G;
+    n-P = ap (λ (z : List ℕ). getD (drop (3 * lW * ld) z) 0 0) (gathS-is lm lW ld (tokenLetters l) (tokenLoops l) lB)
+        ∙ head-of (join ld 0 (gatherWordsAt lm lW ld (tokenLetters l) (tokenLoops l) lB)) (join (suc ld) 0 (propagateWordsAt lm lW ld (tokenLetters l) (tokenLoops l) lB)) (length (join (suc ld) 0 (propagateWordsAt lm lW ld (tokenLetters l) (tokenLoops l) lB))) (3 * lW * ld) sized-G ∙ sized-P;
+    letter-place = λ b x h o. ap (λ (z : List ℕ). bit (value z) x) (part-let lm lW ld (tokenLetters l) (tokenLoops l) lB b h) ∙ set-zero (tokenLetters l b) x refl o;
+    reps = λ b h. part-rep lm lW ld (tokenLetters l) (tokenLoops l) lB b h
+        ∙ sym (ap (λ (z : List ℕ). andWords z (set lm lW (lB loop-place 0))) (part-let lm lW ld (tokenLetters l) (tokenLoops l) lB b h)
+        ∙ holds-one lm lW (andWords (set lm lW (tokenLetters l b)) (set lm lW (lB loop-place 0))) (set lm lW (tokenLoops l b)) (λ x. tokenLetters l b x && lB loop-place 0 x) (tokenLoops l b)
         (record {
-          near = near-and lm lW (set lm lW (letL l b)) (set lm lW (lB loopPlaces 0)) (letL l b) (lB loopPlaces 0) (set-holds lm lW (letL l b) (room lm) .near) (set-holds lm lW (lB loopPlaces 0) (room lm) .near);
-          none = none-and-l lm lW (set lm lW (letL l b)) (set lm lW (lB loopPlaces 0)) (letL l b) (lB loopPlaces 0) (set-holds lm lW (letL l b) (room lm) .near) (set-holds lm lW (lB loopPlaces 0) (room lm) .near) (set-holds lm lW (letL l b) (room lm) .none);
+          near = near-and lm lW (set lm lW (tokenLetters l b)) (set lm lW (lB loop-place 0)) (tokenLetters l b) (lB loop-place 0) (set-holds lm lW (tokenLetters l b) (room lm) .near) (set-holds lm lW (lB loop-place 0) (room lm) .near);
+          none = none-and-l lm lW (set lm lW (tokenLetters l b)) (set lm lW (lB loop-place 0)) (tokenLetters l b) (lB loop-place 0) (set-holds lm lW (tokenLetters l b) (room lm) .near) (set-holds lm lW (lB loop-place 0) (room lm) .near) (set-holds lm lW (tokenLetters l b) (room lm) .none);
         })
-        (set-holds lm lW (repL l b) (room lm)) (λ x k. rep-by-let l b x k));
-    scat = part-S lm lW ld (letL l) (repL l) lB;
-    gath = part-G lm lW ld (letL l) (repL l) lB;
-    prop = part-P lm lW ld (letL l) (repL l) lB;
+        (set-holds lm lW (tokenLoops l b) (room lm)) (λ x k. rep-by-let l b x k));
+    scat = part-S lm lW ld (tokenLetters l) (tokenLoops l) lB;
+    gath = part-G lm lW ld (tokenLetters l) (tokenLoops l) lB;
+    prop = part-P lm lW ld (tokenLetters l) (tokenLoops l) lB;
   }
 
 -- THE COMPARISON DECIDES: for any words, the sections compare equal and the tokens are valid exactly if the words are accepted
@@ -388,14 +388,14 @@ compared-is ws fit = (there, back)
   where
     there : T (accepts ws) → (stateWord ws ≤ 512) × T (valid (tape ws) begin) × Compared ws (tape ws)
     there h =
-        let a = and-split (leb (stateWord ws) 512) (valid (tape ws) begin && eqL ws (laid (tape ws))) h in
-        let b = and-split (valid (tape ws) begin) (eqL ws (laid (tape ws))) (a .1) in
-        (leb→le (stateWord ws) 512 (a .0), b .0, subst (λ (z : List ℕ). Compared z (tape ws)) (sym (eqL-eq ws (laid (tape ws)) (b .1))) (laid-compared (tape ws)))
+        let a = and-split (leb (stateWord ws) 512) (valid (tape ws) begin && sameWords ws (laid (tape ws))) h in
+        let b = and-split (valid (tape ws) begin) (sameWords ws (laid (tape ws))) (a .1) in
+        (leb→le (stateWord ws) 512 (a .0), b .0, subst (λ (z : List ℕ). Compared z (tape ws)) (sym (sameWords-eq ws (laid (tape ws)) (b .1))) (laid-compared (tape ws)))
 
     back : (stateWord ws ≤ 512) × T (valid (tape ws) begin) × Compared ws (tape ws) → T (accepts ws)
     back h =
-        and-both (leb (stateWord ws) 512) (valid (tape ws) begin && eqL ws (laid (tape ws))) (le→leb (stateWord ws) 512 (h .0))
-        (and-both (valid (tape ws) begin) (eqL ws (laid (tape ws))) (h .1) (subst (λ (z : List ℕ). T (eqL ws z)) (compared-laid ws fit (h .1) (h .2)) (eqL-refl ws)))
+        and-both (leb (stateWord ws) 512) (valid (tape ws) begin && sameWords ws (laid (tape ws))) (le→leb (stateWord ws) 512 (h .0))
+        (and-both (valid (tape ws) begin) (sameWords ws (laid (tape ws))) (h .1) (subst (λ (z : List ℕ). T (sameWords ws z)) (compared-laid ws fit (h .1) (h .2)) (sameWords-refl ws)))
 
 -- ---- the letters' condition as one comparison: the or of all letter masks is the letter places
 abbrev pub isLet : Token → Bool
@@ -404,7 +404,7 @@ isLet anOpen = false
 isLet aBar = false
 isLet aClose = false
 
-mark-let : (y : Token) (q : Scan) (x : ℕ) → mark y q letterPlaces 0 x ≡ (isLet y && eqb x (suc (q .pos)))
+mark-let : (y : Token) (q : Scan) (x : ℕ) → mark y q letter-place 0 x ≡ (isLet y && eqb x (suc (q .pos)))
 mark-let (aLetter c once) q x = or-false (eqb x (suc (q .pos)) && true) ∙ and-true (eqb x (suc (q .pos)))
 mark-let (aLetter c option) q x = or-false (eqb x (suc (q .pos)) && true) ∙ and-true (eqb x (suc (q .pos)))
 mark-let (aLetter c star) q x = or-false (eqb x (suc (q .pos)) && true) ∙ and-true (eqb x (suc (q .pos)))
@@ -412,55 +412,55 @@ mark-let (aLetter c plus) q x = or-false (eqb x (suc (q .pos)) && true) ∙ and-
 mark-let anOpen q x = refl
 mark-let aBar q x = go (q .stack)
   where
-    go : (st : List Frame) → Rattle.model.proofs.Image.LayOut.barF (q .pos) st letterPlaces 0 x ≡ false
+    go : (st : List Frame) → Rattle.model.proofs.Image.LayOut.barMarksIn (q .pos) st letter-place 0 x ≡ false
     go [] = refl
     go (f ∷ st) = refl
 mark-let aClose q x = go (q .stack)
   where
-    go : (st : List Frame) → Rattle.model.proofs.Image.LayOut.clsF (q .pos) (q .can) st letterPlaces 0 x ≡ false
+    go : (st : List Frame) → Rattle.model.proofs.Image.LayOut.closeMarksIn (q .pos) (q .can) st letter-place 0 x ≡ false
     go [] = refl
     go (f ∷ st) = and-false (f .any || q .can)
 
-no-let : (l : List Token) (q : Scan) (x : ℕ) → x ≤ q .pos → layOut l q letterPlaces 0 x ≡ false
+no-let : (l : List Token) (q : Scan) (x : ℕ) → x ≤ q .pos → layOut l q letter-place 0 x ≡ false
 no-let [] q x h = refl
 no-let (y ∷ ys) q x h =
     ap₂ (λ (a b : Bool). a || b) (mark-let y q x ∙ ap (λ (b : Bool). isLet y && b) (unequal x (suc (q .pos)) (λ e. omega arith)) ∙ and-false (isLet y))
     (no-let ys (step y q) x (omega (arith, pos-step y q)))
 
 pub lets-by-or : (ws : List ℕ) (l : List Token) → stateWord ws ≤ wide (widthWord ws) → 0 < stateWord ws
-    → ((x : ℕ) → anyTo 256 (λ b. bitOf (widthWord ws) (letS ws) b x) ≡ bit (val (set (stateWord ws) (widthWord ws) (layOut l begin letterPlaces 0))) x)
-    → (b x : ℕ) → b < 256 → (x ≡ 0) ⊎ (stateWord ws ≤ x) → bitOf (widthWord ws) (letS ws) b x ≡ false
-lets-by-or ws l r z same b x h o = off (bitOf (widthWord ws) (letS ws) b x) (λ t. subst T (same x ∙ none o) (anyTo-in 256 (λ b. bitOf (widthWord ws) (letS ws) b x) b h t))
+    → ((x : ℕ) → anyTo 256 (λ b. bitOf (widthWord ws) (lettersIn ws) b x) ≡ bit (value (set (stateWord ws) (widthWord ws) (layOut l begin letter-place 0))) x)
+    → (b x : ℕ) → b < 256 → (x ≡ 0) ⊎ (stateWord ws ≤ x) → bitOf (widthWord ws) (lettersIn ws) b x ≡ false
+lets-by-or ws l r z same b x h o = off (bitOf (widthWord ws) (lettersIn ws) b x) (λ t. subst T (same x ∙ none o) (anyTo-in 256 (λ b. bitOf (widthWord ws) (lettersIn ws) b x) b h t))
   where
     off : (a : Bool) → (T a → ⊥) → a ≡ false
     off true k = absurd (k tt)
     off false k = refl
 
-    H : Holds (stateWord ws) (widthWord ws) (set (stateWord ws) (widthWord ws) (layOut l begin letterPlaces 0)) (layOut l begin letterPlaces 0)
-    H = set-holds (stateWord ws) (widthWord ws) (layOut l begin letterPlaces 0) r
+    H : Holds (stateWord ws) (widthWord ws) (set (stateWord ws) (widthWord ws) (layOut l begin letter-place 0)) (layOut l begin letter-place 0)
+    H = set-holds (stateWord ws) (widthWord ws) (layOut l begin letter-place 0) r
 
-    none : (x ≡ 0) ⊎ (stateWord ws ≤ x) → bit (val (set (stateWord ws) (widthWord ws) (layOut l begin letterPlaces 0))) x ≡ false
-    none (inl e) = ap (λ (y : ℕ). bit (val (set (stateWord ws) (widthWord ws) (layOut l begin letterPlaces 0))) y) e ∙ H .near .bits 0 z ∙ no-let l begin 0 (le-refl 0)
+    none : (x ≡ 0) ⊎ (stateWord ws ≤ x) → bit (value (set (stateWord ws) (widthWord ws) (layOut l begin letter-place 0))) x ≡ false
+    none (inl e) = ap (λ (y : ℕ). bit (value (set (stateWord ws) (widthWord ws) (layOut l begin letter-place 0))) y) e ∙ H .near .bits 0 z ∙ no-let l begin 0 (le-refl 0)
     none (inr k) = H .none x k
 
-pub lay-lets : (l : List Token) (q : Scan) (i : ℕ) → i < length l → layOut l q letterPlaces 0 (suc (q .pos + i)) ≡ isLet (getD l i aClose)
+pub lay-lets : (l : List Token) (q : Scan) (i : ℕ) → i < length l → layOut l q letter-place 0 (suc (q .pos + i)) ≡ isLet (getD l i aClose)
 lay-lets [] q i h = absurd (not-suc-le-zero h)
 lay-lets (y ∷ ys) q zero h =
-    (let e : suc (q .pos + 0) ≡ suc (q .pos) = omega arith in ap (λ (x : ℕ). layOut (y ∷ ys) q letterPlaces 0 x) e)
+    (let e : suc (q .pos + 0) ≡ suc (q .pos) = omega arith in ap (λ (x : ℕ). layOut (y ∷ ys) q letter-place 0 x) e)
     ∙ ap₂ (λ (a b : Bool). a || b) (mark-let y q (suc (q .pos)) ∙ ap (λ (b : Bool). isLet y && b) (is-true (eqb (suc (q .pos)) (suc (q .pos))) (eqb-refl (suc (q .pos)))) ∙ and-true (isLet y))
     (no-let ys (step y q) (suc (q .pos)) (omega (arith, pos-step y q)))
     ∙ or-false (isLet y)
 lay-lets (y ∷ ys) q (suc i) h =
-    ap (λ (a : Bool). a || layOut ys (step y q) letterPlaces 0 (suc (q .pos + suc i)))
+    ap (λ (a : Bool). a || layOut ys (step y q) letter-place 0 (suc (q .pos + suc i)))
     (mark-let y q (suc (q .pos + suc i)) ∙ ap (λ (b : Bool). isLet y && b) (unequal (suc (q .pos + suc i)) (suc (q .pos)) (λ e. omega arith)) ∙ and-false (isLet y))
-    ∙ (let e : suc (q .pos + suc i) ≡ suc (step y q .pos + i) = omega (arith, pos-step y q) in ap (λ (x : ℕ). layOut ys (step y q) letterPlaces 0 x) e)
+    ∙ (let e : suc (q .pos + suc i) ≡ suc (step y q .pos + i) = omega (arith, pos-step y q) in ap (λ (x : ℕ). layOut ys (step y q) letter-place 0 x) e)
     ∙ lay-lets ys (step y q) i (le-of-suc-le-suc h)
 
 -- and of an image it is so: the or of all letter masks is the letter places
-pub or-is-places : (l : List Token) → AllFine l → (x : ℕ) → x < suc (length l) → anyTo 256 (λ b. letL l b x) ≡ layOut l begin letterPlaces 0 x
+pub or-is-places : (l : List Token) → AllFine l → (x : ℕ) → x < suc (length l) → anyTo 256 (λ b. tokenLetters l b x) ≡ layOut l begin letter-place 0 x
 or-is-places l F zero h = sym (no-let l begin 0 (le-refl 0))
 or-is-places l F (suc i) h =
-    some-of (getD l i aClose) (fine-at l i F) ∙ sym ((let e : suc i ≡ suc (0 + i) = omega arith in ap (λ (x : ℕ). layOut l begin letterPlaces 0 x) e) ∙ lay-lets l begin i (le-of-suc-le-suc h))
+    some-of (getD l i aClose) (fine-at l i F) ∙ sym ((let e : suc i ≡ suc (0 + i) = omega arith in ap (λ (x : ℕ). layOut l begin letter-place 0 x) e) ∙ lay-lets l begin i (le-of-suc-le-suc h))
   where
     some-of : (y : Token) → Fine y → anyTo 256 (λ b. bit (classOf y) b) ≡ isLet y
     some-of (aLetter c p) f = some-bit c (f .0) (f .1)

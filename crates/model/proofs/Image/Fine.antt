@@ -11,9 +11,9 @@ use lib.Pow.{pow-pos}
 use Rattle.model.specs.Bits.{bit}
 use Rattle.model.specs.Tree.{Alts, Repeat, Seq, canLoop, canSkip, end, last, letter, more, once, option, plus, star, union}
 use Rattle.model.specs.Edges.{altsEnd, seqEnd}
-use Rattle.model.proofs.Ends.Run.{letB, loopsK, repB}
-use Rattle.model.proofs.Image.Shown.{Owns, Says, closes, closes-show, isCls, isOpn, loopT, nullT, opens, opens-show, owns, says, skips, skips-show, token}
-use Rattle.model.proofs.Image.Tokens.{Token, aBar, aClose, aLetter, altsTokens, anOpen, classOf, letters-show, tokens, toks-inj}
+use Rattle.model.proofs.Ends.Run.{letterSet, loopsByte, loopSet}
+use Rattle.model.proofs.Image.Shown.{Owns, Says, closes, closes-show, isClose, isOpen, tokenLoop, tokenSkips, opens, opens-show, owns, says, skips, skips-show, token}
+use Rattle.model.proofs.Image.Tokens.{Token, aBar, aClose, aLetter, altsTokens, anOpen, classOf, letters-show, tokens, tokens-inj}
 use Rattle.model.proofs.Language.Arcs.{Arc, ArcKind, arc, arcs, forkArc, letterArc, loopArc, propagateArc}
 use Rattle.model.proofs.Laws.Bool.{and-both, and-split, same-truth}
 use Rattle.model.proofs.Laws.Lists.{In, any-in, any-out}
@@ -31,25 +31,25 @@ un-cond : (b : Bool) (c i : ℕ) → T (bit (cond b c 0) i) → T b × T (bit c 
 un-cond true c i h = (tt, h)
 un-cond false c i h = absurd (no-bit i h)
 
-pub loops-show : (s : Seq) (b i : ℕ) → i < seqEnd s 0 → repB (arcs s 0 0) b (suc i) ≡ bit (loopT (token s i)) b
-loops-show s b i l = same-truth (repB (arcs s 0 0) b (suc i)) (bit (loopT (token s i)) b) out (λ h. in′ (token s i) (owns s i l) h)
+pub loops-show : (s : Seq) (b i : ℕ) → i < seqEnd s 0 → loopSet (arcs s 0 0) b (suc i) ≡ bit (tokenLoop (token s i)) b
+loops-show s b i l = same-truth (loopSet (arcs s 0 0) b (suc i)) (bit (tokenLoop (token s i)) b) out (λ h. in′ (token s i) (owns s i l) h)
   where
-    is : (e : Arc) (w : ArcKind) → Says (token s) w (e .from) (e .to) → T (loopsK b w) → suc i ≡ e .to → T (bit (loopT (token s i)) b)
+    is : (e : Arc) (w : ArcKind) → Says (token s) w (e .from) (e .to) → T (loopsByte b w) → suc i ≡ e .to → T (bit (tokenLoop (token s i)) b)
     is e (letterArc c) m h q = absurd h
-    is e (loopArc c) m h q = let k : m .1 ≡ i = omega (arith, m .0, m .3) in subst (λ (x : Token). T (bit (loopT x) b)) (sym (ap (token s) (sym k) ∙ m .4)) (cond-T (canLoop (m .2)) c b (m .5) h)
+    is e (loopArc c) m h q = let k : m .1 ≡ i = omega (arith, m .0, m .3) in subst (λ (x : Token). T (bit (tokenLoop x) b)) (sym (ap (token s) (sym k) ∙ m .4)) (cond-T (canLoop (m .2)) c b (m .5) h)
     is e propagateArc m h q = absurd h
     is e (forkArc xs) m h q = absurd h
 
-    out : T (repB (arcs s 0 0) b (suc i)) → T (bit (loopT (token s i)) b)
+    out : T (loopSet (arcs s 0 0) b (suc i)) → T (bit (tokenLoop (token s i)) b)
     out h =
-        let r = any-out (λ e. loopsK b (e .kind) && eqb (suc i) (e .to)) (arcs s 0 0) h in
-        let c = and-split (loopsK b (r .0 .kind)) (eqb (suc i) (r .0 .to)) (r .2) in
+        let r = any-out (λ e. loopsByte b (e .kind) && eqb (suc i) (e .to)) (arcs s 0 0) h in
+        let c = and-split (loopsByte b (r .0 .kind)) (eqb (suc i) (r .0 .to)) (r .2) in
         is (r .0) (r .0 .kind) (says s (r .0) (r .1)) (c .0) (eqb→eq (suc i) (r .0 .to) (c .1))
 
-    in′ : (x : Token) → Owns (token s) (In (arcs s 0 0)) x i → T (bit (loopT x) b) → T (repB (arcs s 0 0) b (suc i))
+    in′ : (x : Token) → Owns (token s) (In (arcs s 0 0)) x i → T (bit (tokenLoop x) b) → T (loopSet (arcs s 0 0) b (suc i))
     in′ (aLetter c p) o h =
         let m = un-cond (canLoop p) c b h in
-        any-in (λ e. loopsK b (e .kind) && eqb (suc i) (e .to)) (arcs s 0 0) (arc (loopArc c) (o .0) (suc i) (suc i)) (o .2 (m .0)) (and-both (bit c b) (eqb (suc i) (suc i)) (m .1) (eqb-refl (suc i)))
+        any-in (λ e. loopsByte b (e .kind) && eqb (suc i) (e .to)) (arcs s 0 0) (arc (loopArc c) (o .0) (suc i) (suc i)) (o .2 (m .0)) (and-both (bit c b) (eqb (suc i) (suc i)) (m .1) (eqb-refl (suc i)))
     in′ anOpen o h = absurd (no-bit b h)
     in′ aBar o h = absurd (no-bit b h)
     in′ aClose o h = absurd (no-bit b h)
@@ -99,8 +99,8 @@ cond-lt true c h = h
 cond-lt false c h = pow-pos 256
 
 -- tokens with the same tests
-same : (x y : Token) → Fine x → Fine y → isOpn x ≡ isOpn y → isCls x ≡ isCls y → (isCls x ≡ false → nullT x ≡ nullT y)
-    → ((b : ℕ) → b < 256 → bit (classOf x) b ≡ bit (classOf y) b) → ((b : ℕ) → b < 256 → bit (loopT x) b ≡ bit (loopT y) b) → x ≡ y
+same : (x y : Token) → Fine x → Fine y → isOpen x ≡ isOpen y → isClose x ≡ isClose y → (isClose x ≡ false → tokenSkips x ≡ tokenSkips y)
+    → ((b : ℕ) → b < 256 → bit (classOf x) b ≡ bit (classOf y) b) → ((b : ℕ) → b < 256 → bit (tokenLoop x) b ≡ bit (tokenLoop y) b) → x ≡ y
 same (aLetter c p) (aLetter d q) f g o k n h l = cc (e, rep-eq p q (n refl) (cond-eq (canLoop p) (canLoop q) c (f .0) r))
   where
     e : c ≡ d
@@ -140,16 +140,16 @@ pub one-tree : (s s′ : Seq) → AllFine (tokens s []) → AllFine (tokens s′
     → ((i : ℕ) → i < seqEnd s 0 → opens (arcs s 0 0) i ≡ opens (arcs s′ 0 0) i)
     → ((i : ℕ) → i < seqEnd s 0 → closes (arcs s 0 0) i ≡ closes (arcs s′ 0 0) i)
     → ((i : ℕ) → i < seqEnd s 0 → skips (arcs s 0 0) i ≡ skips (arcs s′ 0 0) i)
-    → ((b i : ℕ) → b < 256 → i < seqEnd s 0 → letB (arcs s 0 0) b (suc i) ≡ letB (arcs s′ 0 0) b (suc i))
-    → ((b i : ℕ) → b < 256 → i < seqEnd s 0 → repB (arcs s 0 0) b (suc i) ≡ repB (arcs s′ 0 0) b (suc i))
+    → ((b i : ℕ) → b < 256 → i < seqEnd s 0 → letterSet (arcs s 0 0) b (suc i) ≡ letterSet (arcs s′ 0 0) b (suc i))
+    → ((b i : ℕ) → b < 256 → i < seqEnd s 0 → loopSet (arcs s 0 0) b (suc i) ≡ loopSet (arcs s′ 0 0) b (suc i))
     → s ≡ s′
 one-tree s s′ F F′ m ho hc hs hl hr =
-    toks-inj s s′ (ext-getD aClose (tokens s []) (tokens s′ []) (omega (arith, count s 0 [], count s′ 0 [])) (λ i k. at i (omega (arith, count s 0 []))))
+    tokens-inj s s′ (ext-getD aClose (tokens s []) (tokens s′ []) (omega (arith, count s 0 [], count s′ 0 [])) (λ i k. at i (omega (arith, count s 0 []))))
   where
     at : (i : ℕ) → i < seqEnd s 0 → token s i ≡ token s′ i
     at i l =
         let l′ : i < seqEnd s′ 0 = omega arith in
-        let k : isCls (token s i) ≡ isCls (token s′ i) = sym (closes-show s i l) ∙ hc i l ∙ closes-show s′ i l′ in
+        let k : isClose (token s i) ≡ isClose (token s′ i) = sym (closes-show s i l) ∙ hc i l ∙ closes-show s′ i l′ in
         same (token s i) (token s′ i) (fine-at (tokens s []) i F) (fine-at (tokens s′ []) i F′)
         (sym (opens-show s i l) ∙ ho i l ∙ opens-show s′ i l′) k
         (λ z. sym (skips-show s i l z) ∙ hs i l ∙ skips-show s′ i l′ (sym k ∙ z))

@@ -11,22 +11,22 @@ use Rattle.model.specs.Bits.{bit, digit, mask}
 use Rattle.model.specs.Tree.{Alts, Seq, canSkip, end, last, letter, more, union}
 use Rattle.model.specs.Edges.{altsDepth, altsEmpty, altsEnd, depth, seqEmpty, seqEnd}
 use Rattle.model.specs.Image.{join, section, width, words}
-use Rattle.model.proofs.Ends.Run.{letB, loopsK, repB, takesK}
+use Rattle.model.proofs.Ends.Run.{letterSet, loopsByte, loopSet, takesByte}
 use Rattle.model.proofs.Image.Fine.{count, loops-show}
-use Rattle.model.proofs.Image.LayOut.{Frame, Scan, Which, begin, entersP, frame, gatherBlockP, gatherSourceP, gatherTargetP, isEnd, layOut, leavesP, letterPlaces, loopPlaces, scan, scatterBlockP, scatterSourceP, scatterTargetP, step}
+use Rattle.model.proofs.Image.LayOut.{Frame, Scan, Which, begin, entering, frame, gather-block, gather-source, gather-target, isEnd, layOut, leaving, letter-place, loop-place, scan, scatter-block, scatter-source, scatter-target, step}
 use Rattle.model.proofs.Image.Places.{lay-blkG, lay-blkS, lay-innP, lay-outP, lay-srcG, lay-srcS, lay-tgtG, lay-tgtS}
 use Rattle.model.proofs.Image.Sets.{arcImage}
-use Rattle.model.proofs.Image.Shown.{Says, loopT, says, token}
+use Rattle.model.proofs.Image.Shown.{Says, tokenLoop, says, token}
 use Rattle.model.proofs.Image.Tokens.{Token, aBar, aClose, aLetter, altsTokens, anOpen, classOf, letters-show, tokens}
 use Rattle.model.proofs.Image.Valid.{reach, valid}
 use Rattle.model.proofs.Language.Arcs.{Arc, ArcKind, arcs, forkArc, letterArc, loopArc, propagateArc}
 use Rattle.model.proofs.Laws.Bool.{and-split, same-truth}
 use Rattle.model.proofs.Laws.Lists.{any-out}
-use Rattle.model.proofs.Words.Gather.{blockG, sourceG}
-use Rattle.model.proofs.Words.InOrder.{forksOf, propsOf}
-use Rattle.model.proofs.Words.Passes.{targetG, targetS}
-use Rattle.model.proofs.Words.Propagate.{ins, outs}
-use Rattle.model.proofs.Words.Scatter.{blockS, sourceS}
+use Rattle.model.proofs.Words.Gather.{gatherBlockOf, gatherSourceOf}
+use Rattle.model.proofs.Words.InOrder.{forksOf, propagatesOf}
+use Rattle.model.proofs.Words.Passes.{gatherTargetOf, scatterTargetOf}
+use Rattle.model.proofs.Words.Propagate.{entersOf, leavesOf}
+use Rattle.model.proofs.Words.Scatter.{scatterBlockOf, scatterSourceOf}
 
 -- ---- the depth that the scan reaches is that of the tree
 abbrev mutual
@@ -98,36 +98,36 @@ set m W f = words W (mask m f)
 abbrev pub three : ℕ → ℕ → (ℕ → Bool) → (ℕ → Bool) → (ℕ → Bool) → List ℕ
 three m W f g h = set m W f ++ (set m W g ++ set m W h)
 
-abbrev pub blkP : (Which → ℕ → ℕ → Bool) → ℕ → ℕ → Bool
-blkP B k x = B leavesP k x || B entersP k x
+abbrev pub blockOf : (Which → ℕ → ℕ → Bool) → ℕ → ℕ → Bool
+blockOf B k x = B leaving k x || B entering k x
 
-abbrev pub srcP : (Which → ℕ → ℕ → Bool) → ℕ → ℕ → Bool
-srcP B k x = B leavesP k x && not (B entersP k x)
+abbrev pub sourceOf : (Which → ℕ → ℕ → Bool) → ℕ → ℕ → Bool
+sourceOf B k x = B leaving k x && not (B entering k x)
 
-abbrev pub tgtP : (Which → ℕ → ℕ → Bool) → ℕ → ℕ → Bool
-tgtP B k x = B entersP k x && not (B leavesP k x)
+abbrev pub targetOf : (Which → ℕ → ℕ → Bool) → ℕ → ℕ → Bool
+targetOf B k x = B entering k x && not (B leaving k x)
 
 abbrev pub build : ℕ → ℕ → ℕ → (ℕ → ℕ → Bool) → (ℕ → ℕ → Bool) → (Which → ℕ → ℕ → Bool) → List ℕ
 build m W d L R B =
     section (m ∷ W ∷ d ∷ [])
     ++ (section (join 256 0 (λ b. set m W (L b)))
     ++ (section (join 256 0 (λ b. set m W (R b)))
-    ++ (section (join d 0 (λ k. three m W (B scatterBlockP k) (B scatterSourceP k) (B scatterTargetP k)))
-    ++ (section (join d 0 (λ k. three m W (B gatherBlockP k) (B gatherSourceP k) (B gatherTargetP k)))
-    ++ section (join (suc d) 0 (λ k. three m W (blkP B k) (srcP B k) (tgtP B k)))))))
+    ++ (section (join d 0 (λ k. three m W (B scatter-block k) (B scatter-source k) (B scatter-target k)))
+    ++ (section (join d 0 (λ k. three m W (B gather-block k) (B gather-source k) (B gather-target k)))
+    ++ section (join (suc d) 0 (λ k. three m W (blockOf B k) (sourceOf B k) (targetOf B k)))))))
 
 -- the letters and the loops by the tokens
-abbrev pub letL : List Token → ℕ → ℕ → Bool
-letL l b zero = false
-letL l b (suc i) = bit (classOf (getD l i aClose)) b
+abbrev pub tokenLetters : List Token → ℕ → ℕ → Bool
+tokenLetters l b zero = false
+tokenLetters l b (suc i) = bit (classOf (getD l i aClose)) b
 
-abbrev pub repL : List Token → ℕ → ℕ → Bool
-repL l b zero = false
-repL l b (suc i) = bit (loopT (getD l i aClose)) b
+abbrev pub tokenLoops : List Token → ℕ → ℕ → Bool
+tokenLoops l b zero = false
+tokenLoops l b (suc i) = bit (tokenLoop (getD l i aClose)) b
 
 -- THE IMAGE OF A ROW OF TOKENS
 abbrev pub laid : List Token → List ℕ
-laid l = build (suc (length l)) (width (suc (length l))) (reach l begin) (letL l) (repL l) (layOut l begin)
+laid l = build (suc (length l)) (width (suc (length l))) (reach l begin) (tokenLetters l) (tokenLoops l) (layOut l begin)
 
 -- ---- parts that agree below m
 pub mask-same : (m : ℕ) (f g : ℕ → Bool) → ((x : ℕ) → x < m → f x ≡ g x) → mask m f ≡ mask m g
@@ -150,85 +150,85 @@ build-same m W d L R L′ R′ B B′ hl hr hb =
     λ i. section (m ∷ W ∷ d ∷ [])
     ++ (section (join-same 256 0 (λ b. set m W (L b)) (λ b. set m W (L′ b)) (λ b. set-same m W (L b) (L′ b) (hl b)) i)
     ++ (section (join-same 256 0 (λ b. set m W (R b)) (λ b. set m W (R′ b)) (λ b. set-same m W (R b) (R′ b) (hr b)) i)
-    ++ (section (join d 0 (λ k. three m W (λ x. hb scatterBlockP k x i) (λ x. hb scatterSourceP k x i) (λ x. hb scatterTargetP k x i)))
-    ++ (section (join d 0 (λ k. three m W (λ x. hb gatherBlockP k x i) (λ x. hb gatherSourceP k x i) (λ x. hb gatherTargetP k x i)))
-    ++ section (join (suc d) 0 (λ k. three m W (blkP (λ w k x. hb w k x i) k) (srcP (λ w k x. hb w k x i) k) (tgtP (λ w k x. hb w k x i) k)))))))
+    ++ (section (join d 0 (λ k. three m W (λ x. hb scatter-block k x i) (λ x. hb scatter-source k x i) (λ x. hb scatter-target k x i)))
+    ++ (section (join d 0 (λ k. three m W (λ x. hb gather-block k x i) (λ x. hb gather-source k x i) (λ x. hb gather-target k x i)))
+    ++ section (join (suc d) 0 (λ k. three m W (blockOf (λ w k x. hb w k x i) k) (sourceOf (λ w k x. hb w k x i) k) (targetOf (λ w k x. hb w k x i) k)))))))
 
 -- ---- the tree's own sets
-abbrev pub treeB : Seq → Which → ℕ → ℕ → Bool
-treeB s letterPlaces k x = layOut (tokens s []) begin letterPlaces k x
-treeB s loopPlaces k x = layOut (tokens s []) begin loopPlaces k x
-treeB s scatterBlockP k x = blockS (forksOf k (arcs s 0 0)) x
-treeB s scatterSourceP k x = sourceS (forksOf k (arcs s 0 0)) x
-treeB s scatterTargetP k x = targetS (forksOf k (arcs s 0 0)) x
-treeB s gatherBlockP k x = blockG (forksOf k (arcs s 0 0)) x
-treeB s gatherSourceP k x = sourceG (forksOf k (arcs s 0 0)) x
-treeB s gatherTargetP k x = targetG (forksOf k (arcs s 0 0)) x
-treeB s leavesP k x = outs (propsOf k (arcs s 0 0)) x
-treeB s entersP k x = ins (propsOf k (arcs s 0 0)) x
+abbrev pub treeSet : Seq → Which → ℕ → ℕ → Bool
+treeSet s letter-place k x = layOut (tokens s []) begin letter-place k x
+treeSet s loop-place k x = layOut (tokens s []) begin loop-place k x
+treeSet s scatter-block k x = scatterBlockOf (forksOf k (arcs s 0 0)) x
+treeSet s scatter-source k x = scatterSourceOf (forksOf k (arcs s 0 0)) x
+treeSet s scatter-target k x = scatterTargetOf (forksOf k (arcs s 0 0)) x
+treeSet s gather-block k x = gatherBlockOf (forksOf k (arcs s 0 0)) x
+treeSet s gather-source k x = gatherSourceOf (forksOf k (arcs s 0 0)) x
+treeSet s gather-target k x = gatherTargetOf (forksOf k (arcs s 0 0)) x
+treeSet s leaving k x = leavesOf (propagatesOf k (arcs s 0 0)) x
+treeSet s entering k x = entersOf (propagatesOf k (arcs s 0 0)) x
 
-pub tree-sets : (s : Seq) (w : Which) (k x : ℕ) → layOut (tokens s []) begin w k x ≡ treeB s w k x
-tree-sets s letterPlaces k x = refl
-tree-sets s loopPlaces k x = refl
-tree-sets s scatterBlockP k x = lay-blkS s k x
-tree-sets s scatterSourceP k x = lay-srcS s k x
-tree-sets s scatterTargetP k x = lay-tgtS s k x
-tree-sets s gatherBlockP k x = lay-blkG s k x
-tree-sets s gatherSourceP k x = lay-srcG s k x
-tree-sets s gatherTargetP k x = lay-tgtG s k x
-tree-sets s leavesP k x = lay-outP s k x
-tree-sets s entersP k x = lay-innP s k x
+pub tree-sets : (s : Seq) (w : Which) (k x : ℕ) → layOut (tokens s []) begin w k x ≡ treeSet s w k x
+tree-sets s letter-place k x = refl
+tree-sets s loop-place k x = refl
+tree-sets s scatter-block k x = lay-blkS s k x
+tree-sets s scatter-source k x = lay-srcS s k x
+tree-sets s scatter-target k x = lay-tgtS s k x
+tree-sets s gather-block k x = lay-blkG s k x
+tree-sets s gather-source k x = lay-srcG s k x
+tree-sets s gather-target k x = lay-tgtG s k x
+tree-sets s leaving k x = lay-outP s k x
+tree-sets s entering k x = lay-innP s k x
 
-no-letter-0 : (s : Seq) (b : ℕ) → letB (arcs s 0 0) b 0 ≡ false
-no-letter-0 s b = same-truth (letB (arcs s 0 0) b 0) false out (λ h. absurd h)
+no-letter-0 : (s : Seq) (b : ℕ) → letterSet (arcs s 0 0) b 0 ≡ false
+no-letter-0 s b = same-truth (letterSet (arcs s 0 0) b 0) false out (λ h. absurd h)
   where
-    is : (e : Arc) (w : ArcKind) → Says (token s) w (e .from) (e .to) → T (takesK b w) → 0 ≡ e .to → ⊥
+    is : (e : Arc) (w : ArcKind) → Says (token s) w (e .from) (e .to) → T (takesByte b w) → 0 ≡ e .to → ⊥
     is e (letterArc c) m h q = omega (arith, m .0)
     is e (loopArc c) m h q = absurd h
     is e propagateArc m h q = absurd h
     is e (forkArc xs) m h q = absurd h
 
-    out : T (letB (arcs s 0 0) b 0) → ⊥
+    out : T (letterSet (arcs s 0 0) b 0) → ⊥
     out h =
-        let r = any-out (λ e. takesK b (e .kind) && eqb 0 (e .to)) (arcs s 0 0) h in
-        let c = and-split (takesK b (r .0 .kind)) (eqb 0 (r .0 .to)) (r .2) in
+        let r = any-out (λ e. takesByte b (e .kind) && eqb 0 (e .to)) (arcs s 0 0) h in
+        let c = and-split (takesByte b (r .0 .kind)) (eqb 0 (r .0 .to)) (r .2) in
         is (r .0) (r .0 .kind) (says s (r .0) (r .1)) (c .0) (eqb→eq 0 (r .0 .to) (c .1))
 
-no-loop-0 : (s : Seq) (b : ℕ) → repB (arcs s 0 0) b 0 ≡ false
-no-loop-0 s b = same-truth (repB (arcs s 0 0) b 0) false out (λ h. absurd h)
+no-loop-0 : (s : Seq) (b : ℕ) → loopSet (arcs s 0 0) b 0 ≡ false
+no-loop-0 s b = same-truth (loopSet (arcs s 0 0) b 0) false out (λ h. absurd h)
   where
-    is : (e : Arc) (w : ArcKind) → Says (token s) w (e .from) (e .to) → T (loopsK b w) → 0 ≡ e .to → ⊥
+    is : (e : Arc) (w : ArcKind) → Says (token s) w (e .from) (e .to) → T (loopsByte b w) → 0 ≡ e .to → ⊥
     is e (letterArc c) m h q = absurd h
     is e (loopArc c) m h q = omega (arith, m .0, m .3)
     is e propagateArc m h q = absurd h
     is e (forkArc xs) m h q = absurd h
 
-    out : T (repB (arcs s 0 0) b 0) → ⊥
+    out : T (loopSet (arcs s 0 0) b 0) → ⊥
     out h =
-        let r = any-out (λ e. loopsK b (e .kind) && eqb 0 (e .to)) (arcs s 0 0) h in
-        let c = and-split (loopsK b (r .0 .kind)) (eqb 0 (r .0 .to)) (r .2) in
+        let r = any-out (λ e. loopsByte b (e .kind) && eqb 0 (e .to)) (arcs s 0 0) h in
+        let c = and-split (loopsByte b (r .0 .kind)) (eqb 0 (r .0 .to)) (r .2) in
         is (r .0) (r .0 .kind) (says s (r .0) (r .1)) (c .0) (eqb→eq 0 (r .0 .to) (c .1))
 
-pub let-is : (s : Seq) (b x : ℕ) → x < suc (seqEnd s 0) → letL (tokens s []) b x ≡ letB (arcs s 0 0) b x
+pub let-is : (s : Seq) (b x : ℕ) → x < suc (seqEnd s 0) → tokenLetters (tokens s []) b x ≡ letterSet (arcs s 0 0) b x
 let-is s b zero h = sym (no-letter-0 s b)
 let-is s b (suc i) h = sym (letters-show s b i (le-of-suc-le-suc h))
 
-pub rep-is : (s : Seq) (b x : ℕ) → x < suc (seqEnd s 0) → repL (tokens s []) b x ≡ repB (arcs s 0 0) b x
+pub rep-is : (s : Seq) (b x : ℕ) → x < suc (seqEnd s 0) → tokenLoops (tokens s []) b x ≡ loopSet (arcs s 0 0) b x
 rep-is s b zero h = sym (no-loop-0 s b)
 rep-is s b (suc i) h = sym (loops-show s b i (le-of-suc-le-suc h))
 
-pub length-toks : (s : Seq) → length (tokens s []) ≡ seqEnd s 0
-length-toks s = omega (arith, count s 0 [])
+pub length-tokens : (s : Seq) → length (tokens s []) ≡ seqEnd s 0
+length-tokens s = omega (arith, count s 0 [])
 
 -- the image is built of the tree's sets
-pub image-built : (s : Seq) → arcImage s ≡ build (suc (seqEnd s 0)) (width (suc (seqEnd s 0))) (depth s) (letB (arcs s 0 0)) (repB (arcs s 0 0)) (treeB s)
+pub image-built : (s : Seq) → arcImage s ≡ build (suc (seqEnd s 0)) (width (suc (seqEnd s 0))) (depth s) (letterSet (arcs s 0 0)) (loopSet (arcs s 0 0)) (treeSet s)
 image-built s = refl
 
 -- THE THEOREM: what is laid out for a tree's tokens is the tree's image
 pub laid-is : (s : Seq) → laid (tokens s []) ≡ arcImage s
 laid-is s =
-    (λ i. build (suc (length-toks s i)) (width (suc (length-toks s i))) (reach-is s i) (letL (tokens s [])) (repL (tokens s [])) (layOut (tokens s []) begin))
-    ∙ build-same (suc (seqEnd s 0)) (width (suc (seqEnd s 0))) (depth s) (letL (tokens s [])) (repL (tokens s [])) (letB (arcs s 0 0)) (repB (arcs s 0 0)) (layOut (tokens s []) begin) (treeB s) (let-is s) (rep-is s) (tree-sets s)
+    (λ i. build (suc (length-tokens s i)) (width (suc (length-tokens s i))) (reach-is s i) (tokenLetters (tokens s [])) (tokenLoops (tokens s [])) (layOut (tokens s []) begin))
+    ∙ build-same (suc (seqEnd s 0)) (width (suc (seqEnd s 0))) (depth s) (tokenLetters (tokens s [])) (tokenLoops (tokens s [])) (letterSet (arcs s 0 0)) (loopSet (arcs s 0 0)) (layOut (tokens s []) begin) (treeSet s) (let-is s) (rep-is s) (tree-sets s)
     ∙ sym (image-built s)
 
 -- a valid row stays within depth 8

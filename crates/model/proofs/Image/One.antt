@@ -15,16 +15,16 @@ use Rattle.model.proofs.Ends.Stops.{StopsAt}
 use Rattle.model.proofs.Image.Apart.{depthWord, tape}
 use Rattle.model.proofs.Image.Fine.{AllFine}
 use Rattle.model.proofs.Image.Sets.{arcImage}
-use Rattle.model.proofs.Image.Tokens.{tokens, toks-inj}
+use Rattle.model.proofs.Image.Tokens.{tokens, tokens-inj}
 use Rattle.model.proofs.Image.Valid.{good-full}
 use Rattle.model.proofs.Image.Verdict.{IsImage, is-image, isImage, tape-is}
 use Rattle.model.proofs.Language.Stretches.{feed}
-use Rattle.model.proofs.Words.Bits.{val}
-use Rattle.model.proofs.Words.Run.{Bytes, image-ends, imageMasks, runW}
+use Rattle.model.proofs.Words.Bits.{value}
+use Rattle.model.proofs.Words.Run.{Bytes, image-ends, imageMasks, runWords}
 
 -- the image determines the tree
 pub image-inj : (s s′ : Seq) → AllFine (tokens s []) → AllFine (tokens s′ []) → arcImage s ≡ arcImage s′ → s ≡ s′
-image-inj s s′ F F′ e = toks-inj s s′ (sym (tape-is s F) ∙ ap tape e ∙ tape-is s′ F′)
+image-inj s s′ F F′ e = tokens-inj s s′ (sym (tape-is s F) ∙ ap tape e ∙ tape-is s′ F′)
 
 -- at most one tree for words
 pub one-image : (ws : List ℕ) (s s′ : Seq) → IsImage ws s → IsImage ws s′ → s ≡ s′
@@ -43,7 +43,7 @@ no-image ws = (λ e s I. no-both ws s e (is-image ws s .1 I), λ f. go (isImage 
 
 -- the run on words that are an image gives the ends of the tree whose image they are
 pub words-ends : (ws : List ℕ) (s : Seq) → isImage ws ≡ some s → (text : List ℕ) (p : ℕ) → Bytes (feed [] (take p text))
-    → T (bit (val (runW (imageMasks ws) (depthWord ws) (feed [] (take p text)))) (seqEnd s 0)) ↔ StopsAt s text p
+    → T (bit (value (runWords (imageMasks ws) (depthWord ws) (feed [] (take p text)))) (seqEnd s 0)) ↔ StopsAt s text p
 words-ends ws s e text p h =
     let I = is-image ws s .0 e in
-    subst (λ (z : List ℕ). T (bit (val (runW (imageMasks z) (depthWord z) (feed [] (take p text)))) (seqEnd s 0)) ↔ StopsAt s text p) (sym (I .words)) (image-ends s (good-full s (I .good)) text p h)
+    subst (λ (z : List ℕ). T (bit (value (runWords (imageMasks z) (depthWord z) (feed [] (take p text)))) (seqEnd s 0)) ↔ StopsAt s text p) (sym (I .words)) (image-ends s (good-full s (I .good)) text p h)

@@ -6,13 +6,13 @@ use Rattle.model.specs.Bits.{mask}
 use Rattle.model.specs.Tree.{Seq}
 use Rattle.model.specs.Edges.{depth, seqEnd}
 use Rattle.model.specs.Image.{join, section, words}
-use Rattle.model.proofs.Ends.Run.{letB, repB}
+use Rattle.model.proofs.Ends.Run.{letterSet, loopSet}
 use Rattle.model.proofs.Language.Arcs.{Arc, arcs}
-use Rattle.model.proofs.Words.Gather.{blockG, sourceG}
-use Rattle.model.proofs.Words.InOrder.{forksOf, propsOf}
-use Rattle.model.proofs.Words.Passes.{targetG, targetS}
-use Rattle.model.proofs.Words.Propagate.{ins, outs}
-use Rattle.model.proofs.Words.Scatter.{blockS, sourceS}
+use Rattle.model.proofs.Words.Gather.{gatherBlockOf, gatherSourceOf}
+use Rattle.model.proofs.Words.InOrder.{forksOf, propagatesOf}
+use Rattle.model.proofs.Words.Passes.{gatherTargetOf, scatterTargetOf}
+use Rattle.model.proofs.Words.Propagate.{entersOf, leavesOf}
+use Rattle.model.proofs.Words.Scatter.{scatterBlockOf, scatterSourceOf}
 
 module _ (s : Seq) where
   abbrev m : ℕ
@@ -33,8 +33,8 @@ module _ (s : Seq) where
   abbrev pub arcImage : List ℕ
   arcImage =
       section (m ∷ W ∷ d ∷ [])
-      ++ (section (join 256 0 (λ b. set (letB es b)))
-      ++ (section (join 256 0 (λ b. set (repB es b)))
-      ++ (section (join d 0 (λ k. set (blockS (forksOf k es)) ++ (set (sourceS (forksOf k es)) ++ set (targetS (forksOf k es)))))
-      ++ (section (join d 0 (λ k. set (blockG (forksOf k es)) ++ (set (sourceG (forksOf k es)) ++ set (targetG (forksOf k es)))))
-      ++ section (join (suc d) 0 (λ k. set (λ x. outs (propsOf k es) x || ins (propsOf k es) x) ++ (set (λ x. outs (propsOf k es) x && not (ins (propsOf k es) x)) ++ set (λ x. ins (propsOf k es) x && not (outs (propsOf k es) x)))))))))
+      ++ (section (join 256 0 (λ b. set (letterSet es b)))
+      ++ (section (join 256 0 (λ b. set (loopSet es b)))
+      ++ (section (join d 0 (λ k. set (scatterBlockOf (forksOf k es)) ++ (set (scatterSourceOf (forksOf k es)) ++ set (scatterTargetOf (forksOf k es)))))
+      ++ (section (join d 0 (λ k. set (gatherBlockOf (forksOf k es)) ++ (set (gatherSourceOf (forksOf k es)) ++ set (gatherTargetOf (forksOf k es)))))
+      ++ section (join (suc d) 0 (λ k. set (λ x. leavesOf (propagatesOf k es) x || entersOf (propagatesOf k es) x) ++ (set (λ x. leavesOf (propagatesOf k es) x && not (entersOf (propagatesOf k es) x)) ++ set (λ x. entersOf (propagatesOf k es) x && not (leavesOf (propagatesOf k es) x)))))))))

@@ -12,7 +12,7 @@ use Rattle.model.specs.Lists.{All, any}
 use Rattle.model.specs.Tree.{Alts, Repeat, Seq, canLoop, canSkip, end, last, letter, more, union}
 use Rattle.model.specs.Edges.{Way, altsEnd, seqEnd, ways}
 use Rattle.model.proofs.Image.Tokens.{Shows, ShowsA, Token, aBar, aClose, aLetter, anOpen, shows, tokens}
-use Rattle.model.proofs.Language.Arcs.{Arc, ArcKind, Branch, Letter, arc, arcs, branch-parts, branch-whole, forkArc, inner, letter-parts, letter-whole, letterArc, loopArc, propagateArc}
+use Rattle.model.proofs.Language.Arcs.{Arc, ArcKind, Branch, Letter, arc, arcs, branch-parts, branch-whole, forkArc, altsArcs, letter-parts, letter-whole, letterArc, loopArc, propagateArc}
 use Rattle.model.proofs.Laws.Bool.{and-split, le-or-lt, same-truth}
 use Rattle.model.proofs.Laws.Lists.{In, all-app, all-in, all-left, all-right, any-in, any-out, in-all}
 
@@ -44,9 +44,9 @@ module _ (K : ℕ → Token) where
         branch-whole Told a s t k (record
         { skips = λ x. by-union (altsEnd a t) refl (last-cls a t (S .1)); forks = (S .0, altsEnd a t, refl, last-cls a t (S .1)); alts = toldA a t k (S .1); rest = told s (suc (altsEnd a t)) k (S .2) })
 
-    toldA : (a : Alts) (p k : ℕ) → ShowsA K a p → All Told (inner a p k)
+    toldA : (a : Alts) (p k : ℕ) → ShowsA K a p → All Told (altsArcs a p k)
     toldA (last s) p k S = told s (suc p) (suc k) (S .0)
-    toldA (more s a) p k S = all-app Told (arcs s (suc p) (suc k)) (inner a (seqEnd s (suc p)) k) (told s (suc p) (suc k) (S .0)) (toldA a (seqEnd s (suc p)) k (S .2))
+    toldA (more s a) p k S = all-app Told (arcs s (suc p) (suc k)) (altsArcs a (seqEnd s (suc p)) k) (told s (suc p) (suc k) (S .0)) (toldA a (seqEnd s (suc p)) k (S .2))
 
 -- what a token says of the arcs
 module _ (K : ℕ → Token) (E : Arc → Type 0) where
@@ -81,15 +81,15 @@ module _ (K : ℕ → Token) (E : Arc → Type 0) where
         go (inr m) (inl n) f g = f m n
         go (inr m) (inr n) f g = g n
 
-    thereA : (a : Alts) (p k : ℕ) → ShowsA K a p → All E (inner a p k) → Owns aClose (altsEnd a p) → (i : ℕ) → p < i → i ≤ altsEnd a p → Owns (K i) i
+    thereA : (a : Alts) (p k : ℕ) → ShowsA K a p → All E (altsArcs a p k) → Owns aClose (altsEnd a p) → (i : ℕ) → p < i → i ≤ altsEnd a p → Owns (K i) i
     thereA (last s) p k S A o i h l = go (eq-or-lt-of-le l) (λ m. there s (suc p) (suc k) (S .0) A i h m)
       where
         go : (i ≡ seqEnd s (suc p)) ⊎ (i < seqEnd s (suc p)) → (i < seqEnd s (suc p) → Owns (K i) i) → Owns (K i) i
         go (inl q) f = here (seqEnd s (suc p)) i aClose (sym q) (S .1) o
         go (inr m) f = f m
     thereA (more s a) p k S A o i h l =
-        go (le-or-lt i z) (λ m. there s (suc p) (suc k) (S .0) (all-left E (arcs s (suc p) (suc k)) (inner a z k) A) i h m)
-        (λ m. thereA a (seqEnd s (suc p)) k (S .2) (all-right E (arcs s (suc p) (suc k)) (inner a z k) A) o i m l)
+        go (le-or-lt i z) (λ m. there s (suc p) (suc k) (S .0) (all-left E (arcs s (suc p) (suc k)) (altsArcs a z k) A) i h m)
+        (λ m. thereA a (seqEnd s (suc p)) k (S .2) (all-right E (arcs s (suc p) (suc k)) (altsArcs a z k) A) o i m l)
       where
         z : ℕ
         z = seqEnd s (suc p)
@@ -103,50 +103,50 @@ module _ (K : ℕ → Token) (E : Arc → Type 0) where
         go (inr m) f g = g m
 
 -- ---- the five tests at a place between two states
-abbrev pub isF : ArcKind → Bool
-isF (letterArc c) = false
-isF (loopArc c) = false
-isF propagateArc = false
-isF (forkArc xs) = true
+abbrev pub isFork : ArcKind → Bool
+isFork (letterArc c) = false
+isFork (loopArc c) = false
+isFork propagateArc = false
+isFork (forkArc xs) = true
 
-abbrev pub isP : ArcKind → Bool
-isP (letterArc c) = false
-isP (loopArc c) = false
-isP propagateArc = true
-isP (forkArc xs) = false
+abbrev pub isPropagate : ArcKind → Bool
+isPropagate (letterArc c) = false
+isPropagate (loopArc c) = false
+isPropagate propagateArc = true
+isPropagate (forkArc xs) = false
 
 abbrev pub opens : List Arc → ℕ → Bool
-opens es i = any (λ e. isF (e .kind) && eqb i (e .from)) es
+opens es i = any (λ e. isFork (e .kind) && eqb i (e .from)) es
 
 abbrev pub closes : List Arc → ℕ → Bool
-closes es i = any (λ e. isF (e .kind) && eqb (suc i) (e .to)) es
+closes es i = any (λ e. isFork (e .kind) && eqb (suc i) (e .to)) es
 
 abbrev pub skips : List Arc → ℕ → Bool
-skips es i = any (λ e. isP (e .kind) && eqb (suc i) (e .to)) es
+skips es i = any (λ e. isPropagate (e .kind) && eqb (suc i) (e .to)) es
 
-abbrev pub isOpn : Token → Bool
-isOpn (aLetter c p) = false
-isOpn anOpen = true
-isOpn aBar = false
-isOpn aClose = false
+abbrev pub isOpen : Token → Bool
+isOpen (aLetter c p) = false
+isOpen anOpen = true
+isOpen aBar = false
+isOpen aClose = false
 
-abbrev pub isCls : Token → Bool
-isCls (aLetter c p) = false
-isCls anOpen = false
-isCls aBar = false
-isCls aClose = true
+abbrev pub isClose : Token → Bool
+isClose (aLetter c p) = false
+isClose anOpen = false
+isClose aBar = false
+isClose aClose = true
 
-abbrev pub nullT : Token → Bool
-nullT (aLetter c p) = canSkip p
-nullT anOpen = false
-nullT aBar = false
-nullT aClose = false
+abbrev pub tokenSkips : Token → Bool
+tokenSkips (aLetter c p) = canSkip p
+tokenSkips anOpen = false
+tokenSkips aBar = false
+tokenSkips aClose = false
 
-abbrev pub loopT : Token → ℕ
-loopT (aLetter c p) = cond (canLoop p) c 0
-loopT anOpen = 0
-loopT aBar = 0
-loopT aClose = 0
+abbrev pub tokenLoop : Token → ℕ
+tokenLoop (aLetter c p) = cond (canLoop p) c 0
+tokenLoop anOpen = 0
+tokenLoop aBar = 0
+tokenLoop aClose = 0
 
 module _ (s : Seq) where
   abbrev pub token : ℕ → Token
@@ -164,70 +164,70 @@ module _ (s : Seq) where
   pub owns : (i : ℕ) → i < seqEnd s 0 → Owns token (In es) (token i) i
   owns i l = there token (In es) s 0 0 shown (in-all es) i (omega arith) l
 
-  pub opens-show : (i : ℕ) → i < seqEnd s 0 → opens es i ≡ isOpn (token i)
-  opens-show i l = same-truth (opens es i) (isOpn (token i)) out (λ h. in′ (token i) refl (owns i l) h)
+  pub opens-show : (i : ℕ) → i < seqEnd s 0 → opens es i ≡ isOpen (token i)
+  opens-show i l = same-truth (opens es i) (isOpen (token i)) out (λ h. in′ (token i) refl (owns i l) h)
     where
-      is : (e : Arc) (w : ArcKind) → Says token w (e .from) (e .to) → T (isF w) → i ≡ e .from → T (isOpn (token i))
+      is : (e : Arc) (w : ArcKind) → Says token w (e .from) (e .to) → T (isFork w) → i ≡ e .from → T (isOpen (token i))
       is e (letterArc c) m h q = absurd h
       is e (loopArc c) m h q = absurd h
       is e propagateArc m h q = absurd h
-      is e (forkArc xs) m h q = subst (λ (x : Token). T (isOpn x)) (sym (ap token q ∙ m .0)) tt
+      is e (forkArc xs) m h q = subst (λ (x : Token). T (isOpen x)) (sym (ap token q ∙ m .0)) tt
 
-      out : T (opens es i) → T (isOpn (token i))
+      out : T (opens es i) → T (isOpen (token i))
       out h =
-          let r = any-out (λ e. isF (e .kind) && eqb i (e .from)) es h in
-          let c = and-split (isF (r .0 .kind)) (eqb i (r .0 .from)) (r .2) in
+          let r = any-out (λ e. isFork (e .kind) && eqb i (e .from)) es h in
+          let c = and-split (isFork (r .0 .kind)) (eqb i (r .0 .from)) (r .2) in
           is (r .0) (r .0 .kind) (says (r .0) (r .1)) (c .0) (eqb→eq i (r .0 .from) (c .1))
 
-      in′ : (x : Token) → token i ≡ x → Owns token (In es) x i → T (isOpn x) → T (opens es i)
+      in′ : (x : Token) → token i ≡ x → Owns token (In es) x i → T (isOpen x) → T (opens es i)
       in′ (aLetter c p) e o h = absurd h
-      in′ anOpen e o h = any-in (λ e. isF (e .kind) && eqb i (e .from)) es (arc (forkArc (o .0)) (o .1) i (o .2)) (o .3) (eqb-refl i)
+      in′ anOpen e o h = any-in (λ e. isFork (e .kind) && eqb i (e .from)) es (arc (forkArc (o .0)) (o .1) i (o .2)) (o .3) (eqb-refl i)
       in′ aBar e o h = absurd h
       in′ aClose e o h = absurd h
 
-  pub closes-show : (i : ℕ) → i < seqEnd s 0 → closes es i ≡ isCls (token i)
-  closes-show i l = same-truth (closes es i) (isCls (token i)) out (λ h. in′ (token i) refl (owns i l) h)
+  pub closes-show : (i : ℕ) → i < seqEnd s 0 → closes es i ≡ isClose (token i)
+  closes-show i l = same-truth (closes es i) (isClose (token i)) out (λ h. in′ (token i) refl (owns i l) h)
     where
-      is : (e : Arc) (w : ArcKind) → Says token w (e .from) (e .to) → T (isF w) → suc i ≡ e .to → T (isCls (token i))
+      is : (e : Arc) (w : ArcKind) → Says token w (e .from) (e .to) → T (isFork w) → suc i ≡ e .to → T (isClose (token i))
       is e (letterArc c) m h q = absurd h
       is e (loopArc c) m h q = absurd h
       is e propagateArc m h q = absurd h
-      is e (forkArc xs) m h q = let k : i ≡ m .1 = omega (arith, m .2) in subst (λ (x : Token). T (isCls x)) (sym (ap token k ∙ m .3)) tt
+      is e (forkArc xs) m h q = let k : i ≡ m .1 = omega (arith, m .2) in subst (λ (x : Token). T (isClose x)) (sym (ap token k ∙ m .3)) tt
 
-      out : T (closes es i) → T (isCls (token i))
+      out : T (closes es i) → T (isClose (token i))
       out h =
-          let r = any-out (λ e. isF (e .kind) && eqb (suc i) (e .to)) es h in
-          let c = and-split (isF (r .0 .kind)) (eqb (suc i) (r .0 .to)) (r .2) in
+          let r = any-out (λ e. isFork (e .kind) && eqb (suc i) (e .to)) es h in
+          let c = and-split (isFork (r .0 .kind)) (eqb (suc i) (r .0 .to)) (r .2) in
           is (r .0) (r .0 .kind) (says (r .0) (r .1)) (c .0) (eqb→eq (suc i) (r .0 .to) (c .1))
 
-      in′ : (x : Token) → token i ≡ x → Owns token (In es) x i → T (isCls x) → T (closes es i)
+      in′ : (x : Token) → token i ≡ x → Owns token (In es) x i → T (isClose x) → T (closes es i)
       in′ (aLetter c p) e o h = absurd h
       in′ anOpen e o h = absurd h
       in′ aBar e o h = absurd h
-      in′ aClose e o h = any-in (λ e. isF (e .kind) && eqb (suc i) (e .to)) es (arc (forkArc (o .0)) (o .1) (o .2) (suc i)) (o .3) (eqb-refl (suc i))
+      in′ aClose e o h = any-in (λ e. isFork (e .kind) && eqb (suc i) (e .to)) es (arc (forkArc (o .0)) (o .1) (o .2) (suc i)) (o .3) (eqb-refl (suc i))
 
   -- a place that ends no union is passed over without a letter exactly if its letter is
-  pub skips-show : (i : ℕ) → i < seqEnd s 0 → isCls (token i) ≡ false → skips es i ≡ nullT (token i)
-  skips-show i l n = same-truth (skips es i) (nullT (token i)) out (λ h. in′ (token i) refl (owns i l) h)
+  pub skips-show : (i : ℕ) → i < seqEnd s 0 → isClose (token i) ≡ false → skips es i ≡ tokenSkips (token i)
+  skips-show i l n = same-truth (skips es i) (tokenSkips (token i)) out (λ h. in′ (token i) refl (owns i l) h)
     where
-      via : (j : ℕ) (e : Arc) → suc i ≡ e .to → Via token (e .from) (e .to) → T (nullT (token i))
-      via j e q (by-letter c p a b z) = let k : e .from ≡ i = omega arith in subst (λ (x : Token). T (nullT x)) (sym (ap token (sym k) ∙ b)) z
-      via j e q (by-union j′ a b) = let k : i ≡ j′ = omega arith in absurd (subst T n (subst (λ (x : Token). T (isCls x)) (sym (ap token k ∙ b)) tt))
+      via : (j : ℕ) (e : Arc) → suc i ≡ e .to → Via token (e .from) (e .to) → T (tokenSkips (token i))
+      via j e q (by-letter c p a b z) = let k : e .from ≡ i = omega arith in subst (λ (x : Token). T (tokenSkips x)) (sym (ap token (sym k) ∙ b)) z
+      via j e q (by-union j′ a b) = let k : i ≡ j′ = omega arith in absurd (subst T n (subst (λ (x : Token). T (isClose x)) (sym (ap token k ∙ b)) tt))
 
-      is : (e : Arc) (w : ArcKind) → Says token w (e .from) (e .to) → T (isP w) → suc i ≡ e .to → T (nullT (token i))
+      is : (e : Arc) (w : ArcKind) → Says token w (e .from) (e .to) → T (isPropagate w) → suc i ≡ e .to → T (tokenSkips (token i))
       is e (letterArc c) m h q = absurd h
       is e (loopArc c) m h q = absurd h
       is e propagateArc m h q = via 0 e q m
       is e (forkArc xs) m h q = absurd h
 
-      out : T (skips es i) → T (nullT (token i))
+      out : T (skips es i) → T (tokenSkips (token i))
       out h =
-          let r = any-out (λ e. isP (e .kind) && eqb (suc i) (e .to)) es h in
-          let c = and-split (isP (r .0 .kind)) (eqb (suc i) (r .0 .to)) (r .2) in
+          let r = any-out (λ e. isPropagate (e .kind) && eqb (suc i) (e .to)) es h in
+          let c = and-split (isPropagate (r .0 .kind)) (eqb (suc i) (r .0 .to)) (r .2) in
           is (r .0) (r .0 .kind) (says (r .0) (r .1)) (c .0) (eqb→eq (suc i) (r .0 .to) (c .1))
 
-      in′ : (x : Token) → token i ≡ x → Owns token (In es) x i → T (nullT x) → T (skips es i)
-      in′ (aLetter c p) e o h = any-in (λ e. isP (e .kind) && eqb (suc i) (e .to)) es (arc propagateArc (o .0) i (suc i)) (o .3 h) (eqb-refl (suc i))
+      in′ : (x : Token) → token i ≡ x → Owns token (In es) x i → T (tokenSkips x) → T (skips es i)
+      in′ (aLetter c p) e o h = any-in (λ e. isPropagate (e .kind) && eqb (suc i) (e .to)) es (arc propagateArc (o .0) i (suc i)) (o .3 h) (eqb-refl (suc i))
       in′ anOpen e o h = absurd h
       in′ aBar e o h = absurd h
       in′ aClose e o h = absurd h

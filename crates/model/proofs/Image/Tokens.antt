@@ -13,8 +13,8 @@ use Rattle.model.specs.Lists.{All}
 use Rattle.model.specs.Bits.{bit}
 use Rattle.model.specs.Tree.{Alts, Repeat, Seq, end, glue, last, letter, more, union}
 use Rattle.model.specs.Edges.{altsEnd, seqEnd}
-use Rattle.model.proofs.Ends.Run.{letB, takesK}
-use Rattle.model.proofs.Language.Arcs.{Arc, ArcKind, arc, arcs, branch-parts, branch-whole, forkArc, inner, letter-parts, letter-whole, letterArc, loopArc, propagateArc}
+use Rattle.model.proofs.Ends.Run.{letterSet, takesByte}
+use Rattle.model.proofs.Language.Arcs.{Arc, ArcKind, arc, arcs, branch-parts, branch-whole, forkArc, altsArcs, letter-parts, letter-whole, letterArc, loopArc, propagateArc}
 use Rattle.model.proofs.Laws.Bool.{and-both, and-split, le-or-lt, same-truth}
 use Rattle.model.proofs.Laws.Lists.{In, all-app, all-in, all-left, all-right, any-in, any-out, in-all}
 
@@ -78,26 +78,26 @@ put-back (last s) = refl
 put-back (more s a) = refl
 
 mutual
-  parse-toks : (s : Seq) (r : List Token) (h : Seq) (st : List Frame) → parse r ≡ state h st → parse (tokens s r) ≡ state (glue s h) st
-  parse-toks end r h st e = e
-  parse-toks (letter c p s) r h st e = ap (λ (x : State). at (aLetter c p) (x .here) (x .stack)) (parse-toks s r h st e)
-  parse-toks (union a s) r h st e =
-      ap (λ (x : State). at anOpen (x .here) (x .stack)) (parse-toksA a (tokens s r) (glue s h) st (parse-toks s r h st e))
+  parse-tokens : (s : Seq) (r : List Token) (h : Seq) (st : List Frame) → parse r ≡ state h st → parse (tokens s r) ≡ state (glue s h) st
+  parse-tokens end r h st e = e
+  parse-tokens (letter c p s) r h st e = ap (λ (x : State). at (aLetter c p) (x .here) (x .stack)) (parse-tokens s r h st e)
+  parse-tokens (union a s) r h st e =
+      ap (λ (x : State). at anOpen (x .here) (x .stack)) (parse-altsTokens a (tokens s r) (glue s h) st (parse-tokens s r h st e))
       ∙ ap (λ (b : Alts). state (union b (glue s h)) st) (put-back a)
 
-  parse-toksA : (a : Alts) (r : List Token) (h : Seq) (st : List Frame) → parse r ≡ state h st → parse (altsTokens a r) ≡ state (head a) ((tail a, h) ∷ st)
-  parse-toksA (last s) r h st e =
-      parse-toks s (aClose ∷ r) end ((none, h) ∷ st) (ap (λ (x : State). at aClose (x .here) (x .stack)) e) ∙ ap (λ (x : Seq). state x ((none, h) ∷ st)) (glue-end s)
-  parse-toksA (more s a) r h st e =
-      parse-toks s (aBar ∷ altsTokens a r) end ((some a, h) ∷ st)
-      (ap (λ (x : State). at aBar (x .here) (x .stack)) (parse-toksA a r h st e) ∙ ap (λ (b : Alts). state end ((some b, h) ∷ st)) (put-back a))
+  parse-altsTokens : (a : Alts) (r : List Token) (h : Seq) (st : List Frame) → parse r ≡ state h st → parse (altsTokens a r) ≡ state (head a) ((tail a, h) ∷ st)
+  parse-altsTokens (last s) r h st e =
+      parse-tokens s (aClose ∷ r) end ((none, h) ∷ st) (ap (λ (x : State). at aClose (x .here) (x .stack)) e) ∙ ap (λ (x : Seq). state x ((none, h) ∷ st)) (glue-end s)
+  parse-altsTokens (more s a) r h st e =
+      parse-tokens s (aBar ∷ altsTokens a r) end ((some a, h) ∷ st)
+      (ap (λ (x : State). at aBar (x .here) (x .stack)) (parse-altsTokens a r h st e) ∙ ap (λ (b : Alts). state end ((some b, h) ∷ st)) (put-back a))
       ∙ ap (λ (x : Seq). state x ((some a, h) ∷ st)) (glue-end s)
 
 pub tree-of : (s : Seq) → parse (tokens s []) .here ≡ s
-tree-of s = ap (λ (x : State). x .here) (parse-toks s [] end [] refl) ∙ glue-end s
+tree-of s = ap (λ (x : State). x .here) (parse-tokens s [] end [] refl) ∙ glue-end s
 
-pub toks-inj : (s s′ : Seq) → tokens s [] ≡ tokens s′ [] → s ≡ s′
-toks-inj s s′ e = sym (tree-of s) ∙ ap (λ (l : List Token). parse l .here) e ∙ tree-of s′
+pub tokens-inj : (s s′ : Seq) → tokens s [] ≡ tokens s′ [] → s ≡ s′
+tokens-inj s s′ e = sym (tree-of s) ∙ ap (λ (l : List Token). parse l .here) e ∙ tree-of s′
 
 -- ---- the token after each state
 module _ (K : ℕ → Token) where
@@ -154,9 +154,9 @@ module _ (K : ℕ → Token) where
     told (letter c p s) t k S = letter-whole Told c p s t k (record { takes = (refl, p, S .0); loops = λ x. tt; skips = λ x. tt; rest = told s (suc t) k (S .1) })
     told (union a s) t k S = branch-whole Told a s t k (record { skips = λ x. tt; forks = tt; alts = toldA a t k (S .1); rest = told s (suc (altsEnd a t)) k (S .2) })
 
-    toldA : (a : Alts) (p k : ℕ) → ShowsA a p → All Told (inner a p k)
+    toldA : (a : Alts) (p k : ℕ) → ShowsA a p → All Told (altsArcs a p k)
     toldA (last s) p k S = told s (suc p) (suc k) (S .0)
-    toldA (more s a) p k S = all-app Told (arcs s (suc p) (suc k)) (inner a (seqEnd s (suc p)) k) (told s (suc p) (suc k) (S .0)) (toldA a (seqEnd s (suc p)) k (S .2))
+    toldA (more s a) p k S = all-app Told (arcs s (suc p) (suc k)) (altsArcs a (seqEnd s (suc p)) k) (told s (suc p) (suc k) (S .0)) (toldA a (seqEnd s (suc p)) k (S .2))
 
 abbrev pub classOf : Token → ℕ
 classOf (aLetter c p) = c
@@ -199,7 +199,7 @@ module _ (K : ℕ → Token) (E : Arc → Type 0) where
         go (inr m) (inl n) f g = f m n
         go (inr m) (inr n) f g = g n
 
-    thereA : (a : Alts) (p′ k : ℕ) → ShowsA K a p′ → All E (inner a p′ k) → (i : ℕ) → p′ < i → i ≤ altsEnd a p′ → (c : ℕ) (p : Repeat) → K i ≡ aLetter c p → (k : ℕ) × E (arc (letterArc c) k i (suc i))
+    thereA : (a : Alts) (p′ k : ℕ) → ShowsA K a p′ → All E (altsArcs a p′ k) → (i : ℕ) → p′ < i → i ≤ altsEnd a p′ → (c : ℕ) (p : Repeat) → K i ≡ aLetter c p → (k : ℕ) × E (arc (letterArc c) k i (suc i))
     thereA (last s) p′ k S A i h l c p e = go (eq-or-lt-of-le l) (λ m. there s (suc p′) (suc k) (S .0) A i h m c p e)
       where
         Found : Type 0
@@ -209,8 +209,8 @@ module _ (K : ℕ → Token) (E : Arc → Type 0) where
         go (inl q) f = absurd (no-one aClose i c p (ap K q ∙ S .1) e (inr (inr refl)))
         go (inr m) f = f m
     thereA (more s a) p′ k S A i h l c p e =
-        go (le-or-lt i z) (λ m. there s (suc p′) (suc k) (S .0) (all-left E (arcs s (suc p′) (suc k)) (inner a z k) A) i h m c p e)
-        (λ m. thereA a (seqEnd s (suc p′)) k (S .2) (all-right E (arcs s (suc p′) (suc k)) (inner a z k) A) i m l c p e)
+        go (le-or-lt i z) (λ m. there s (suc p′) (suc k) (S .0) (all-left E (arcs s (suc p′) (suc k)) (altsArcs a z k) A) i h m c p e)
+        (λ m. thereA a (seqEnd s (suc p′)) k (S .2) (all-right E (arcs s (suc p′) (suc k)) (altsArcs a z k) A) i m l c p e)
       where
         z : ℕ
         z = seqEnd s (suc p′)
@@ -237,25 +237,25 @@ module _ (s : Seq) where
   shown : Shows token s 0
   shown = shows token s 0 [] (λ i h. ap token (zero-add i)) .0
 
-  pub letters-show : (b i : ℕ) → i < seqEnd s 0 → letB (arcs s 0 0) b (suc i) ≡ bit (classOf (token i)) b
-  letters-show b i l = same-truth (letB (arcs s 0 0) b (suc i)) (bit (classOf (token i)) b) out (λ h. in′ (token i) refl h)
+  pub letters-show : (b i : ℕ) → i < seqEnd s 0 → letterSet (arcs s 0 0) b (suc i) ≡ bit (classOf (token i)) b
+  letters-show b i l = same-truth (letterSet (arcs s 0 0) b (suc i)) (bit (classOf (token i)) b) out (λ h. in′ (token i) refl h)
     where
-      is : (e : Arc) (w : ArcKind) → e .kind ≡ w → T (takesK b w) → suc i ≡ e .to → Told token (arc w (e .level) (e .from) (e .to)) → T (bit (classOf (token i)) b)
+      is : (e : Arc) (w : ArcKind) → e .kind ≡ w → T (takesByte b w) → suc i ≡ e .to → Told token (arc w (e .level) (e .from) (e .to)) → T (bit (classOf (token i)) b)
       is e (letterArc c) p h q m = let k : e .from ≡ i = omega (arith, m .0) in subst (λ (x : Token). T (bit (classOf x) b)) (sym (ap token (sym k) ∙ m .2)) h
       is e (loopArc c) p h q m = absurd h
       is e propagateArc p h q m = absurd h
       is e (forkArc xs) p h q m = absurd h
 
-      out : T (letB (arcs s 0 0) b (suc i)) → T (bit (classOf (token i)) b)
+      out : T (letterSet (arcs s 0 0) b (suc i)) → T (bit (classOf (token i)) b)
       out h =
-          let r = any-out (λ e. takesK b (e .kind) && eqb (suc i) (e .to)) (arcs s 0 0) h in
-          let c = and-split (takesK b (r .0 .kind)) (eqb (suc i) (r .0 .to)) (r .2) in
+          let r = any-out (λ e. takesByte b (e .kind) && eqb (suc i) (e .to)) (arcs s 0 0) h in
+          let c = and-split (takesByte b (r .0 .kind)) (eqb (suc i) (r .0 .to)) (r .2) in
           is (r .0) (r .0 .kind) refl (c .0) (eqb→eq (suc i) (r .0 .to) (c .1)) (all-in (Told token) (arcs s 0 0) (told token s 0 0 shown) (r .0) (r .1))
 
-      in′ : (x : Token) → token i ≡ x → T (bit (classOf (token i)) b) → T (letB (arcs s 0 0) b (suc i))
+      in′ : (x : Token) → token i ≡ x → T (bit (classOf (token i)) b) → T (letterSet (arcs s 0 0) b (suc i))
       in′ (aLetter c p) e h =
           let r = there token (In (arcs s 0 0)) s 0 0 shown (in-all (arcs s 0 0)) i (omega arith) l c p e in
-          any-in (λ e. takesK b (e .kind) && eqb (suc i) (e .to)) (arcs s 0 0) (arc (letterArc c) (r .0) i (suc i)) (r .1)
+          any-in (λ e. takesByte b (e .kind) && eqb (suc i) (e .to)) (arcs s 0 0) (arc (letterArc c) (r .0) i (suc i)) (r .1)
           (and-both (bit c b) (eqb (suc i) (suc i)) (subst (λ (x : Token). T (bit (classOf x) b)) e h) (eqb-refl (suc i)))
       in′ anOpen e h = absurd (no-bit b (subst (λ (x : Token). T (bit (classOf x) b)) e h))
       in′ aBar e h = absurd (no-bit b (subst (λ (x : Token). T (bit (classOf x) b)) e h))

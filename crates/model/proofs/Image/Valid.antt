@@ -9,7 +9,7 @@ use lib.Dec.{T, ltb, lt→ltb, T-not}
 use lib.ListN.{length}
 use Rattle.model.specs.Tree.{Alts, Seq, canSkip, end, last, letter, more, union}
 use Rattle.model.specs.Edges.{altsDepth, altsEmpty, altsEnd, depth, seqEmpty, seqEnd}
-use Rattle.model.proofs.Image.LayOut.{Frame, Scan, begin, frame, isEnd, onBar, onCls, scan, step}
+use Rattle.model.proofs.Image.LayOut.{Frame, Scan, begin, frame, isEnd, onBar, onClose, scan, step}
 use Rattle.model.proofs.Image.Tokens.{Token, aBar, aClose, aLetter, altsTokens, anOpen, at, parse, tokens}
 use Rattle.model.proofs.Laws.Bool.{and-both, and-split}
 use Rattle.model.proofs.Words.InOrder.{Full, FullA, NonEmpty}
@@ -160,7 +160,7 @@ fits-bar xs z e c (f ∷ st) h ((none, s) ∷ fs) k F =
 fits-bar xs z e c (f ∷ st) h ((some a, s) ∷ fs) k F =
     record { some′ = λ x. absurd (T-not e k x); good = tt; frames = (λ x. tt, (F .some′ tt, F .good, F .frames .1), F .frames .2, F .frames .3); back = ap (λ (l : List Token). aBar ∷ l) (F .back) }
 
-fits-cls : (xs : List Token) (z : ℕ) (e c : Bool) (st : List Frame) (h : Seq) (fs : List TFrame) → T (second st && not e) → Fits xs (onCls z c st .fresh) (onCls z c st .stack) h fs → Fits (aClose ∷ xs) e st (at aClose h fs .here) (at aClose h fs .stack)
+fits-cls : (xs : List Token) (z : ℕ) (e c : Bool) (st : List Frame) (h : Seq) (fs : List TFrame) → T (second st && not e) → Fits xs (onClose z c st .fresh) (onClose z c st .stack) h fs → Fits (aClose ∷ xs) e st (at aClose h fs .here) (at aClose h fs .stack)
 fits-cls xs z e c [] h fs k F = absurd k
 fits-cls xs z e c (f ∷ st) h fs k F =
     let b = and-split (f .seen) (not e) k in

@@ -15,16 +15,16 @@ use Rattle.model.specs.Bits.{bit, mask}
 use Rattle.model.specs.Tree.{Alts, Repeat, Seq, canLoop, canSkip, end, last, letter, more, once, option, plus, star, union}
 use Rattle.model.specs.Edges.{altsDepth, altsEnd, depth, seqEnd}
 use Rattle.model.specs.Image.{width}
-use Rattle.model.proofs.Ends.Run.{letB, repB}
-use Rattle.model.proofs.Image.Apart.{anyTo, before, bitOf, bitOf3, gathS, gen, letS, propS, read-blkP, read-let, read-rep, read-srcP, read-srcS, read-tgtG, repOf, repS, room, scatS, stateWord, tape, tokenAt, tokenOf, widthWord}
+use Rattle.model.proofs.Ends.Run.{letterSet, loopSet}
+use Rattle.model.proofs.Image.Apart.{anyTo, before, bitOf, bitOf3, gatherIn, gen, lettersIn, propagateIn, read-blkP, read-let, read-rep, read-srcP, read-srcS, read-tgtG, repOf, repeatsIn, room, scatterIn, stateWord, tape, tokenAt, tokenOf, widthWord}
 use Rattle.model.proofs.Image.Fine.{AllFine, Fine, fine-at, loops-show}
-use Rattle.model.proofs.Image.Laid.{build, laid, laid-is, length-toks, mask-same, reach-is, tree-sets, treeB, valid-reach}
-use Rattle.model.proofs.Image.LayOut.{Which, begin, entersP, gatherTargetP, lay-out-is, leavesP, on, onK, scatterSourceP}
+use Rattle.model.proofs.Image.Laid.{build, laid, laid-is, length-tokens, mask-same, reach-is, tree-sets, treeSet, valid-reach}
+use Rattle.model.proofs.Image.LayOut.{Which, begin, entering, gather-target, lay-out-is, leaving, on, onKind, scatter-source}
 use Rattle.model.proofs.Image.Sets.{arcImage}
-use Rattle.model.proofs.Image.Shown.{closes, closes-show, isCls, isF, isOpn, isP, loopT, nullT, opens, opens-show, skips, skips-show, token}
+use Rattle.model.proofs.Image.Shown.{closes, closes-show, isClose, isFork, isOpen, isPropagate, tokenLoop, tokenSkips, opens, opens-show, skips, skips-show, token}
 use Rattle.model.proofs.Image.Tokens.{Token, aBar, aClose, aLetter, anOpen, classOf, letters-show, parse, tokens, tree-of}
 use Rattle.model.proofs.Image.Valid.{Good, good-valid, valid, valid-tree}
-use Rattle.model.proofs.Language.Arcs.{Arc, ArcKind, arcs, branch-whole, forkArc, inner, letter-whole, letterArc, loopArc, propagateArc}
+use Rattle.model.proofs.Language.Arcs.{Arc, ArcKind, arcs, branch-whole, forkArc, altsArcs, letter-whole, letterArc, loopArc, propagateArc}
 use Rattle.model.proofs.Laws.Bool.{and-both, and-split, is-true, or-left, or-right, or-split, same-truth}
 use Rattle.model.proofs.Laws.Lists.{In, all-app, all-in, any-in, any-out}
 use Rattle.model.proofs.Words.Bits.{bit-ext, bit-mask, mask-lt}
@@ -53,7 +53,7 @@ anyTo-same (suc n) p q h = ap₂ _||_ (h n (le-refl (suc n))) (anyTo-same n p q 
 
 -- ---- the depths of a tree's arcs
 abbrev Shallow : ℕ → Arc → Type 0
-Shallow n e = (e .level ≤ n) × (T (isF (e .kind)) → e .level < n)
+Shallow n e = (e .level ≤ n) × (T (isFork (e .kind)) → e .level < n)
 
 mutual
   shallow : (s : Seq) (t k n : ℕ) → k + depth s ≤ n → All (Shallow n) (arcs s t k)
@@ -64,9 +64,9 @@ mutual
       branch-whole (Shallow n) a s t k (record
       { skips = λ y. (omega arith, λ x. absurd x); forks = (omega arith, λ x. omega arith); alts = shallowA a t k n (omega arith); rest = shallow s (suc (altsEnd a t)) k n (omega arith) })
 
-  shallowA : (a : Alts) (p k n : ℕ) → suc k + altsDepth a ≤ n → All (Shallow n) (inner a p k)
+  shallowA : (a : Alts) (p k n : ℕ) → suc k + altsDepth a ≤ n → All (Shallow n) (altsArcs a p k)
   shallowA (last s) p k n h = shallow s (suc p) (suc k) n h
-  shallowA (more s a) p k n h = all-app (Shallow n) (arcs s (suc p) (suc k)) (inner a (seqEnd s (suc p)) k) (shallow s (suc p) (suc k) n (omega arith)) (shallowA a (seqEnd s (suc p)) k n (omega arith))
+  shallowA (more s a) p k n h = all-app (Shallow n) (arcs s (suc p) (suc k)) (altsArcs a (seqEnd s (suc p)) k) (shallow s (suc p) (suc k) n (omega arith)) (shallowA a (seqEnd s (suc p)) k n (omega arith))
 
 -- a test at some depth is a test of the arcs
 any-depth : (h g : ArcKind → ℕ → ℕ → Bool) (es : List Arc) (n : ℕ) → ((w : ArcKind) (i j : ℕ) → h w i j ≡ g w i j) → ((e : Arc) → In es e → T (h (e .kind) (e .from) (e .to)) → e .level < n)
@@ -95,43 +95,43 @@ module _ (s : Seq) (i : ℕ) where
   deep-all : (e : Arc) → In es e → Shallow (depth s) e
   deep-all = all-in (Shallow (depth s)) es (shallow s 0 0 (depth s) (omega arith))
 
-  as-arcs : (w : Which) (n x : ℕ) → anyTo n (λ k. treeB s w k x) ≡ anyTo n (λ k. any (on w k x) es)
-  as-arcs w n x = anyTo-same n (λ k. treeB s w k x) (λ k. any (on w k x) es) (λ k l. sym (tree-sets s w k x) ∙ lay-out-is w k x s)
+  as-arcs : (w : Which) (n x : ℕ) → anyTo n (λ k. treeSet s w k x) ≡ anyTo n (λ k. any (on w k x) es)
+  as-arcs w n x = anyTo-same n (λ k. treeSet s w k x) (λ k. any (on w k x) es) (λ k l. sym (tree-sets s w k x) ∙ lay-out-is w k x s)
 
-  open-is : anyTo (depth s) (λ k. treeB s scatterSourceP k i) ≡ opens es i
-  open-is = as-arcs scatterSourceP (depth s) i ∙ any-depth (onK scatterSourceP i) (λ w a b. isF w && eqb i a) es (depth s) same low
+  open-is : anyTo (depth s) (λ k. treeSet s scatter-source k i) ≡ opens es i
+  open-is = as-arcs scatter-source (depth s) i ∙ any-depth (onKind scatter-source i) (λ w a b. isFork w && eqb i a) es (depth s) same low
     where
-      same : (w : ArcKind) (a b : ℕ) → onK scatterSourceP i w a b ≡ (isF w && eqb i a)
+      same : (w : ArcKind) (a b : ℕ) → onKind scatter-source i w a b ≡ (isFork w && eqb i a)
       same (letterArc c) a b = refl
       same (loopArc c) a b = refl
       same propagateArc a b = refl
       same (forkArc xs) a b = refl
 
-      low : (e : Arc) → In es e → T (onK scatterSourceP i (e .kind) (e .from) (e .to)) → e .level < depth s
-      low e h t = deep-all e h .1 (and-split (isF (e .kind)) (eqb i (e .from)) (subst T (same (e .kind) (e .from) (e .to)) t) .0)
+      low : (e : Arc) → In es e → T (onKind scatter-source i (e .kind) (e .from) (e .to)) → e .level < depth s
+      low e h t = deep-all e h .1 (and-split (isFork (e .kind)) (eqb i (e .from)) (subst T (same (e .kind) (e .from) (e .to)) t) .0)
 
-  close-is : anyTo (depth s) (λ k. treeB s gatherTargetP k (suc i)) ≡ closes es i
-  close-is = as-arcs gatherTargetP (depth s) (suc i) ∙ any-depth (onK gatherTargetP (suc i)) (λ w a b. isF w && eqb (suc i) b) es (depth s) same low
+  close-is : anyTo (depth s) (λ k. treeSet s gather-target k (suc i)) ≡ closes es i
+  close-is = as-arcs gather-target (depth s) (suc i) ∙ any-depth (onKind gather-target (suc i)) (λ w a b. isFork w && eqb (suc i) b) es (depth s) same low
     where
-      same : (w : ArcKind) (a b : ℕ) → onK gatherTargetP (suc i) w a b ≡ (isF w && eqb (suc i) b)
+      same : (w : ArcKind) (a b : ℕ) → onKind gather-target (suc i) w a b ≡ (isFork w && eqb (suc i) b)
       same (letterArc c) a b = refl
       same (loopArc c) a b = refl
       same propagateArc a b = refl
       same (forkArc xs) a b = refl
 
-      low : (e : Arc) → In es e → T (onK gatherTargetP (suc i) (e .kind) (e .from) (e .to)) → e .level < depth s
-      low e h t = deep-all e h .1 (and-split (isF (e .kind)) (eqb (suc i) (e .to)) (subst T (same (e .kind) (e .from) (e .to)) t) .0)
+      low : (e : Arc) → In es e → T (onKind gather-target (suc i) (e .kind) (e .from) (e .to)) → e .level < depth s
+      low e h t = deep-all e h .1 (and-split (isFork (e .kind)) (eqb (suc i) (e .to)) (subst T (same (e .kind) (e .from) (e .to)) t) .0)
 
-  skip-is : anyTo (suc (depth s)) (λ k. treeB s entersP k (suc i)) ≡ skips es i
-  skip-is = as-arcs entersP (suc (depth s)) (suc i) ∙ any-depth (onK entersP (suc i)) (λ w a b. isP w && eqb (suc i) b) es (suc (depth s)) same low
+  skip-is : anyTo (suc (depth s)) (λ k. treeSet s entering k (suc i)) ≡ skips es i
+  skip-is = as-arcs entering (suc (depth s)) (suc i) ∙ any-depth (onKind entering (suc i)) (λ w a b. isPropagate w && eqb (suc i) b) es (suc (depth s)) same low
     where
-      same : (w : ArcKind) (a b : ℕ) → onK entersP (suc i) w a b ≡ (isP w && eqb (suc i) b)
+      same : (w : ArcKind) (a b : ℕ) → onKind entering (suc i) w a b ≡ (isPropagate w && eqb (suc i) b)
       same (letterArc c) a b = refl
       same (loopArc c) a b = refl
       same propagateArc a b = refl
       same (forkArc xs) a b = refl
 
-      low : (e : Arc) → In es e → T (onK entersP (suc i) (e .kind) (e .from) (e .to)) → e .level < suc (depth s)
+      low : (e : Arc) → In es e → T (onKind entering (suc i) (e .kind) (e .from) (e .to)) → e .level < suc (depth s)
       low e h t = omega (arith, deep-all e h .0)
 
 -- ---- the token that the sets show is the tree's
@@ -162,7 +162,7 @@ class-is : (c : ℕ) → c < 2 ^ 256 → mask 256 (λ b. bit c b) ≡ c
 class-is c l = bit-ext 256 (mask 256 (λ b. bit c b)) c (mask-lt 256 (λ b. bit c b)) l (λ i k. bit-mask 256 i (λ b. bit c b) k)
 
 abbrev said : Token → Bool → Token
-said x n = tokenOf (anyTo 256 (λ b. bit (classOf x) b)) (mask 256 (λ b. bit (classOf x) b)) n (anyTo 256 (λ b. bit (loopT x) b)) (isCls x) (isOpn x)
+said x n = tokenOf (anyTo 256 (λ b. bit (classOf x) b)) (mask 256 (λ b. bit (classOf x) b)) n (anyTo 256 (λ b. bit (tokenLoop x) b)) (isClose x) (isOpen x)
 
 rep-of : (p : Repeat) → repOf (canSkip p) (canLoop p) ≡ p
 rep-of once = refl
@@ -174,7 +174,7 @@ loop-bit : (c : ℕ) (p : Bool) → 0 < c → c < 2 ^ 256 → anyTo 256 (λ b. b
 loop-bit c true h l = some-bit c h l
 loop-bit c false h l = no-bits 256
 
-said-is : (x : Token) (n : Bool) → Fine x → (isCls x ≡ false → n ≡ nullT x) → said x n ≡ x
+said-is : (x : Token) (n : Bool) → Fine x → (isClose x ≡ false → n ≡ tokenSkips x) → said x n ≡ x
 said-is (aLetter c p) n f h =
     (λ i. tokenOf (some-bit c (f .0) (f .1) i) (class-is c (f .1) i) (h refl i) (loop-bit c (canLoop p) (f .0) (f .1) i) false false)
     ∙ ap (aLetter c) (rep-of p)
@@ -197,7 +197,7 @@ module _ (s : Seq) (F : AllFine (tokens s [])) where
   W = width m
 
   abbrev ws : List ℕ
-  ws = build m W (depth s) (letB (arcs s 0 0)) (repB (arcs s 0 0)) (treeB s)
+  ws = build m W (depth s) (letterSet (arcs s 0 0)) (loopSet (arcs s 0 0)) (treeSet s)
 
   token-is : (i : ℕ) → i < seqEnd s 0 → tokenAt ws i ≡ token s i
   token-is i l = (λ j. tokenOf (h1 j) (h2 j) (h3 j) (h4 j) (h5 j) (h6 j)) ∙ said-is (token s i) (skips (arcs s 0 0) i) (fine-at (tokens s []) i F) (λ z. skips-show s i l z)
@@ -208,14 +208,14 @@ module _ (s : Seq) (F : AllFine (tokens s [])) where
       in″ : i < m
       in″ = omega arith
 
-      at-let : (b : ℕ) → b < 256 → bitOf W (letS ws) b (suc i) ≡ bit (classOf (token s i)) b
-      at-let b h = read-let m W (depth s) (letB (arcs s 0 0)) (repB (arcs s 0 0)) (treeB s) (room m) b (suc i) h in′ ∙ letters-show s b i l
+      at-let : (b : ℕ) → b < 256 → bitOf W (lettersIn ws) b (suc i) ≡ bit (classOf (token s i)) b
+      at-let b h = read-let m W (depth s) (letterSet (arcs s 0 0)) (loopSet (arcs s 0 0)) (treeSet s) (room m) b (suc i) h in′ ∙ letters-show s b i l
 
-      h1 : anyTo 256 (λ b. bitOf W (letS ws) b (suc i)) ≡ anyTo 256 (λ b. bit (classOf (token s i)) b)
-      h1 = anyTo-same 256 (λ b. bitOf W (letS ws) b (suc i)) (λ b. bit (classOf (token s i)) b) at-let
+      h1 : anyTo 256 (λ b. bitOf W (lettersIn ws) b (suc i)) ≡ anyTo 256 (λ b. bit (classOf (token s i)) b)
+      h1 = anyTo-same 256 (λ b. bitOf W (lettersIn ws) b (suc i)) (λ b. bit (classOf (token s i)) b) at-let
 
-      h2 : mask 256 (λ b. bitOf W (letS ws) b (suc i)) ≡ mask 256 (λ b. bit (classOf (token s i)) b)
-      h2 = mask-same 256 (λ b. bitOf W (letS ws) b (suc i)) (λ b. bit (classOf (token s i)) b) at-let
+      h2 : mask 256 (λ b. bitOf W (lettersIn ws) b (suc i)) ≡ mask 256 (λ b. bit (classOf (token s i)) b)
+      h2 = mask-same 256 (λ b. bitOf W (lettersIn ws) b (suc i)) (λ b. bit (classOf (token s i)) b) at-let
 
       both : (o n : Bool) → ((o || n) && not (o && not n)) ≡ n
       both true true = refl
@@ -223,48 +223,48 @@ module _ (s : Seq) (F : AllFine (tokens s [])) where
       both false true = refl
       both false false = refl
 
-      h3 : anyTo (suc (depth s)) (λ k. bitOf3 W (propS ws) 0 k (suc i) && not (bitOf3 W (propS ws) 1 k (suc i))) ≡ skips (arcs s 0 0) i
+      h3 : anyTo (suc (depth s)) (λ k. bitOf3 W (propagateIn ws) 0 k (suc i) && not (bitOf3 W (propagateIn ws) 1 k (suc i))) ≡ skips (arcs s 0 0) i
       h3 =
-          anyTo-same (suc (depth s)) (λ k. bitOf3 W (propS ws) 0 k (suc i) && not (bitOf3 W (propS ws) 1 k (suc i))) (λ k. treeB s entersP k (suc i))
+          anyTo-same (suc (depth s)) (λ k. bitOf3 W (propagateIn ws) 0 k (suc i) && not (bitOf3 W (propagateIn ws) 1 k (suc i))) (λ k. treeSet s entering k (suc i))
           (λ k h. ap₂ (λ (a b : Bool). a && not b)
-          (read-blkP m W (depth s) (letB (arcs s 0 0)) (repB (arcs s 0 0)) (treeB s) (room m) k (suc i) h in′)
-          (read-srcP m W (depth s) (letB (arcs s 0 0)) (repB (arcs s 0 0)) (treeB s) (room m) k (suc i) h in′)
-          ∙ both (treeB s leavesP k (suc i)) (treeB s entersP k (suc i)))
+          (read-blkP m W (depth s) (letterSet (arcs s 0 0)) (loopSet (arcs s 0 0)) (treeSet s) (room m) k (suc i) h in′)
+          (read-srcP m W (depth s) (letterSet (arcs s 0 0)) (loopSet (arcs s 0 0)) (treeSet s) (room m) k (suc i) h in′)
+          ∙ both (treeSet s leaving k (suc i)) (treeSet s entering k (suc i)))
           ∙ skip-is s i
 
-      h4 : anyTo 256 (λ b. bitOf W (repS ws) b (suc i)) ≡ anyTo 256 (λ b. bit (loopT (token s i)) b)
-      h4 = anyTo-same 256 (λ b. bitOf W (repS ws) b (suc i)) (λ b. bit (loopT (token s i)) b) (λ b h. read-rep m W (depth s) (letB (arcs s 0 0)) (repB (arcs s 0 0)) (treeB s) (room m) b (suc i) h in′ ∙ loops-show s b i l)
+      h4 : anyTo 256 (λ b. bitOf W (repeatsIn ws) b (suc i)) ≡ anyTo 256 (λ b. bit (tokenLoop (token s i)) b)
+      h4 = anyTo-same 256 (λ b. bitOf W (repeatsIn ws) b (suc i)) (λ b. bit (tokenLoop (token s i)) b) (λ b h. read-rep m W (depth s) (letterSet (arcs s 0 0)) (loopSet (arcs s 0 0)) (treeSet s) (room m) b (suc i) h in′ ∙ loops-show s b i l)
 
-      h5 : anyTo (depth s) (λ k. bitOf3 W (gathS ws) 2 k (suc i)) ≡ isCls (token s i)
-      h5 = anyTo-same (depth s) (λ k. bitOf3 W (gathS ws) 2 k (suc i)) (λ k. treeB s gatherTargetP k (suc i)) (λ k h. read-tgtG m W (depth s) (letB (arcs s 0 0)) (repB (arcs s 0 0)) (treeB s) (room m) k (suc i) h in′) ∙ close-is s i ∙ closes-show s i l
+      h5 : anyTo (depth s) (λ k. bitOf3 W (gatherIn ws) 2 k (suc i)) ≡ isClose (token s i)
+      h5 = anyTo-same (depth s) (λ k. bitOf3 W (gatherIn ws) 2 k (suc i)) (λ k. treeSet s gather-target k (suc i)) (λ k h. read-tgtG m W (depth s) (letterSet (arcs s 0 0)) (loopSet (arcs s 0 0)) (treeSet s) (room m) k (suc i) h in′) ∙ close-is s i ∙ closes-show s i l
 
-      h6 : anyTo (depth s) (λ k. bitOf3 W (scatS ws) 1 k i) ≡ isOpn (token s i)
-      h6 = anyTo-same (depth s) (λ k. bitOf3 W (scatS ws) 1 k i) (λ k. treeB s scatterSourceP k i) (λ k h. read-srcS m W (depth s) (letB (arcs s 0 0)) (repB (arcs s 0 0)) (treeB s) (room m) k i h in″) ∙ open-is s i ∙ opens-show s i l
+      h6 : anyTo (depth s) (λ k. bitOf3 W (scatterIn ws) 1 k i) ≡ isOpen (token s i)
+      h6 = anyTo-same (depth s) (λ k. bitOf3 W (scatterIn ws) 1 k i) (λ k. treeSet s scatter-source k i) (λ k h. read-srcS m W (depth s) (letterSet (arcs s 0 0)) (loopSet (arcs s 0 0)) (treeSet s) (room m) k i h in″) ∙ open-is s i ∙ opens-show s i l
 
   pub tape-is : tape (arcImage s) ≡ tokens s []
   tape-is =
-      ap (λ (n : ℕ). gen n 0 (tokenAt ws)) (sym (length-toks s))
-      ∙ gen-is (tokens s []) (tokenAt ws) 0 (λ i h. (let e : 0 + i ≡ i = omega arith in ap (tokenAt ws) e) ∙ token-is i (omega (arith, length-toks s)))
+      ap (λ (n : ℕ). gen n 0 (tokenAt ws)) (sym (length-tokens s))
+      ∙ gen-is (tokens s []) (tokenAt ws) 0 (λ i h. (let e : 0 + i ≡ i = omega arith in ap (tokenAt ws) e) ∙ token-is i (omega (arith, length-tokens s)))
 
 -- ---- the test
-abbrev pub eqL : List ℕ → List ℕ → Bool
-eqL [] [] = true
-eqL [] (y ∷ ys) = false
-eqL (x ∷ xs) [] = false
-eqL (x ∷ xs) (y ∷ ys) = eqb x y && eqL xs ys
+abbrev pub sameWords : List ℕ → List ℕ → Bool
+sameWords [] [] = true
+sameWords [] (y ∷ ys) = false
+sameWords (x ∷ xs) [] = false
+sameWords (x ∷ xs) (y ∷ ys) = eqb x y && sameWords xs ys
 
-pub eqL-eq : (xs ys : List ℕ) → T (eqL xs ys) → xs ≡ ys
-eqL-eq [] [] h = refl
-eqL-eq [] (y ∷ ys) h = absurd h
-eqL-eq (x ∷ xs) [] h = absurd h
-eqL-eq (x ∷ xs) (y ∷ ys) h = let c = and-split (eqb x y) (eqL xs ys) h in ap₂ (λ (a : ℕ) (l : List ℕ). a ∷ l) (eqb→eq x y (c .0)) (eqL-eq xs ys (c .1))
+pub sameWords-eq : (xs ys : List ℕ) → T (sameWords xs ys) → xs ≡ ys
+sameWords-eq [] [] h = refl
+sameWords-eq [] (y ∷ ys) h = absurd h
+sameWords-eq (x ∷ xs) [] h = absurd h
+sameWords-eq (x ∷ xs) (y ∷ ys) h = let c = and-split (eqb x y) (sameWords xs ys) h in ap₂ (λ (a : ℕ) (l : List ℕ). a ∷ l) (eqb→eq x y (c .0)) (sameWords-eq xs ys (c .1))
 
-pub eqL-refl : (xs : List ℕ) → T (eqL xs xs)
-eqL-refl [] = tt
-eqL-refl (x ∷ xs) = and-both (eqb x x) (eqL xs xs) (eqb-refl x) (eqL-refl xs)
+pub sameWords-refl : (xs : List ℕ) → T (sameWords xs xs)
+sameWords-refl [] = tt
+sameWords-refl (x ∷ xs) = and-both (eqb x x) (sameWords xs xs) (eqb-refl x) (sameWords-refl xs)
 
 abbrev pub accepts : List ℕ → Bool
-accepts ws = leb (stateWord ws) 512 && (valid (tape ws) begin && eqL ws (laid (tape ws)))
+accepts ws = leb (stateWord ws) 512 && (valid (tape ws) begin && sameWords ws (laid (tape ws)))
 
 abbrev pub given : Bool → Seq → Option Seq
 given true s = some s
@@ -312,16 +312,16 @@ fine-before (suc n) f h = fine-gen n 0 f h
 -- SOUNDNESS
 pub image-sound : (ws : List ℕ) → T (accepts ws) → IsImage ws (parse (tape ws) .here)
 image-sound ws h =
-    let a = and-split (leb (stateWord ws) 512) (valid (tape ws) begin && eqL ws (laid (tape ws))) h in
-    let b = and-split (valid (tape ws) begin) (eqL ws (laid (tape ws))) (a .1) in
+    let a = and-split (leb (stateWord ws) 512) (valid (tape ws) begin && sameWords ws (laid (tape ws))) h in
+    let b = and-split (valid (tape ws) begin) (sameWords ws (laid (tape ws))) (a .1) in
     let t = valid-tree (tape ws) (b .0) in
-    let e = eqL-eq ws (laid (tape ws)) (b .1) in
+    let e = sameWords-eq ws (laid (tape ws)) (b .1) in
     let w : ws ≡ arcImage (t .tree) = e ∙ ap laid (sym (t .of-tokens)) ∙ laid-is (t .tree) in
     subst (IsImage ws) (sym (ap (λ (l : List Token). parse l .here) (sym (t .of-tokens)) ∙ tree-of (t .tree)))
     (record {
       begun = t .begun;
       good = t .good;
-      fine = subst AllFine (sym (t .of-tokens)) (fine-before (stateWord ws) (tokenAt ws) (λ i. fine-token (λ b. bitOf (widthWord ws) (letS ws) b (suc i)) _ _ _ _ _ refl));
+      fine = subst AllFine (sym (t .of-tokens)) (fine-before (stateWord ws) (tokenAt ws) (λ i. fine-token (λ b. bitOf (widthWord ws) (lettersIn ws) b (suc i)) _ _ _ _ _ refl));
       states = subst (λ (l : List ℕ). stateWord l ≤ 512) w (leb→le (stateWord ws) 512 (a .0));
       level = subst (λ (n : ℕ). n ≤ 8) (ap (λ (l : List Token). Rattle.model.proofs.Image.Valid.reach l begin) (sym (t .of-tokens)) ∙ reach-is (t .tree)) (valid-reach (tape ws) begin (b .0));
       words = w;
@@ -335,10 +335,10 @@ image-complete ws s I = subst (λ (l : List ℕ). T (accepts l)) (sym (I .words)
 
     yes′ : T (accepts (arcImage s))
     yes′ =
-        and-both (leb (suc (seqEnd s 0)) 512) (valid (tape (arcImage s)) begin && eqL (arcImage s) (laid (tape (arcImage s)))) (le→leb (suc (seqEnd s 0)) 512 (I .states))
-        (and-both (valid (tape (arcImage s)) begin) (eqL (arcImage s) (laid (tape (arcImage s))))
+        and-both (leb (suc (seqEnd s 0)) 512) (valid (tape (arcImage s)) begin && sameWords (arcImage s) (laid (tape (arcImage s)))) (le→leb (suc (seqEnd s 0)) 512 (I .states))
+        (and-both (valid (tape (arcImage s)) begin) (sameWords (arcImage s) (laid (tape (arcImage s))))
         (subst (λ (l : List Token). T (valid l begin)) (sym e) (good-valid s (I .begun) (I .good) (I .level)))
-        (subst (λ (l : List ℕ). T (eqL (arcImage s) l)) (sym (ap laid e ∙ laid-is s)) (eqL-refl (arcImage s))))
+        (subst (λ (l : List ℕ). T (sameWords (arcImage s) l)) (sym (ap laid e ∙ laid-is s)) (sameWords-refl (arcImage s))))
 
 -- THE THEOREM, for any list of numbers
 pub is-image : (ws : List ℕ) (s : Seq) → (isImage ws ≡ some s) ↔ IsImage ws s

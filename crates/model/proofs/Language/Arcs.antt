@@ -34,11 +34,11 @@ abbrev mutual
   pub arcs : Seq → ℕ → ℕ → List Arc
   arcs end t k = []
   arcs (letter c r s) t k = arc (letterArc c) k t (suc t) ∷ when (canLoop r) (arc (loopArc c) k (suc t) (suc t)) (when (canSkip r) (arc propagateArc k t (suc t)) (arcs s (suc t) k))
-  arcs (union a s) t k = when (altsEmpty a) (arc propagateArc k t (suc (altsEnd a t))) (arc (forkArc (ways a t)) k t (suc (altsEnd a t)) ∷ (inner a t k ++ arcs s (suc (altsEnd a t)) k))
+  arcs (union a s) t k = when (altsEmpty a) (arc propagateArc k t (suc (altsEnd a t))) (arc (forkArc (ways a t)) k t (suc (altsEnd a t)) ∷ (altsArcs a t k ++ arcs s (suc (altsEnd a t)) k))
 
-  pub inner : Alts → ℕ → ℕ → List Arc
-  inner (last s) p k = arcs s (suc p) (suc k)
-  inner (more s a) p k = arcs s (suc p) (suc k) ++ inner a (seqEnd s (suc p)) k
+  pub altsArcs : Alts → ℕ → ℕ → List Arc
+  altsArcs (last s) p k = arcs s (suc p) (suc k)
+  altsArcs (more s a) p k = arcs s (suc p) (suc k) ++ altsArcs a (seqEnd s (suc p)) k
 
 -- the moves along an arc: without a letter, and by a byte
 abbrev pub Starts : List Way → ℕ → Type 0
@@ -103,17 +103,17 @@ module _ (E : Arc → Type 0) where
   pub record Branch (a : Alts) (s : Seq) (t k : ℕ) : Type 0 where
     pub skips : T (altsEmpty a) → E (arc propagateArc k t (suc (altsEnd a t)))
     pub forks : E (arc (forkArc (ways a t)) k t (suc (altsEnd a t)))
-    pub alts : All E (inner a t k)
+    pub alts : All E (altsArcs a t k)
     pub rest : All E (arcs s (suc (altsEnd a t)) k)
 
   pub branch-parts : (a : Alts) (s : Seq) (t k : ℕ) → All E (arcs (union a s) t k) → Branch a s t k
   branch-parts a s t k A =
       let u = suc (altsEnd a t) in
-      let es = arc (forkArc (ways a t)) k t u ∷ (inner a t k ++ arcs s u k) in
+      let es = arc (forkArc (ways a t)) k t u ∷ (altsArcs a t k ++ arcs s u k) in
       let B = when-tail E (altsEmpty a) (arc propagateArc k t u) es A in
-      record { skips = when-head E (altsEmpty a) (arc propagateArc k t u) es A; forks = B .0; alts = all-left E (inner a t k) (arcs s u k) (B .1); rest = all-right E (inner a t k) (arcs s u k) (B .1) }
+      record { skips = when-head E (altsEmpty a) (arc propagateArc k t u) es A; forks = B .0; alts = all-left E (altsArcs a t k) (arcs s u k) (B .1); rest = all-right E (altsArcs a t k) (arcs s u k) (B .1) }
 
   pub branch-whole : (a : Alts) (s : Seq) (t k : ℕ) → Branch a s t k → All E (arcs (union a s) t k)
   branch-whole a s t k A =
       let u = suc (altsEnd a t) in
-      all-when E (altsEmpty a) (arc propagateArc k t u) (arc (forkArc (ways a t)) k t u ∷ (inner a t k ++ arcs s u k)) (A .skips) (A .forks, all-app E (inner a t k) (arcs s u k) (A .alts) (A .rest))
+      all-when E (altsEmpty a) (arc propagateArc k t u) (arc (forkArc (ways a t)) k t u ∷ (altsArcs a t k ++ arcs s u k)) (A .skips) (A .forks, all-app E (altsArcs a t k) (arcs s u k) (A .alts) (A .rest))

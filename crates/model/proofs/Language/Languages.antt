@@ -11,79 +11,79 @@ use Rattle.model.specs.Tree.{Alts, Repeat, Seq, canLoop, canSkip, end, l
 use Rattle.model.specs.Edges.{altsEmpty, altsEnd, seqEmpty, seqEnd}
 use Rattle.model.proofs.Laws.Bool.{and-split, or-split}
 
-abbrev pub Lang : Type 1
-Lang = List ℕ → Type 0
+abbrev pub Language : Type 1
+Language = List ℕ → Type 0
 
 -- a text of P, and then one byte of c; one or more
-abbrev pub One : ℕ → Lang → Lang
+abbrev pub One : ℕ → Language → Language
 One c P [] = ⊥
 One c P (b ∷ w) = T (bit c b) × P w
 
-abbrev pub Many : ℕ → Lang → Lang
+abbrev pub Many : ℕ → Language → Language
 Many c P [] = ⊥
 Many c P (b ∷ w) = T (bit c b) × (P w ⊎ Many c P w)
 
-abbrev pub afterL : ℕ → Repeat → Lang → Lang
-afterL c once P w = One c P w
-afterL c option P w = P w ⊎ One c P w
-afterL c star P w = P w ⊎ Many c P w
-afterL c plus P w = Many c P w
+abbrev pub afterLetter : ℕ → Repeat → Language → Language
+afterLetter c once P w = One c P w
+afterLetter c option P w = P w ⊎ One c P w
+afterLetter c star P w = P w ⊎ Many c P w
+afterLetter c plus P w = Many c P w
 
 -- a text of P, and then one that a sequence spells, or one of the alternatives
 abbrev mutual
-  pub after : Seq → Lang → Lang
+  pub after : Seq → Language → Language
   after end P = P
-  after (letter c r s) P = after s (afterL c r P)
-  after (union a s) P = after s (afterA a P)
+  after (letter c r s) P = after s (afterLetter c r P)
+  after (union a s) P = after s (afterAlts a P)
 
-  pub afterA : Alts → Lang → Lang
-  afterA (last s) P = after s P
-  afterA (more s a) P = λ w. after s P w ⊎ afterA a P w
+  pub afterAlts : Alts → Language → Language
+  afterAlts (last s) P = after s P
+  afterAlts (more s a) P = λ w. after s P w ⊎ afterAlts a P w
 
 -- the end lies past the start
 mutual
-  pub fin-le : (s : Seq) (t : ℕ) → t ≤ seqEnd s t
-  fin-le end t = le-refl t
-  fin-le (letter c r s) t = omega (arith, fin-le s (suc t))
-  fin-le (union a s) t = omega (arith, finA-lt a t, fin-le s (suc (altsEnd a t)))
+  pub seqEnd-le : (s : Seq) (t : ℕ) → t ≤ seqEnd s t
+  seqEnd-le end t = le-refl t
+  seqEnd-le (letter c r s) t = omega (arith, seqEnd-le s (suc t))
+  seqEnd-le (union a s) t = omega (arith, altsEnd-lt a t, seqEnd-le s (suc (altsEnd a t)))
 
-  pub finA-lt : (a : Alts) (p : ℕ) → p < altsEnd a p
-  finA-lt (last s) p = fin-le s (suc p)
-  finA-lt (more s a) p = omega (arith, fin-le s (suc p), finA-lt a (seqEnd s (suc p)))
+  pub altsEnd-lt : (a : Alts) (p : ℕ) → p < altsEnd a p
+  altsEnd-lt (last s) p = seqEnd-le s (suc p)
+  altsEnd-lt (more s a) p = omega (arith, seqEnd-le s (suc p), altsEnd-lt a (seqEnd s (suc p)))
 
 -- what can spell the empty text keeps a text
-pub null-letter : (c : ℕ) (r : Repeat) (P : Lang) (w : List ℕ) → T (canSkip r) → P w → afterL c r P w
-null-letter c once P w n h = absurd n
-null-letter c option P w n h = inl h
-null-letter c star P w n h = inl h
-null-letter c plus P w n h = absurd n
+pub skip-letter : (c : ℕ) (r : Repeat) (P : Language) (w : List ℕ) → T (canSkip r) → P w → afterLetter c r P w
+skip-letter c once P w n h = absurd n
+skip-letter c option P w n h = inl h
+skip-letter c star P w n h = inl h
+skip-letter c plus P w n h = absurd n
 
 mutual
-  pub null-in : (s : Seq) (P : Lang) (w : List ℕ) → T (seqEmpty s) → P w → after s P w
-  null-in end P w n h = h
-  null-in (letter c r s) P w n h = null-in s (afterL c r P) w (and-split (canSkip r) (seqEmpty s) n .1) (null-letter c r P w (and-split (canSkip r) (seqEmpty s) n .0) h)
-  null-in (union a s) P w n h = null-in s (afterA a P) w (and-split (altsEmpty a) (seqEmpty s) n .1) (nullA-in a P w (and-split (altsEmpty a) (seqEmpty s) n .0) h)
+  pub empty-in : (s : Seq) (P : Language) (w : List ℕ) → T (seqEmpty s) → P w → after s P w
+  empty-in end P w n h = h
+  empty-in (letter c r s) P w n h = empty-in s (afterLetter c r P) w (and-split (canSkip r) (seqEmpty s) n .1) (skip-letter c r P w (and-split (canSkip r) (seqEmpty s) n .0) h)
+  empty-in (union a s) P w n h = empty-in s (afterAlts a P) w (and-split (altsEmpty a) (seqEmpty s) n .1) (altsEmpty-in a P w (and-split (altsEmpty a) (seqEmpty s) n .0) h)
 
-  pub nullA-in : (a : Alts) (P : Lang) (w : List ℕ) → T (altsEmpty a) → P w → afterA a P w
-  nullA-in (last s) P w n h = null-in s P w n h
-  nullA-in (more s a) P w n h = ⊎-elim′ (or-split (seqEmpty s) (altsEmpty a) n) (λ x. inl (null-in s P w x h)) (λ x. inr (nullA-in a P w x h))
+  pub altsEmpty-in : (a : Alts) (P : Language) (w : List ℕ) → T (altsEmpty a) → P w → afterAlts a P w
+  altsEmpty-in (last s) P w n h = empty-in s P w n h
+  altsEmpty-in (more s a) P w n h = ⊎-elim′ (or-split (seqEmpty s) (altsEmpty a) n) (λ x. inl (empty-in s P w x h)) (λ x. inr (altsEmpty-in a P w x h))
     where
       ⊎-elim′ : {A B C : Type 0} → A ⊎ B → (A → C) → (B → C) → C
       ⊎-elim′ (inl x) f g = f x
       ⊎-elim′ (inr x) f g = g x
 
-pub take-in : (c : ℕ) (r : Repeat) (P : Lang) (b : ℕ) (w : List ℕ) → T (bit c b) → P w → afterL c r P (b ∷ w)
+pub take-in : (c : ℕ) (r : Repeat) (P : Language) (b : ℕ) (w : List ℕ) → T (bit c b) → P w → afterLetter c r P (b ∷ w)
 take-in c once P b w x h = (x, h)
 take-in c option P b w x h = inr (x, h)
 take-in c star P b w x h = inr (x, inl h)
 take-in c plus P b w x h = (x, inl h)
 
-pub loop-in : (c : ℕ) (r : Repeat) (P : Lang) (b : ℕ) (w : List ℕ) → T (canLoop r) → T (bit c b) → afterL c r P w → afterL c r P (b ∷ w)
+pub loop-in : (c : ℕ) (r : Repeat) (P : Language) (b : ℕ) (w : List ℕ) → T (canLoop r) → T (bit c b) → afterLetter c r P w → afterLetter c r P (b ∷ w)
 loop-in c once P b w n x h = absurd n
 loop-in c option P b w n x h = absurd n
 loop-in c star P b w n x h = inr (x, h)
 loop-in c plus P b w n x h = (x, inr h)
 
 -- every text: a stretch may start at any place
-abbrev pub Any : Lang
+abbrev pub Any : Language
 Any w = Unit

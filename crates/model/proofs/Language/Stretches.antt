@@ -8,7 +8,7 @@ use Rattle.model.specs.Lists.{All}
 use Rattle.model.specs.Bits.{bit}
 use Rattle.model.specs.Tree.{Alts, Repeat, Seq, end, last, letter, more, once, option, plus, star, union}
 use Rattle.model.specs.Ends.{AltsSpell, LetterSpells, Spells}
-use Rattle.model.proofs.Language.Languages.{Any, Lang, Many, One, after, afterA, afterL}
+use Rattle.model.proofs.Language.Languages.{Any, Language, Many, One, after, afterAlts, afterLetter}
 
 -- every byte of a text is in the class
 abbrev AllIn : ℕ → List ℕ → Type 0
@@ -23,14 +23,14 @@ feed-app u [] y = refl
 feed-app u (b ∷ x) y = feed-app (b ∷ u) x y
 
 -- a text of P and then one of Q
-abbrev Then : Lang → (List ℕ → Type 0) → Lang
+abbrev Then : Language → (List ℕ → Type 0) → Language
 Then P Q w = (u : List ℕ) × (v : List ℕ) × (w ≡ feed u v) × P u × Q v
 
 all-snoc : (c : ℕ) (x : List ℕ) (b : ℕ) → AllIn c x → T (bit c b) → AllIn c (x ++ (b ∷ []))
 all-snoc c [] b h k = (k, tt)
 all-snoc c (d ∷ x) b h k = (h .0, all-snoc c x b (h .1) k)
 
-many-out : (c : ℕ) (P : Lang) (w : List ℕ) → Many c P w → Then P (LetterSpells c plus) w
+many-out : (c : ℕ) (P : Language) (w : List ℕ) → Many c P w → Then P (LetterSpells c plus) w
 many-out c P [] h = absurd h
 many-out c P (b ∷ w) h = go (h .1) (λ m. many-out c P w m)
   where
@@ -46,15 +46,15 @@ many-out c P (b ∷ w) h = go (h .1) (λ m. many-out c P w m)
           (l .0, l .1 ++ (b ∷ []), ap (λ (x : List ℕ). x ++ (b ∷ [])) (l .2), l .3, all-snoc c (l .1) b (l .4) (h .0)),
         )
 
-many-in : (c : ℕ) (P : Lang) (u x : List ℕ) → Many c P u → AllIn c x → Many c P (feed u x)
+many-in : (c : ℕ) (P : Language) (u x : List ℕ) → Many c P u → AllIn c x → Many c P (feed u x)
 many-in c P u [] m h = m
 many-in c P u (b ∷ x) m h = many-in c P (b ∷ u) x (h .0, inr m) (h .1)
 
-star-in : (c : ℕ) (P : Lang) (u x : List ℕ) → P u → AllIn c x → P (feed u x) ⊎ Many c P (feed u x)
+star-in : (c : ℕ) (P : Language) (u x : List ℕ) → P u → AllIn c x → P (feed u x) ⊎ Many c P (feed u x)
 star-in c P u [] p h = inl p
 star-in c P u (b ∷ x) p h = inr (many-in c P (b ∷ u) x (h .0, inl p) (h .1))
 
-letter-out : (c : ℕ) (r : Repeat) (P : Lang) (w : List ℕ) → afterL c r P w → Then P (LetterSpells c r) w
+letter-out : (c : ℕ) (r : Repeat) (P : Language) (w : List ℕ) → afterLetter c r P w → Then P (LetterSpells c r) w
 letter-out c once P [] h = absurd h
 letter-out c once P (b ∷ w) h = (w, b ∷ [], refl, h .1, (b, refl, h .0))
 letter-out c option P w (inl h) = (w, [], refl, h, inl refl)
@@ -64,42 +64,42 @@ letter-out c star P w (inl h) = (w, [], refl, h, tt)
 letter-out c star P w (inr h) = let r = many-out c P w h in (r .0, r .1, r .2, r .3, subst (AllIn c) (sym (r .4 .2)) (r .4 .3, r .4 .4))
 letter-out c plus P w h = many-out c P w h
 
-letter-in : (c : ℕ) (r : Repeat) (P : Lang) (u x : List ℕ) → P u → LetterSpells c r x → afterL c r P (feed u x)
+letter-in : (c : ℕ) (r : Repeat) (P : Language) (u x : List ℕ) → P u → LetterSpells c r x → afterLetter c r P (feed u x)
 letter-in c once P u x p h = subst (λ (v : List ℕ). One c P (feed u v)) (sym (h .1)) (h .2, p)
 letter-in c option P u x p (inl h) = inl (subst (λ (v : List ℕ). P (feed u v)) (sym h) p)
 letter-in c option P u x p (inr h) = inr (subst (λ (v : List ℕ). One c P (feed u v)) (sym (h .1)) (h .2, p))
 letter-in c star P u x p h = star-in c P u x p h
 letter-in c plus P u x p h = subst (λ (v : List ℕ). Many c P (feed u v)) (sym (h .2)) (many-in c P (h .0 ∷ u) (h .1) (h .3, inl p) (h .4))
 
-join : (P : Lang) (Q R : List ℕ → Type 0) (w : List ℕ) → Then (Then P Q) R w → Then P (λ v. (x : List ℕ) × (y : List ℕ) × (v ≡ x ++ y) × Q x × R y) w
+join : (P : Language) (Q R : List ℕ → Type 0) (w : List ℕ) → Then (Then P Q) R w → Then P (λ v. (x : List ℕ) × (y : List ℕ) × (v ≡ x ++ y) × Q x × R y) w
 join P Q R w h =
     let m = h .3 in
     (m .0, m .1 ++ h .1, h .2 ∙ ap (λ (z : List ℕ). feed z (h .1)) (m .2) ∙ sym (feed-app (m .0) (m .1) (h .1)), m .3, (m .1, h .1, refl, m .4, h .4))
 
 mutual
-  pub after-out : (s : Seq) (P : Lang) (w : List ℕ) → after s P w → Then P (Spells s) w
+  pub after-out : (s : Seq) (P : Language) (w : List ℕ) → after s P w → Then P (Spells s) w
   after-out end P w h = (w, [], refl, h, refl)
   after-out (letter c r s) P w h =
-      let m = after-out s (afterL c r P) w h in
+      let m = after-out s (afterLetter c r P) w h in
       join P (LetterSpells c r) (Spells s) w (m .0, m .1, m .2, letter-out c r P (m .0) (m .3), m .4)
   after-out (union a s) P w h =
-      let m = after-out s (afterA a P) w h in
+      let m = after-out s (afterAlts a P) w h in
       join P (AltsSpell a) (Spells s) w (m .0, m .1, m .2, afterA-out a P (m .0) (m .3), m .4)
 
-  pub afterA-out : (a : Alts) (P : Lang) (w : List ℕ) → afterA a P w → Then P (AltsSpell a) w
+  pub afterA-out : (a : Alts) (P : Language) (w : List ℕ) → afterAlts a P w → Then P (AltsSpell a) w
   afterA-out (last s) P w h = after-out s P w h
   afterA-out (more s a) P w (inl h) = let m = after-out s P w h in (m .0, m .1, m .2, m .3, inl (m .4))
   afterA-out (more s a) P w (inr h) = let m = afterA-out a P w h in (m .0, m .1, m .2, m .3, inr (m .4))
 
 mutual
-  pub after-in : (s : Seq) (P : Lang) (u v : List ℕ) → P u → Spells s v → after s P (feed u v)
+  pub after-in : (s : Seq) (P : Language) (u v : List ℕ) → P u → Spells s v → after s P (feed u v)
   after-in end P u v p h = subst (λ (x : List ℕ). P (feed u x)) (sym h) p
   after-in (letter c r s) P u v p h =
-      subst (after s (afterL c r P)) (sym (ap (feed u) (h .2) ∙ feed-app u (h .0) (h .1))) (after-in s (afterL c r P) (feed u (h .0)) (h .1) (letter-in c r P u (h .0) p (h .3)) (h .4))
+      subst (after s (afterLetter c r P)) (sym (ap (feed u) (h .2) ∙ feed-app u (h .0) (h .1))) (after-in s (afterLetter c r P) (feed u (h .0)) (h .1) (letter-in c r P u (h .0) p (h .3)) (h .4))
   after-in (union a s) P u v p h =
-      subst (after s (afterA a P)) (sym (ap (feed u) (h .2) ∙ feed-app u (h .0) (h .1))) (after-in s (afterA a P) (feed u (h .0)) (h .1) (afterA-in a P u (h .0) p (h .3)) (h .4))
+      subst (after s (afterAlts a P)) (sym (ap (feed u) (h .2) ∙ feed-app u (h .0) (h .1))) (after-in s (afterAlts a P) (feed u (h .0)) (h .1) (afterA-in a P u (h .0) p (h .3)) (h .4))
 
-  pub afterA-in : (a : Alts) (P : Lang) (u v : List ℕ) → P u → AltsSpell a v → afterA a P (feed u v)
+  pub afterA-in : (a : Alts) (P : Language) (u v : List ℕ) → P u → AltsSpell a v → afterAlts a P (feed u v)
   afterA-in (last s) P u v p h = after-in s P u v p h
   afterA-in (more s a) P u v p (inl h) = inl (after-in s P u v p h)
   afterA-in (more s a) P u v p (inr h) = inr (afterA-in a P u v p h)

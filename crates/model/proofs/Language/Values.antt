@@ -7,20 +7,20 @@ use native.Mathlib.Omega.{arith}
 use lib.Dec.{leb}
 use Rattle.model.specs.Tree.{Alts, Repeat, Seq, end, last, letter, more, union}
 use Rattle.model.specs.Edges.{altsEnd, seqEnd}
-use Rattle.model.proofs.Language.Languages.{fin-le, finA-lt}
+use Rattle.model.proofs.Language.Languages.{seqEnd-le, altsEnd-lt}
 use Rattle.model.proofs.Laws.Bool.{pick-gt, pick-le}
 
 -- the value goes through a letter, past a union, and from a union's start t into the alternative that starts in p
 module _ {ℓ} (X : Type ℓ) (through : ℕ → Repeat → X → X) (past : Alts → X → X) (inside : ℕ → ℕ → X → X) where
   abbrev mutual
-    pub val : Seq → ℕ → X → ℕ → X
-    val end t v = λ q. v
-    val (letter c r s) t v = λ q. cond (leb q t) v (val s (suc t) (through c r v) q)
-    val (union a s) t v = λ q. cond (leb q t) v (cond (leb q (altsEnd a t)) (valA a t t v q) (val s (suc (altsEnd a t)) (past a v) q))
+    pub value : Seq → ℕ → X → ℕ → X
+    value end t v = λ q. v
+    value (letter c r s) t v = λ q. cond (leb q t) v (value s (suc t) (through c r v) q)
+    value (union a s) t v = λ q. cond (leb q t) v (cond (leb q (altsEnd a t)) (altsValue a t t v q) (value s (suc (altsEnd a t)) (past a v) q))
 
-    pub valA : Alts → ℕ → ℕ → X → ℕ → X
-    valA (last s) t p v = λ q. val s (suc p) (inside t (suc p) v) q
-    valA (more s a) t p v = λ q. cond (leb q (seqEnd s (suc p))) (val s (suc p) (inside t (suc p) v) q) (valA a t (seqEnd s (suc p)) v q)
+    pub altsValue : Alts → ℕ → ℕ → X → ℕ → X
+    altsValue (last s) t p v = λ q. value s (suc p) (inside t (suc p) v) q
+    altsValue (more s a) t p v = λ q. cond (leb q (seqEnd s (suc p))) (value s (suc p) (inside t (suc p) v) q) (altsValue a t (seqEnd s (suc p)) v q)
 
   -- the value at a sequence's end
   abbrev pub out : Seq → X → X
@@ -52,29 +52,29 @@ module _ {ℓ} (X : Type ℓ) (through : ℕ → Repeat → X → X) (past : Alt
 
     -- what agrees with the table on a sequence's states is one
     mutual
-      pub has : (s : Seq) (t : ℕ) (v : X) → ((q : ℕ) → t ≤ q → q ≤ seqEnd s t → W q ≡ val s t v q) → Has s t v
+      pub has : (s : Seq) (t : ℕ) (v : X) → ((q : ℕ) → t ≤ q → q ≤ seqEnd s t → W q ≡ value s t v q) → Has s t v
       has end t v A = A t (le-refl t) (le-refl t)
       has (letter c r s) t v A = (
-        A t (le-refl t) (fin-le (letter c r s) t) ∙ pick-le t t v (val s (suc t) (through c r v) t) (le-refl t),
-        has s (suc t) (through c r v) (λ q h k. A q (omega arith) k ∙ pick-gt q t v (val s (suc t) (through c r v) q) h),
+        A t (le-refl t) (seqEnd-le (letter c r s) t) ∙ pick-le t t v (value s (suc t) (through c r v) t) (le-refl t),
+        has s (suc t) (through c r v) (λ q h k. A q (omega arith) k ∙ pick-gt q t v (value s (suc t) (through c r v) q) h),
       )
       has (union a s) t v A = (
-        A t (le-refl t) (fin-le (union a s) t) ∙ pick-le t t v (rest t) (le-refl t),
-        hasA a t t v (λ q h k. A q (omega arith) (omega (arith, fin-le s (suc (altsEnd a t)))) ∙ pick-gt q t v (rest q) h
-            ∙ pick-le q (altsEnd a t) (valA a t t v q) (val s (suc (altsEnd a t)) (past a v) q) k),
-        has s (suc (altsEnd a t)) (past a v) (λ q h k. A q (omega (arith, finA-lt a t)) k ∙ pick-gt q t v (rest q) (omega (arith, finA-lt a t))
-            ∙ pick-gt q (altsEnd a t) (valA a t t v q) (val s (suc (altsEnd a t)) (past a v) q) h),
+        A t (le-refl t) (seqEnd-le (union a s) t) ∙ pick-le t t v (rest t) (le-refl t),
+        hasA a t t v (λ q h k. A q (omega arith) (omega (arith, seqEnd-le s (suc (altsEnd a t)))) ∙ pick-gt q t v (rest q) h
+            ∙ pick-le q (altsEnd a t) (altsValue a t t v q) (value s (suc (altsEnd a t)) (past a v) q) k),
+        has s (suc (altsEnd a t)) (past a v) (λ q h k. A q (omega (arith, altsEnd-lt a t)) k ∙ pick-gt q t v (rest q) (omega (arith, altsEnd-lt a t))
+            ∙ pick-gt q (altsEnd a t) (altsValue a t t v q) (value s (suc (altsEnd a t)) (past a v) q) h),
       )
         where
           rest : ℕ → X
-          rest q = cond (leb q (altsEnd a t)) (valA a t t v q) (val s (suc (altsEnd a t)) (past a v) q)
+          rest q = cond (leb q (altsEnd a t)) (altsValue a t t v q) (value s (suc (altsEnd a t)) (past a v) q)
 
-      pub hasA : (a : Alts) (t p : ℕ) (v : X) → ((q : ℕ) → p < q → q ≤ altsEnd a p → W q ≡ valA a t p v q) → HasA a t p v
+      pub hasA : (a : Alts) (t p : ℕ) (v : X) → ((q : ℕ) → p < q → q ≤ altsEnd a p → W q ≡ altsValue a t p v q) → HasA a t p v
       hasA (last s) t p v A = has s (suc p) (inside t (suc p) v) A
       hasA (more s a) t p v A = (
-        has s (suc p) (inside t (suc p) v) (λ q h k. A q h (omega (arith, finA-lt a (seqEnd s (suc p)))) ∙ pick-le q (seqEnd s (suc p)) (val s (suc p) (inside t (suc p) v) q) (valA a t (seqEnd s (suc p)) v q) k),
-        hasA a t (seqEnd s (suc p)) v (λ q h k. A q (omega (arith, fin-le s (suc p))) k ∙ pick-gt q (seqEnd s (suc p)) (val s (suc p) (inside t (suc p) v) q) (valA a t (seqEnd s (suc p)) v q) h),
+        has s (suc p) (inside t (suc p) v) (λ q h k. A q h (omega (arith, altsEnd-lt a (seqEnd s (suc p)))) ∙ pick-le q (seqEnd s (suc p)) (value s (suc p) (inside t (suc p) v) q) (altsValue a t (seqEnd s (suc p)) v q) k),
+        hasA a t (seqEnd s (suc p)) v (λ q h k. A q (omega (arith, seqEnd-le s (suc p))) k ∙ pick-gt q (seqEnd s (suc p)) (value s (suc p) (inside t (suc p) v) q) (altsValue a t (seqEnd s (suc p)) v q) h),
       )
 
-  pub table : (s : Seq) (t : ℕ) (v : X) → Has (val s t v) s t v
-  table s t v = has (val s t v) s t v (λ q h k. refl)
+  pub table : (s : Seq) (t : ℕ) (v : X) → Has (value s t v) s t v
+  table s t v = has (value s t v) s t v (λ q h k. refl)

@@ -39,8 +39,8 @@ module _ (P G S : ℕ → ℕ → ℕ → Type 0) where
   abbrev pub passes : ℕ → Set → Set
   passes d D = down d 0 (up d D)
 
-  abbrev pub Eps : ℕ → ℕ → Type 0
-  Eps q r = ((k : ℕ) × P k q r) ⊎ ((k : ℕ) × G k q r) ⊎ ((k : ℕ) × S k q r)
+  abbrev pub AnyEdge : ℕ → ℕ → Type 0
+  AnyEdge q r = ((k : ℕ) × P k q r) ⊎ ((k : ℕ) × G k q r) ⊎ ((k : ℕ) × S k q r)
 
   abbrev PS : ℕ → ℕ → Type 0
   PS q r = ((k : ℕ) × P k q r) ⊎ ((k : ℕ) × S k q r)
@@ -191,11 +191,11 @@ module _ (P G S : ℕ → ℕ → ℕ → Type 0) where
           go (inr x) = F-P k (x .0) r (x .3) (nG (x .2) k (x .0) (x .1) q r e (x .5) (x .4))
 
       -- the passes compute the closure
-      pub passes-are : (q : ℕ) → passes d D q ↔ Reached Eps D q
+      pub passes-are : (q : ℕ) → passes d D q ↔ Reached AnyEdge D q
       passes-are q = (there q, back)
         where
           C : Set
-          C = Reached Eps D
+          C = Reached AnyEdge D
 
           cP : (k : ℕ) → Shut (P k) C
           cP k x y u e = onward u (inl (k, e))
@@ -203,10 +203,10 @@ module _ (P G S : ℕ → ℕ → ℕ → Type 0) where
           there : (x : ℕ) → passes d D x → C x
           there = down-in C cP (λ k x y u e. onward u (inr (inr (k, e)))) d 0 U (up-in C cP (λ k x y u e. onward u (inr (inl (k, e)))) d D (λ x h. itself h))
 
-          shut : Shut Eps F
+          shut : Shut AnyEdge F
           shut x y u (inl e) = F-P (e .0) x y u (e .1)
           shut x y u (inr (inl e)) = F-G (e .0) x y u (e .1)
           shut x y u (inr (inr e)) = F-S (e .0) x y u (e .1)
 
-          back : Reached Eps D q → passes d D q
+          back : Reached AnyEdge D q → passes d D q
           back = clo-in (λ x h. down-base d 0 U x (up-base d D x h)) shut

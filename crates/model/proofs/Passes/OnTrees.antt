@@ -10,11 +10,11 @@ use Rattle.model.specs.Lists.{All}
 use Rattle.model.specs.Tree.{Alts, Repeat, Seq, canSkip, end, last, letter, more, union}
 use Rattle.model.specs.Edges.{Way, altsDepth, altsEmpty, altsEnd, depth, seqEmpty, seqEnd, ways}
 use Rattle.model.specs.Live.{Reached}
-use Rattle.model.proofs.Language.Arcs.{Arc, ArcKind, Ends, Starts, arc, arcs, branch-parts, branch-whole, forkArc, inner, letter-parts, letter-whole, letterArc, loopArc, propagateArc}
-use Rattle.model.proofs.Language.Values.{Has, HasA, has-end, has-start, out, table, val}
+use Rattle.model.proofs.Language.Arcs.{Arc, ArcKind, Ends, Starts, arc, arcs, branch-parts, branch-whole, forkArc, altsArcs, letter-parts, letter-whole, letterArc, loopArc, propagateArc}
+use Rattle.model.proofs.Language.Values.{Has, HasA, has-end, has-start, out, table, value}
 use Rattle.model.proofs.Laws.Bool.{and-both, and-split, or-left, or-right}
 use Rattle.model.proofs.Laws.Lists.{In, all-app, all-in, all-left, all-right, in-all}
-use Rattle.model.proofs.Passes.Closure.{Eps, passes, passes-are}
+use Rattle.model.proofs.Passes.Closure.{AnyEdge, passes, passes-are}
 
 -- what is known of a state: its depth, the start of its own sequence, the union start before that, and if the way from its own sequence's start needs no letter
 pub record Info : Type 0 where
@@ -169,12 +169,12 @@ module _ (E : Arc → Type 0) (W : ℕ → Info) (d : ℕ) where
           rest = good s u k (past a v) (omega arith) e (B .rest) (K .2);
         })
 
-    goodA : (a : Alts) (t p k : ℕ) (v : Info) → suc k + altsDepth a ≤ d → v .level ≡ k → All E (inner a p k) → KnownA W a t p v → All Good (inner a p k)
+    goodA : (a : Alts) (t p k : ℕ) (v : Info) → suc k + altsDepth a ≤ d → v .level ≡ k → All E (altsArcs a p k) → KnownA W a t p v → All Good (altsArcs a p k)
     goodA (last s) t p k v b x A K = good s (suc p) (suc k) (inside t (suc p) v) b (ap suc x) A K
     goodA (more s a) t p k v b x A K =
-        all-app Good (arcs s (suc p) (suc k)) (inner a (seqEnd s (suc p)) k)
-        (good s (suc p) (suc k) (inside t (suc p) v) (omega arith) (ap suc x) (all-left E (arcs s (suc p) (suc k)) (inner a (seqEnd s (suc p)) k) A) (K .0))
-        (goodA a t (seqEnd s (suc p)) k v (omega arith) x (all-right E (arcs s (suc p) (suc k)) (inner a (seqEnd s (suc p)) k) A) (K .1))
+        all-app Good (arcs s (suc p) (suc k)) (altsArcs a (seqEnd s (suc p)) k)
+        (good s (suc p) (suc k) (inside t (suc p) v) (omega arith) (ap suc x) (all-left E (arcs s (suc p) (suc k)) (altsArcs a (seqEnd s (suc p)) k) A) (K .0))
+        (goodA a t (seqEnd s (suc p)) k v (omega arith) x (all-right E (arcs s (suc p) (suc k)) (altsArcs a (seqEnd s (suc p)) k) A) (K .1))
 
 -- ---- the edges of each depth, and the passes of a tree
 
@@ -182,41 +182,41 @@ module _ (s : Seq) where
   abbrev pub In-tree : Arc → Type 0
   In-tree = In (arcs s 0 0)
 
-  abbrev pub P : ℕ → ℕ → ℕ → Type 0
-  P k q r = In-tree (arc propagateArc k q r)
+  abbrev pub Propagates : ℕ → ℕ → ℕ → Type 0
+  Propagates k q r = In-tree (arc propagateArc k q r)
 
-  abbrev pub S : ℕ → ℕ → ℕ → Type 0
-  S k q r = (xs : List Way) × (j : ℕ) × In-tree (arc (forkArc xs) k q j) × Starts xs r
+  abbrev pub Scatters : ℕ → ℕ → ℕ → Type 0
+  Scatters k q r = (xs : List Way) × (j : ℕ) × In-tree (arc (forkArc xs) k q j) × Starts xs r
 
-  abbrev pub G : ℕ → ℕ → ℕ → Type 0
-  G k q r = (xs : List Way) × (i : ℕ) × In-tree (arc (forkArc xs) k i r) × Ends xs q
+  abbrev pub Gathers : ℕ → ℕ → ℕ → Type 0
+  Gathers k q r = (xs : List Way) × (i : ℕ) × In-tree (arc (forkArc xs) k i r) × Ends xs q
 
   zero-info : Info
   zero-info = record { level = 0; home = 0; source = 0; free = true }
 
   W : ℕ → Info
-  W = val Info through past inside s 0 zero-info
+  W = value Info through past inside s 0 zero-info
 
   goods : All (Good In-tree W (depth s)) (arcs s 0 0)
   unfolding W zero-info
   goods = good In-tree W (depth s) s 0 0 zero-info (omega arith) refl (in-all (arcs s 0 0)) (table Info through past inside s 0 zero-info)
 
-  skip : (k q r : ℕ) → P k q r → Skip W (depth s) k q r
+  skip : (k q r : ℕ) → Propagates k q r → Skip W (depth s) k q r
   skip k q r i = all-in (Good In-tree W (depth s)) (arcs s 0 0) goods (arc propagateArc k q r) i
 
   parted : (xs : List Way) (k i j : ℕ) → In-tree (arc (forkArc xs) k i j) → Split In-tree W (depth s) k i j xs
   parted xs k i j x = all-in (Good In-tree W (depth s)) (arcs s 0 0) goods (arc (forkArc xs) k i j) x
 
-  begin : (k q r : ℕ) → S k q r → Begin W k q r
+  begin : (k q r : ℕ) → Scatters k q r → Begin W k q r
   begin k q r x = parted (x .0) k q (x .1) (x .2) .begins r (x .3)
 
-  finish : (k q r : ℕ) → G k q r → Finish In-tree W k q r
+  finish : (k q r : ℕ) → Gathers k q r → Finish In-tree W k q r
   finish k q r x = parted (x .0) k (x .1) r (x .2) .ends q (x .3)
 
   -- THE THEOREM
-  pub tree-passes : (D : ℕ → Type 0) (q : ℕ) → passes P G S (depth s) D q ↔ Reached (Eps P G S) D q
+  pub tree-passes : (D : ℕ → Type 0) (q : ℕ) → passes Propagates Gathers Scatters (depth s) D q ↔ Reached (AnyEdge Propagates Gathers Scatters) D q
   tree-passes =
-      passes-are P G S (λ x. W x .level)
+      passes-are Propagates Gathers Scatters (λ x. W x .level)
       (λ k x y i. (skip k x y i .dep-from, skip k x y i .dep-to))
       (λ k x y i. (finish k x y i .dep, parted (i .0) k (i .1) y (i .2) .dep-to))
       (λ k x y i. (parted (i .0) k x (i .1) (i .2) .dep-from, begin k x y i .dep))
@@ -226,4 +226,4 @@ module _ (s : Seq) where
       (λ k x y i. parted (i .0) k x (i .1) (i .2) .low)
       (λ k a x y n i. (skip k x y i .same ∙ n .0, skip k x y i .on (n .1)))
       (λ k x y i. (begin k x y i .own, begin k x y i .free))
-      (λ j k w a e f g n i. subst (λ (z : ℕ). P k z f) (ap (λ (z : ℕ). W z .source) (n .0) ∙ begin j w a i .source) (finish k e f g .bypass (n .1)))
+      (λ j k w a e f g n i. subst (λ (z : ℕ). Propagates k z f) (ap (λ (z : ℕ). W z .source) (n .0) ∙ begin j w a i .source) (finish k e f g .bypass (n .1)))

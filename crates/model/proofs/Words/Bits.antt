@@ -8,7 +8,7 @@ use native.Mathlib.Omega.{arith}
 use lib.Bits.{bitAnd, bitOr, bitXor, and-step, or-step, xor-step, differ}
 use lib.Pow.{pow-add}
 use Rattle.model.specs.Bits.{bit, digit, mask}
-use Rattle.model.proofs.Words.Ripple.{over, par, par-is, par-of}
+use Rattle.model.proofs.Words.Ripple.{over, odd, par-is, par-of}
 
 small : (b : Bool) → digit b < 2
 small true = omega arith
@@ -18,16 +18,16 @@ small false = omega arith
 module _ (op : ℕ → ℕ → ℕ) (f : ℕ → ℕ → ℕ) (g : Bool → Bool → Bool)
     (step : (a b : ℕ) → op a b ≡ op (a / 2) (b / 2) * 2 + f (a % 2) (b % 2))
     (digits : (p q : Bool) → f (digit p) (digit q) ≡ digit (g p q)) where
-  last-digit : (a b : ℕ) → op a b ≡ op (a / 2) (b / 2) * 2 + digit (g (par a) (par b))
-  last-digit a b = step a b ∙ ap₂ (λ (x y : ℕ). op (a / 2) (b / 2) * 2 + f x y) (par-is a) (par-is b) ∙ ap (λ (x : ℕ). op (a / 2) (b / 2) * 2 + x) (digits (par a) (par b))
+  last-digit : (a b : ℕ) → op a b ≡ op (a / 2) (b / 2) * 2 + digit (g (odd a) (odd b))
+  last-digit a b = step a b ∙ ap₂ (λ (x y : ℕ). op (a / 2) (b / 2) * 2 + f x y) (par-is a) (par-is b) ∙ ap (λ (x : ℕ). op (a / 2) (b / 2) * 2 + x) (digits (odd a) (odd b))
 
   bit-op : (i a b : ℕ) → bit (op a b) i ≡ g (bit a i) (bit b i)
-  bit-op zero a b = par-of (op a b) (g (par a) (par b)) (omega (arith, last-digit a b, small (g (par a) (par b))))
+  bit-op zero a b = par-of (op a b) (g (odd a) (odd b)) (omega (arith, last-digit a b, small (g (odd a) (odd b))))
   bit-op (suc i) a b =
       ap (λ (n : ℕ). bit n i) half ∙ bit-op i (a / 2) (b / 2)
     where
       half : op a b / 2 ≡ op (a / 2) (b / 2)
-      half = omega (arith, last-digit a b, small (g (par a) (par b)))
+      half = omega (arith, last-digit a b, small (g (odd a) (odd b)))
 
 pub bit-and : (i a b : ℕ) → bit (bitAnd a b) i ≡ (bit a i && bit b i)
 bit-and = bit-op bitAnd min _&&_ and-step (λ p q. go p q)
@@ -86,9 +86,9 @@ bit-ext (suc m) a b ha hb h =
     )
 
 -- a number of several words
-abbrev pub val : List ℕ → ℕ
-val [] = 0
-val (w ∷ ws) = w + 2 ^ 64 * val ws
+abbrev pub value : List ℕ → ℕ
+value [] = 0
+value (w ∷ ws) = w + 2 ^ 64 * value ws
 
 -- words after words, with the borrow out of each into the next: zs = xs - ys - b
 abbrev pub SubWords : List ℕ → List ℕ → List ℕ → Bool → Bool → Type 0
@@ -111,7 +111,7 @@ pub over-0 : (c : Bool) → 0 + digit c ≡ 0 + over c 0
 over-0 true = refl
 over-0 false = refl
 
-pub sub-words : (xs ys zs : List ℕ) (b c : Bool) → SubWords xs ys zs b c → val zs + val ys + digit b ≡ val xs + over c (bitsOf xs)
+pub sub-words : (xs ys zs : List ℕ) (b c : Bool) → SubWords xs ys zs b c → value zs + value ys + digit b ≡ value xs + over c (bitsOf xs)
 sub-words [] [] [] b c e = ap (λ (x : Bool). 0 + digit x) e ∙ over-0 c
 sub-words [] [] (z ∷ zs) b c e = absurd e
 sub-words [] (y ∷ ys) zs b c e = absurd e

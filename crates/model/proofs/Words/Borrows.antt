@@ -9,8 +9,8 @@ use native.Mathlib.Omega.{arith}
 use lib.Dec.{T, ltb, ltb→lt, nltb→le}
 use lib.Bits.{bitAnd, and-block}
 use Rattle.model.specs.Bits.{bit, digit}
-use Rattle.model.proofs.Words.Bits.{SubWords, bitsOf, over-0, over-64, sub-words, val}
-use Rattle.model.proofs.Words.Ripple.{add-bit, borrow, carry, into, odd3, over, par, par-is, par-of, sub-bit}
+use Rattle.model.proofs.Words.Bits.{SubWords, bitsOf, over-0, over-64, sub-words, value}
+use Rattle.model.proofs.Words.Ripple.{add-bit, borrow, carry, into, odd3, over, odd, par-is, par-of, sub-bit}
 
 abbrev pub wrapSub : ℕ → ℕ → ℕ
 wrapSub x y = (x + 2 ^ 64 - y) % 2 ^ 64
@@ -33,8 +33,8 @@ word-sub x y b hx hy = go (ltb x y) (ltb (wrapSub x y) (digit b)) (λ t. ltb→l
 
 -- the bits of a difference of several words
 pub words-bit : (xs ys zs : List ℕ) (b c : Bool) → SubWords xs ys zs b c → (i : ℕ) → i < bitsOf xs
-    → bit (val zs) i ≡ odd3 (bit (val xs) i) (bit (val ys) i) (into borrow (bit (val xs)) (bit (val ys)) b i)
-words-bit xs ys zs b c h i l = sub-bit i (bitsOf xs) (val xs) (val ys) (val zs) b c l (sub-words xs ys zs b c h)
+    → bit (value zs) i ≡ odd3 (bit (value xs) i) (bit (value ys) i) (into borrow (bit (value xs)) (bit (value ys)) b i)
+words-bit xs ys zs b c h i l = sub-bit i (bitsOf xs) (value xs) (value ys) (value zs) b c l (sub-words xs ys zs b c h)
 
 -- an operation that works on each run of digits apart works word by word
 abbrev pub each : (ℕ → ℕ → ℕ) → List ℕ → List ℕ → List ℕ
@@ -46,14 +46,14 @@ abbrev pub Fit : List ℕ → Type 0
 Fit [] = Unit
 Fit (w ∷ ws) = (w < 2 ^ 64) × Fit ws
 
-and-words : (xs ys : List ℕ) → bitsOf xs ≡ bitsOf ys → Fit xs → Fit ys → val (each bitAnd xs ys) ≡ bitAnd (val xs) (val ys)
+and-words : (xs ys : List ℕ) → bitsOf xs ≡ bitsOf ys → Fit xs → Fit ys → value (each bitAnd xs ys) ≡ bitAnd (value xs) (value ys)
 and-words [] [] e hx hy = refl
 and-words [] (y ∷ ys) e hx hy = absurd (omega arith)
 and-words (x ∷ xs) [] e hx hy = absurd (omega arith)
 and-words (x ∷ xs) (y ∷ ys) e hx hy =
     ap (λ (n : ℕ). bitAnd x y + 2 ^ 64 * n) (and-words xs ys (omega arith) (hx .1) (hy .1))
-    ∙ swap (bitAnd x y) (bitAnd (val xs) (val ys)) ∙ sym (and-block 64 (val xs) (val ys) x y (hx .0) (hy .0))
-    ∙ ap₂ bitAnd (sym (swap x (val xs))) (sym (swap y (val ys)))
+    ∙ swap (bitAnd x y) (bitAnd (value xs) (value ys)) ∙ sym (and-block 64 (value xs) (value ys) x y (hx .0) (hy .0))
+    ∙ ap₂ bitAnd (sym (swap x (value xs))) (sym (swap y (value ys)))
   where
     swap : (a n : ℕ) → a + 2 ^ 64 * n ≡ n * 2 ^ 64 + a
     swap a n = omega arith
@@ -77,16 +77,16 @@ into-same f X Y X′ Y′ c (suc i) hX hY = λ k. f (hX i (le-refl (suc i)) k) (
 
 -- words whose bits below m are those of two sets: so are the bits of their difference
 pub words-diff : (m : ℕ) (X Y : ℕ → Bool) (xs ys zs : List ℕ) (c : Bool) → SubWords xs ys zs false c → m ≤ bitsOf xs
-    → ((j : ℕ) → j < m → bit (val xs) j ≡ X j) → ((j : ℕ) → j < m → bit (val ys) j ≡ Y j)
-    → (i : ℕ) → i < m → bit (val zs) i ≡ odd3 (X i) (Y i) (into borrow X Y false i)
+    → ((j : ℕ) → j < m → bit (value xs) j ≡ X j) → ((j : ℕ) → j < m → bit (value ys) j ≡ Y j)
+    → (i : ℕ) → i < m → bit (value zs) i ≡ odd3 (X i) (Y i) (into borrow X Y false i)
 words-diff m X Y xs ys zs c h l hX hY i k =
     words-bit xs ys zs false c h i (omega arith)
-    ∙ (λ t. odd3 (hX i k t) (hY i k t) (into-same borrow (bit (val xs)) (bit (val ys)) X Y false i (λ j p. hX j (omega arith)) (λ j p. hY j (omega arith)) t))
+    ∙ (λ t. odd3 (hX i k t) (hY i k t) (into-same borrow (bit (value xs)) (bit (value ys)) X Y false i (λ j p. hX j (omega arith)) (λ j p. hY j (omega arith)) t))
 
 -- the complement
 pub bit-not : (n i z : ℕ) → z < 2 ^ n → i < n → bit (2 ^ n - 1 - z) i ≡ not (bit z i)
 bit-not zero i z h l = absurd (not-suc-le-zero l)
-bit-not (suc n) zero z h l = par-of (2 ^ suc n - 1 - z) (not (par z)) (go (par z) (par-is z))
+bit-not (suc n) zero z h l = par-of (2 ^ suc n - 1 - z) (not (odd z)) (go (odd z) (par-is z))
   where
     go : (b : Bool) → z % 2 ≡ digit b → (2 ^ suc n - 1 - z) % 2 ≡ digit (not b)
     go true e = omega (arith, pow-suc 2 n)
@@ -105,7 +105,7 @@ AddWords (x ∷ xs) [] zs b c = ⊥
 AddWords (x ∷ xs) (y ∷ ys) [] b c = ⊥
 AddWords (x ∷ xs) (y ∷ ys) (z ∷ zs) b c = (b′ : Bool) × (z + digit b′ * 2 ^ 64 ≡ x + y + digit b) × AddWords xs ys zs b′ c
 
-pub add-words : (xs ys zs : List ℕ) (b c : Bool) → AddWords xs ys zs b c → val zs + over c (bitsOf xs) ≡ val xs + val ys + digit b
+pub add-words : (xs ys zs : List ℕ) (b c : Bool) → AddWords xs ys zs b c → value zs + over c (bitsOf xs) ≡ value xs + value ys + digit b
 add-words [] [] [] b c e = sym (ap (λ (x : Bool). 0 + digit x) e ∙ over-0 c)
 add-words [] [] (z ∷ zs) b c e = absurd e
 add-words [] (y ∷ ys) zs b c e = absurd e
@@ -114,8 +114,8 @@ add-words (x ∷ xs) (y ∷ ys) [] b c e = absurd e
 add-words (x ∷ xs) (y ∷ ys) (z ∷ zs) b c e = omega (arith, e .1, add-words xs ys zs (e .0) c (e .2), over-64 c (bitsOf xs))
 
 pub words-sum : (m : ℕ) (X Y : ℕ → Bool) (xs ys zs : List ℕ) (c : Bool) → AddWords xs ys zs false c → m ≤ bitsOf xs
-    → ((j : ℕ) → j < m → bit (val xs) j ≡ X j) → ((j : ℕ) → j < m → bit (val ys) j ≡ Y j)
-    → (i : ℕ) → i < m → bit (val zs) i ≡ odd3 (X i) (Y i) (into carry X Y false i)
+    → ((j : ℕ) → j < m → bit (value xs) j ≡ X j) → ((j : ℕ) → j < m → bit (value ys) j ≡ Y j)
+    → (i : ℕ) → i < m → bit (value zs) i ≡ odd3 (X i) (Y i) (into carry X Y false i)
 words-sum m X Y xs ys zs c h l hX hY i k =
-    add-bit i (bitsOf xs) (val xs) (val ys) (val zs) false c (omega arith) (add-words xs ys zs false c h)
-    ∙ (λ t. odd3 (hX i k t) (hY i k t) (into-same carry (bit (val xs)) (bit (val ys)) X Y false i (λ j p. hX j (omega arith)) (λ j p. hY j (omega arith)) t))
+    add-bit i (bitsOf xs) (value xs) (value ys) (value zs) false c (omega arith) (add-words xs ys zs false c h)
+    ∙ (λ t. odd3 (hX i k t) (hY i k t) (into-same carry (bit (value xs)) (bit (value ys)) X Y false i (λ j p. hX j (omega arith)) (λ j p. hY j (omega arith)) t))

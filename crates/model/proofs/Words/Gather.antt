@@ -64,13 +64,13 @@ pub ascG-weaken : (a b : ℕ) (us : List Union) → b ≤ a → AscG a us → As
 ascG-weaken a b [] h A = tt
 ascG-weaken a b (u ∷ us) h A = (omega (arith, A .0), A .1, A .2, A .3)
 
-abbrev pub blockG : List Union → ℕ → Bool
-blockG us x = any (λ u. leb (u .first) x && ltb x (u .close)) us
+abbrev pub gatherBlockOf : List Union → ℕ → Bool
+gatherBlockOf us x = any (λ u. leb (u .first) x && ltb x (u .close)) us
 
-abbrev pub sourceG : List Union → ℕ → Bool
-sourceG us x = any (λ u. within x (u .ends)) us
+abbrev pub gatherSourceOf : List Union → ℕ → Bool
+gatherSourceOf us x = any (λ u. within x (u .ends)) us
 
-no-blockG : (x a : ℕ) (us : List Union) → x < a → AscG a us → blockG us x ≡ false
+no-blockG : (x a : ℕ) (us : List Union) → x < a → AscG a us → gatherBlockOf us x ≡ false
 no-blockG x a [] h A = refl
 no-blockG x a (u ∷ us) h A =
     ap₂ (λ (c d : Bool). c || d)
@@ -81,7 +81,7 @@ no-blockG x a (u ∷ us) h A =
     and-l true b h = tt
     and-l false b h = absurd h
 
-no-sourceG : (x a : ℕ) (us : List Union) → x < a → AscG a us → sourceG us x ≡ false
+no-sourceG : (x a : ℕ) (us : List Union) → x < a → AscG a us → gatherSourceOf us x ≡ false
 no-sourceG x a [] h A = refl
 no-sourceG x a (u ∷ us) h A =
     ap₂ (λ (c d : Bool). c || d) (is-not (within x (u .ends)) (λ t. omega (arith, A .0, A .2 x t))) (no-sourceG x (suc (u .close)) us (omega (arith, A .0, A .1)) (A .3))
@@ -90,7 +90,7 @@ module _ (D X Y : ℕ → Bool) where
   abbrev pub Sum : ℕ → Bool
   Sum j = odd3 (X j) (Y j) (into carry X Y false j)
 
-  pub gather : (a : ℕ) (us : List Union) → AscG a us → ((x : ℕ) → a ≤ x → X x ≡ blockG us x) → ((x : ℕ) → a ≤ x → Y x ≡ (D x && sourceG us x))
+  pub gather : (a : ℕ) (us : List Union) → AscG a us → ((x : ℕ) → a ≤ x → X x ≡ gatherBlockOf us x) → ((x : ℕ) → a ≤ x → Y x ≡ (D x && gatherSourceOf us x))
       → into carry X Y false a ≡ false → All (λ u. T (Sum (u .close)) ↔ ((x : ℕ) × T (D x) × T (within x (u .ends)))) us
   gather a [] A hX hY c = tt
   gather a (u ∷ us) A hX hY c = (
@@ -146,8 +146,8 @@ module _ (D X Y : ℕ → Bool) where
       put : (x : ℕ) × T (D x) × T (within x (u .ends)) → Below X Y lo hi ones c-lo hi
       put w = let r = A .2 (w .0) (w .2) in (w .0, r .0, r .1, T-of (Y-at (w .0) (omega (arith, A .0, r .0)) (omega (arith, r .1))) (and-both (D (w .0)) (within (w .0) (u .ends)) (w .1) (w .2)))
 
-      X-rest : (x : ℕ) → suc hi ≤ x → X x ≡ blockG us x
-      X-rest x h = hX x (omega (arith, A .0, A .1)) ∙ ap (λ (b : Bool). b || blockG us x) (is-not (leb lo x && ltb x hi) (λ t. omega (arith, ltb→lt x hi (and-split (leb lo x) (ltb x hi) t .1))))
+      X-rest : (x : ℕ) → suc hi ≤ x → X x ≡ gatherBlockOf us x
+      X-rest x h = hX x (omega (arith, A .0, A .1)) ∙ ap (λ (b : Bool). b || gatherBlockOf us x) (is-not (leb lo x && ltb x hi) (λ t. omega (arith, ltb→lt x hi (and-split (leb lo x) (ltb x hi) t .1))))
 
-      Y-rest : (x : ℕ) → suc hi ≤ x → Y x ≡ (D x && sourceG us x)
-      Y-rest x h = hY x (omega (arith, A .0, A .1)) ∙ ap (λ (b : Bool). D x && (b || sourceG us x)) (is-not (within x (u .ends)) (λ t. omega (arith, A .2 x t .1)))
+      Y-rest : (x : ℕ) → suc hi ≤ x → Y x ≡ (D x && gatherSourceOf us x)
+      Y-rest x h = hY x (omega (arith, A .0, A .1)) ∙ ap (λ (b : Bool). D x && (b || gatherSourceOf us x)) (is-not (within x (u .ends)) (λ t. omega (arith, A .2 x t .1)))

@@ -11,8 +11,8 @@ use Rattle.model.specs.Lists.{All, within}
 use Rattle.model.specs.Tree.{Alts, Seq, canLoop, canSkip, end, last, letter, more, union}
 use Rattle.model.specs.Edges.{Way, altsEmpty, altsEnd, endsOf, seqEnd, startsOf, ways}
 use Rattle.model.specs.Image.{firstEnd, lastStart}
-use Rattle.model.proofs.Language.Arcs.{Arc, ArcKind, arc, arcs, branch-whole, forkArc, inner, letter-whole, letterArc, loopArc, propagateArc, when}
-use Rattle.model.proofs.Language.Languages.{fin-le, finA-lt}
+use Rattle.model.proofs.Language.Arcs.{Arc, ArcKind, arc, arcs, branch-whole, forkArc, altsArcs, letter-whole, letterArc, loopArc, propagateArc, when}
+use Rattle.model.proofs.Language.Languages.{seqEnd-le, altsEnd-lt}
 use Rattle.model.proofs.Laws.Bool.{or-split, unequal}
 use Rattle.model.proofs.Laws.Lists.{all-app, all-map}
 use Rattle.model.proofs.Words.Gather.{AscG}
@@ -44,11 +44,11 @@ mutual
   depths (letter c r s) t k = letter-whole (deeper k) c r s t k (record { takes = le-refl k; loops = λ x. le-refl k; skips = λ x. le-refl k; rest = depths s (suc t) k })
   depths (union a s) t k =
       branch-whole (deeper k) a s t k (record
-      { skips = λ x. le-refl k; forks = le-refl k; alts = all-map (deeper (suc k)) (deeper k) (λ e h. omega arith) (inner a t k) (depthsA a t k); rest = depths s (suc (altsEnd a t)) k })
+      { skips = λ x. le-refl k; forks = le-refl k; alts = all-map (deeper (suc k)) (deeper k) (λ e h. omega arith) (altsArcs a t k) (depthsA a t k); rest = depths s (suc (altsEnd a t)) k })
 
-  pub depthsA : (a : Alts) (p k : ℕ) → All (deeper (suc k)) (inner a p k)
+  pub depthsA : (a : Alts) (p k : ℕ) → All (deeper (suc k)) (altsArcs a p k)
   depthsA (last s) p k = depths s (suc p) (suc k)
-  depthsA (more s a) p k = all-app (deeper (suc k)) (arcs s (suc p) (suc k)) (inner a (seqEnd s (suc p)) k) (depths s (suc p) (suc k)) (depthsA a (seqEnd s (suc p)) k)
+  depthsA (more s a) p k = all-app (deeper (suc k)) (arcs s (suc p) (suc k)) (altsArcs a (seqEnd s (suc p)) k) (depths s (suc p) (suc k)) (depthsA a (seqEnd s (suc p)) k)
 
 -- what is taken out of the arcs of depth k
 module _ (X : Type 0) (pickP : ℕ → ℕ → List X) (pickF : List Way → ℕ → ℕ → List X) where
@@ -134,24 +134,24 @@ module _ (X : Type 0) (pickP : ℕ → ℕ → List X) (pickF : List Way → ℕ
             fs = pickF (ways a t) t u
 
             as′ : List X
-            as′ = itemsOf k (inner a t j)
+            as′ = itemsOf k (altsArcs a t j)
 
             rs : List X
             rs = itemsOf k (arcs s u j)
 
             whole : List X
-            whole = itemsOf k (inner a t j ++ arcs s u j)
+            whole = itemsOf k (altsArcs a t j ++ arcs s u j)
 
             parts : whole ≡ as′ ++ rs
-            parts = items-app k (inner a t j) (arcs s u j)
+            parts = items-app k (altsArcs a t j) (arcs s u j)
 
             bare : eqb j k ≡ true → whole ≡ rs
-            bare e = parts ∙ ap (λ (l : List X). l ++ rs) (items-none k (inner a t j) (all-map (deeper (suc j)) (deeper (suc k)) (λ x h. omega (arith, eqb→eq j k (subst T (sym e) tt))) (inner a t j) (depthsA a t j)))
+            bare e = parts ∙ ap (λ (l : List X). l ++ rs) (items-none k (altsArcs a t j) (all-map (deeper (suc j)) (deeper (suc k)) (λ x h. omega (arith, eqb→eq j k (subst T (sym e) tt))) (altsArcs a t j) (depthsA a t j)))
 
             glue : (n : Bool) → Rows u z rs → Rows t z ((keep n ps ++ fs) ++ rs)
             glue n B = rows-app t u z (keep n ps ++ fs) rs (both n a t (F .0)) B
 
-            go : (n b : Bool) → eqb j k ≡ b → Rows t (altsEnd a t) as′ → Rows u z rs → Rows t z (itemsOf k (when n (arc propagateArc j t u) (arc (forkArc (ways a t)) j t u ∷ (inner a t j ++ arcs s u j))))
+            go : (n b : Bool) → eqb j k ≡ b → Rows t (altsEnd a t) as′ → Rows u z rs → Rows t z (itemsOf k (when n (arc propagateArc j t u) (arc (forkArc (ways a t)) j t u ∷ (altsArcs a t j ++ arcs s u j))))
             go true true e A B = subst (λ (b : Bool). Rows t z (keep b ps ++ (keep b fs ++ whole))) (sym e) (subst (λ (l : List X). Rows t z (ps ++ (fs ++ l))) (sym (bare e)) (subst (Rows t z) (append-assoc ps fs rs) (glue true B)))
             go false true e A B = subst (λ (b : Bool). Rows t z (keep b fs ++ whole)) (sym e) (subst (λ (l : List X). Rows t z (fs ++ l)) (sym (bare e)) (glue false B))
             go true false e A B =
@@ -161,11 +161,11 @@ module _ (X : Type 0) (pickP : ℕ → ℕ → List X) (pickF : List Way → ℕ
                 subst (λ (b : Bool). Rows t z (keep b fs ++ whole)) (sym e)
                 (subst (Rows t z) (sym parts) (rows-app t (altsEnd a t) z as′ rs A (rows-from u (altsEnd a t) z rs (omega arith) B)))
 
-        pub rowsA : (a : Alts) (p j k : ℕ) → FullA a → Rows p (altsEnd a p) (itemsOf k (inner a p j))
+        pub rowsA : (a : Alts) (p j k : ℕ) → FullA a → Rows p (altsEnd a p) (itemsOf k (altsArcs a p j))
         rowsA (last s) p j k F = rows-from (suc p) p (seqEnd s (suc p)) (itemsOf k (arcs s (suc p) (suc j))) (omega arith) (rows s (suc p) (suc j) k (F .1))
         rowsA (more s a) p j k F =
-            subst (Rows p (altsEnd a z)) (sym (items-app k (arcs s (suc p) (suc j)) (inner a z j)))
-            (rows-app p z (altsEnd a z) (itemsOf k (arcs s (suc p) (suc j))) (itemsOf k (inner a z j))
+            subst (Rows p (altsEnd a z)) (sym (items-app k (arcs s (suc p) (suc j)) (altsArcs a z j)))
+            (rows-app p z (altsEnd a z) (itemsOf k (arcs s (suc p) (suc j))) (itemsOf k (altsArcs a z j))
             (rows-from (suc p) p z (itemsOf k (arcs s (suc p) (suc j))) (omega arith) (rows s (suc p) (suc j) k (F .1))) (rowsA a (seqEnd s (suc p)) j k (F .2)))
           where
             z : ℕ
@@ -173,36 +173,36 @@ module _ (X : Type 0) (pickP : ℕ → ℕ → List X) (pickF : List Way → ℕ
 
 -- ---- the propagate edges
 
-abbrev pub pairP : ℕ → ℕ → List Way
-pairP i j = (i, j) ∷ []
+abbrev pub ofPropagate : ℕ → ℕ → List Way
+ofPropagate i j = (i, j) ∷ []
 
-abbrev pub pairF : List Way → ℕ → ℕ → List Way
-pairF xs i j = []
+abbrev pub noFork : List Way → ℕ → ℕ → List Way
+noFork xs i j = []
 
-abbrev pub propsOf : ℕ → List Arc → List Way
-propsOf = itemsOf Way pairP pairF
+abbrev pub propagatesOf : ℕ → List Arc → List Way
+propagatesOf = itemsOf Way ofPropagate noFork
 
-pub props-rise : (s : Seq) (k : ℕ) → Full s → AscP 0 (propsOf k (arcs s 0 0))
+pub props-rise : (s : Seq) (k : ℕ) → Full s → AscP 0 (propagatesOf k (arcs s 0 0))
 props-rise s k F =
-    plain 0 (seqEnd s 0) (propsOf k (arcs s 0 0))
-    (rows Way pairP pairF (λ p. p .0) (λ p. p .1) (λ p. p .0 < p .1) (λ p h. h) (λ t. (le-refl t, le-refl (suc t), le-refl (suc t))) two s 0 0 k F)
+    plain 0 (seqEnd s 0) (propagatesOf k (arcs s 0 0))
+    (rows Way ofPropagate noFork (λ p. p .0) (λ p. p .1) (λ p. p .0 < p .1) (λ p h. h) (λ t. (le-refl t, le-refl (suc t), le-refl (suc t))) two s 0 0 k F)
   where
-    plain : (a b : ℕ) (ps : List Way) → Rows Way pairP pairF (λ p. p .0) (λ p. p .1) (λ p. p .0 < p .1) (λ p h. h) a b ps → AscP a ps
+    plain : (a b : ℕ) (ps : List Way) → Rows Way ofPropagate noFork (λ p. p .0) (λ p. p .1) (λ p. p .0 < p .1) (λ p h. h) a b ps → AscP a ps
     plain a b [] A = tt
     plain a b (p ∷ ps) A = (A .0, A .1, plain (p .1) b ps (A .2))
 
-    two : (b : Bool) (a : Alts) (t : ℕ) → FullA a → Rows Way pairP pairF (λ p. p .0) (λ p. p .1) (λ p. p .0 < p .1) (λ p h. h) t (suc (altsEnd a t))
-        (keep Way pairP pairF b (pairP t (suc (altsEnd a t))) ++ [])
-    two true a t F = (le-refl t, omega (arith, finA-lt a t), le-refl (suc (altsEnd a t)))
-    two false a t F = omega (arith, finA-lt a t)
+    two : (b : Bool) (a : Alts) (t : ℕ) → FullA a → Rows Way ofPropagate noFork (λ p. p .0) (λ p. p .1) (λ p. p .0 < p .1) (λ p h. h) t (suc (altsEnd a t))
+        (keep Way ofPropagate noFork b (ofPropagate t (suc (altsEnd a t))) ++ [])
+    two true a t F = (le-refl t, omega (arith, altsEnd-lt a t), le-refl (suc (altsEnd a t)))
+    two false a t F = omega (arith, altsEnd-lt a t)
 
 -- ---- the forks
 
-abbrev pub unionF : List Way → ℕ → ℕ → List Union
-unionF xs i j = record { level = 0; open′ = i; close = j; first = firstEnd xs; final = lastStart xs; starts = startsOf xs; ends = endsOf xs } ∷ []
+abbrev pub ofFork : List Way → ℕ → ℕ → List Union
+ofFork xs i j = record { level = 0; open′ = i; close = j; first = firstEnd xs; final = lastStart xs; starts = startsOf xs; ends = endsOf xs } ∷ []
 
-abbrev pub unionP : ℕ → ℕ → List Union
-unionP i j = []
+abbrev pub noPropagate : ℕ → ℕ → List Union
+noPropagate i j = []
 
 pub record Sound (u : Union) : Type 0 where
   pub begins : u .open′ < u .final
@@ -214,17 +214,17 @@ pub record Sound (u : Union) : Type 0 where
 
 non-empty : (s : Seq) (t : ℕ) → NonEmpty s → t < seqEnd s t
 non-empty end t h = absurd h
-non-empty (letter c r s) t h = fin-le s (suc t)
-non-empty (union a s) t h = omega (arith, finA-lt a t, fin-le s (suc (altsEnd a t)))
+non-empty (letter c r s) t h = seqEnd-le s (suc t)
+non-empty (union a s) t h = omega (arith, altsEnd-lt a t, seqEnd-le s (suc (altsEnd a t)))
 
 pub last-in : (a : Alts) (p : ℕ) → FullA a → (p < lastStart (ways a p)) × (lastStart (ways a p) < altsEnd a p)
 last-in (last s) p F = (le-refl (suc p), non-empty s (suc p) (F .0))
-last-in (more s (last s′)) p F = omega (arith, fin-le s (suc p), last-in (last s′) (seqEnd s (suc p)) (F .2))
-last-in (more s (more s′ a)) p F = omega (arith, fin-le s (suc p), last-in (more s′ a) (seqEnd s (suc p)) (F .2))
+last-in (more s (last s′)) p F = omega (arith, seqEnd-le s (suc p), last-in (last s′) (seqEnd s (suc p)) (F .2))
+last-in (more s (more s′ a)) p F = omega (arith, seqEnd-le s (suc p), last-in (more s′ a) (seqEnd s (suc p)) (F .2))
 
 pub first-in : (a : Alts) (p : ℕ) → (p < firstEnd (ways a p)) × (firstEnd (ways a p) ≤ altsEnd a p)
-first-in (last s) p = omega (arith, fin-le s (suc p))
-first-in (more s a) p = omega (arith, fin-le s (suc p), finA-lt a (seqEnd s (suc p)))
+first-in (last s) p = omega (arith, seqEnd-le s (suc p))
+first-in (more s a) p = omega (arith, seqEnd-le s (suc p), altsEnd-lt a (seqEnd s (suc p)))
 
 pub ends-between : (a : Alts) (p x : ℕ) → T (within x (endsOf (ways a p))) → (firstEnd (ways a p) ≤ x) × (x ≤ altsEnd a p)
 ends-between (last s) p x h = go (or-split (eqb x (seqEnd s (suc p))) false h)
@@ -236,7 +236,7 @@ ends-between (more s a) p x h = go (or-split (eqb x (seqEnd s (suc p))) (within 
   where
     go : T (eqb x (seqEnd s (suc p))) ⊎ T (within x (endsOf (ways a (seqEnd s (suc p))))) → (T (within x (endsOf (ways a (seqEnd s (suc p))))) → (firstEnd (ways a (seqEnd s (suc p))) ≤ x) × (x ≤ altsEnd a (seqEnd s (suc p))))
         → (seqEnd s (suc p) ≤ x) × (x ≤ altsEnd a (seqEnd s (suc p)))
-    go (inl e) ih = omega (arith, eqb→eq x (seqEnd s (suc p)) e, finA-lt a (seqEnd s (suc p)))
+    go (inl e) ih = omega (arith, eqb→eq x (seqEnd s (suc p)) e, altsEnd-lt a (seqEnd s (suc p)))
     go (inr e) ih = omega (arith, ih e, first-in a (seqEnd s (suc p)))
 
 pub starts-between : (a : Alts) (p x : ℕ) → T (within x (startsOf (ways a p))) → (p < x) × (x ≤ lastStart (ways a p))
@@ -256,25 +256,25 @@ starts-between (more s a) p x h = go (or-split (eqb x (suc p)) (within x (starts
 
     above : (a : Alts) (q : ℕ) → q < lastStart (ways a q)
     above (last s) q = le-refl (suc q)
-    above (more s (last s′)) q = omega (arith, fin-le s (suc q), above (last s′) (seqEnd s (suc q)))
-    above (more s (more s′ a)) q = omega (arith, fin-le s (suc q), above (more s′ a) (seqEnd s (suc q)))
+    above (more s (last s′)) q = omega (arith, seqEnd-le s (suc q), above (last s′) (seqEnd s (suc q)))
+    above (more s (more s′ a)) q = omega (arith, seqEnd-le s (suc q), above (more s′ a) (seqEnd s (suc q)))
 
     go : T (eqb x (suc p)) ⊎ T (within x (startsOf (ways a z))) → (T (within x (startsOf (ways a z))) → (z < x) × (x ≤ lastStart (ways a z)))
         → (p < x) × (x ≤ lastStart ((suc p, z) ∷ ways a z))
-    go (inl e) ih = omega (arith, eqb→eq x (suc p) e, skip a, above a z, fin-le s (suc p))
-    go (inr e) ih = omega (arith, ih e, skip a, fin-le s (suc p))
+    go (inl e) ih = omega (arith, eqb→eq x (suc p) e, skip a, above a z, seqEnd-le s (suc p))
+    go (inr e) ih = omega (arith, ih e, skip a, seqEnd-le s (suc p))
 
 pub grows : (u : Union) → Sound u → u .open′ < u .close
 grows u S = omega (arith, S .opens, S .closes)
 
 abbrev pub forksOf : ℕ → List Arc → List Union
-forksOf = itemsOf Union unionP unionF
+forksOf = itemsOf Union noPropagate ofFork
 
 abbrev Forks : ℕ → ℕ → List Union → Type 0
-Forks = Rows Union unionP unionF (λ u. u .open′) (λ u. u .close) Sound grows
+Forks = Rows Union noPropagate ofFork (λ u. u .open′) (λ u. u .close) Sound grows
 
 forks-rows : (s : Seq) (k : ℕ) → Full s → Forks 0 (seqEnd s 0) (forksOf k (arcs s 0 0))
-forks-rows s k F = rows Union unionP unionF (λ u. u .open′) (λ u. u .close) Sound grows (λ t. omega arith) one s 0 0 k F
+forks-rows s k F = rows Union noPropagate ofFork (λ u. u .open′) (λ u. u .close) Sound grows (λ t. omega arith) one s 0 0 k F
   where
     sound : (a : Alts) (t : ℕ) → FullA a → Sound (record { level = 0; open′ = t; close = suc (altsEnd a t); first = firstEnd (ways a t); final = lastStart (ways a t); starts = startsOf (ways a t); ends = endsOf (ways a t) })
     sound a t F = record {
@@ -286,7 +286,7 @@ forks-rows s k F = rows Union unionP unionF (λ u. u .open′) (λ u. u .close) 
       starting = starts-between a t;
     }
 
-    one : (b : Bool) (a : Alts) (t : ℕ) → FullA a → Forks t (suc (altsEnd a t)) (keep Union unionP unionF b [] ++ unionF (ways a t) t (suc (altsEnd a t)))
+    one : (b : Bool) (a : Alts) (t : ℕ) → FullA a → Forks t (suc (altsEnd a t)) (keep Union noPropagate ofFork b [] ++ ofFork (ways a t) t (suc (altsEnd a t)))
     one true a t F = (le-refl t, sound a t F, le-refl (suc (altsEnd a t)))
     one false a t F = (le-refl t, sound a t F, le-refl (suc (altsEnd a t)))
 

@@ -14,52 +14,52 @@ use Rattle.model.specs.Bits.{bit, digit, mask}
 use Rattle.model.specs.Image.{words}
 use Rattle.model.proofs.Image.Apart.{length-words, set-bit, val-words, wide}
 use Rattle.model.proofs.Image.Laid.{set}
-use Rattle.model.proofs.Words.Bits.{SubWords, bit-and, bit-or, bit-xor, bitsOf, mask-lt, odd2, val}
+use Rattle.model.proofs.Words.Bits.{SubWords, bit-and, bit-or, bit-xor, bitsOf, mask-lt, odd2, value}
 use Rattle.model.proofs.Words.Borrows.{AddWords, Fit, bit-not, each, word-sub, words-diff, words-sum, wrapSub}
 use Rattle.model.proofs.Words.Ripple.{borrow, carry, into, odd3}
 
 -- ---- the operations
-abbrev pub andW : List ℕ → List ℕ → List ℕ
-andW = each bitAnd
+abbrev pub andWords : List ℕ → List ℕ → List ℕ
+andWords = each bitAnd
 
-abbrev pub orW : List ℕ → List ℕ → List ℕ
-orW = each bitOr
+abbrev pub orWords : List ℕ → List ℕ → List ℕ
+orWords = each bitOr
 
-abbrev pub xorW : List ℕ → List ℕ → List ℕ
-xorW = each bitXor
+abbrev pub xorWords : List ℕ → List ℕ → List ℕ
+xorWords = each bitXor
 
-abbrev pub notW : List ℕ → List ℕ
-notW [] = []
-notW (x ∷ xs) = (2 ^ 64 - 1 - x) ∷ notW xs
+abbrev pub notWords : List ℕ → List ℕ
+notWords [] = []
+notWords (x ∷ xs) = (2 ^ 64 - 1 - x) ∷ notWords xs
 
 -- a difference: the borrow out of each word goes into the next
-abbrev pub subW : List ℕ → List ℕ → Bool → List ℕ
-subW [] ys b = []
-subW (x ∷ xs) [] b = []
-subW (x ∷ xs) (y ∷ ys) b = wrapSub (wrapSub x y) (digit b) ∷ subW xs ys (ltb x y || ltb (wrapSub x y) (digit b))
+abbrev pub subtractWords : List ℕ → List ℕ → Bool → List ℕ
+subtractWords [] ys b = []
+subtractWords (x ∷ xs) [] b = []
+subtractWords (x ∷ xs) (y ∷ ys) b = wrapSub (wrapSub x y) (digit b) ∷ subtractWords xs ys (ltb x y || ltb (wrapSub x y) (digit b))
 
 abbrev pub wrapAdd : ℕ → ℕ → ℕ
 wrapAdd x y = (x + y) % 2 ^ 64
 
 -- a sum: the carry out of each word goes into the next
-abbrev pub addW : List ℕ → List ℕ → Bool → List ℕ
-addW [] ys c = []
-addW (x ∷ xs) [] c = []
-addW (x ∷ xs) (y ∷ ys) c = wrapAdd (wrapAdd x y) (digit c) ∷ addW xs ys (ltb (wrapAdd x y) x || ltb (wrapAdd (wrapAdd x y) (digit c)) (digit c))
+abbrev pub addWords : List ℕ → List ℕ → Bool → List ℕ
+addWords [] ys c = []
+addWords (x ∷ xs) [] c = []
+addWords (x ∷ xs) (y ∷ ys) c = wrapAdd (wrapAdd x y) (digit c) ∷ addWords xs ys (ltb (wrapAdd x y) x || ltb (wrapAdd (wrapAdd x y) (digit c)) (digit c))
 
 -- each state on by one
-abbrev pub shlW : List ℕ → Bool → List ℕ
-shlW [] c = []
-shlW (x ∷ xs) c = (x * 2 % 2 ^ 64 + digit c) ∷ shlW xs (leb (2 ^ 63) x)
+abbrev pub shiftWords : List ℕ → Bool → List ℕ
+shiftWords [] c = []
+shiftWords (x ∷ xs) c = (x * 2 % 2 ^ 64 + digit c) ∷ shiftWords xs (leb (2 ^ 63) x)
 
 -- ---- a row of W words with the set f below m; and with nothing from m on
 pub record Near (m W : ℕ) (xs : List ℕ) (f : ℕ → Bool) : Type 0 where
   pub len : length xs ≡ W
   pub fit : Fit xs
-  pub bits : (x : ℕ) → x < m → bit (val xs) x ≡ f x
+  pub bits : (x : ℕ) → x < m → bit (value xs) x ≡ f x
 
 abbrev pub None : ℕ → List ℕ → Type 0
-None m xs = (x : ℕ) → m ≤ x → bit (val xs) x ≡ false
+None m xs = (x : ℕ) → m ≤ x → bit (value xs) x ≡ false
 
 pub record Holds (m W : ℕ) (xs : List ℕ) (f : ℕ → Bool) : Type 0 where
   pub near : Near m W xs f
@@ -83,14 +83,14 @@ module _ (op : ℕ → ℕ → ℕ) (g : Bool → Bool → Bool) (nil : op 0 0 �
   each-fit (x ∷ xs) [] h k = tt
   each-fit (x ∷ xs) (y ∷ ys) h k = (lt 64 x y (h .0) (k .0), each-fit xs ys (h .1) (k .1))
 
-  each-val : (xs ys : List ℕ) → length xs ≡ length ys → Fit xs → Fit ys → val (each op xs ys) ≡ op (val xs) (val ys)
+  each-val : (xs ys : List ℕ) → length xs ≡ length ys → Fit xs → Fit ys → value (each op xs ys) ≡ op (value xs) (value ys)
   each-val [] [] e h k = sym nil
   each-val [] (y ∷ ys) e h k = absurd (omega arith)
   each-val (x ∷ xs) [] e h k = absurd (omega arith)
   each-val (x ∷ xs) (y ∷ ys) e h k =
       ap (λ (n : ℕ). op x y + 2 ^ 64 * n) (each-val xs ys (omega arith) (h .1) (k .1))
-      ∙ swap (op x y) (op (val xs) (val ys)) ∙ sym (block 64 (val xs) (val ys) x y (h .0) (k .0))
-      ∙ ap₂ op (sym (swap x (val xs))) (sym (swap y (val ys)))
+      ∙ swap (op x y) (op (value xs) (value ys)) ∙ sym (block 64 (value xs) (value ys) x y (h .0) (k .0))
+      ∙ ap₂ op (sym (swap x (value xs))) (sym (swap y (value ys)))
     where
       swap : (a n : ℕ) → a + 2 ^ 64 * n ≡ n * 2 ^ 64 + a
       swap a n = omega arith
@@ -99,62 +99,62 @@ module _ (op : ℕ → ℕ → ℕ) (g : Bool → Bool → Bool) (nil : op 0 0 �
     same-len : length xs ≡ length ys
     same-len = X .len ∙ sym (Y .len)
 
-    each-bit : (x : ℕ) → bit (val (each op xs ys)) x ≡ g (bit (val xs) x) (bit (val ys) x)
-    each-bit x = ap (λ (n : ℕ). bit n x) (each-val xs ys same-len (X .fit) (Y .fit)) ∙ bit-op x (val xs) (val ys)
+    each-bit : (x : ℕ) → bit (value (each op xs ys)) x ≡ g (bit (value xs) x) (bit (value ys) x)
+    each-bit x = ap (λ (n : ℕ). bit n x) (each-val xs ys same-len (X .fit) (Y .fit)) ∙ bit-op x (value xs) (value ys)
 
     near-op : Near m W (each op xs ys) (λ x. g (f x) (h x))
     near-op = record { len = each-len xs ys same-len ∙ X .len; fit = each-fit xs ys (X .fit) (Y .fit); bits = λ x l. each-bit x ∙ ap₂ g (X .bits x l) (Y .bits x l) }
 
 module _ (m W : ℕ) (xs ys : List ℕ) (f h : ℕ → Bool) (X : Near m W xs f) (Y : Near m W ys h) where
-  pub near-and : Near m W (andW xs ys) (λ x. f x && h x)
+  pub near-and : Near m W (andWords xs ys) (λ x. f x && h x)
   near-and = near-op bitAnd _&&_ refl and-block and-lt bit-and m W xs ys f h X Y
 
-  pub near-or : Near m W (orW xs ys) (λ x. f x || h x)
+  pub near-or : Near m W (orWords xs ys) (λ x. f x || h x)
   near-or = near-op bitOr _||_ refl or-block or-lt bit-or m W xs ys f h X Y
 
-  pub near-xor : Near m W (xorW xs ys) (λ x. odd2 (f x) (h x))
+  pub near-xor : Near m W (xorWords xs ys) (λ x. odd2 (f x) (h x))
   near-xor = near-op bitXor odd2 refl xor-block xor-lt bit-xor m W xs ys f h X Y
 
-  pub none-and-r : None m ys → None m (andW xs ys)
-  none-and-r n x l = each-bit bitAnd _&&_ refl and-block and-lt bit-and m W xs ys f h X Y x ∙ ap (λ (b : Bool). bit (val xs) x && b) (n x l) ∙ and-false (bit (val xs) x)
+  pub none-and-r : None m ys → None m (andWords xs ys)
+  none-and-r n x l = each-bit bitAnd _&&_ refl and-block and-lt bit-and m W xs ys f h X Y x ∙ ap (λ (b : Bool). bit (value xs) x && b) (n x l) ∙ and-false (bit (value xs) x)
 
-  pub none-and-l : None m xs → None m (andW xs ys)
-  none-and-l n x l = each-bit bitAnd _&&_ refl and-block and-lt bit-and m W xs ys f h X Y x ∙ ap (λ (b : Bool). b && bit (val ys) x) (n x l)
+  pub none-and-l : None m xs → None m (andWords xs ys)
+  none-and-l n x l = each-bit bitAnd _&&_ refl and-block and-lt bit-and m W xs ys f h X Y x ∙ ap (λ (b : Bool). b && bit (value ys) x) (n x l)
 
-  pub none-or : None m xs → None m ys → None m (orW xs ys)
+  pub none-or : None m xs → None m ys → None m (orWords xs ys)
   none-or n k x l = each-bit bitOr _||_ refl or-block or-lt bit-or m W xs ys f h X Y x ∙ ap₂ (λ (a b : Bool). a || b) (n x l) (k x l)
 
 -- the complement
-not-len : (xs : List ℕ) → length (notW xs) ≡ length xs
+not-len : (xs : List ℕ) → length (notWords xs) ≡ length xs
 not-len [] = refl
 not-len (x ∷ xs) = ap suc (not-len xs)
 
-not-fit : (xs : List ℕ) → Fit (notW xs)
+not-fit : (xs : List ℕ) → Fit (notWords xs)
 not-fit [] = tt
 not-fit (x ∷ xs) = (omega arith, not-fit xs)
 
-pub val-lt : (xs : List ℕ) → Fit xs → val xs < 2 ^ bitsOf xs
+pub val-lt : (xs : List ℕ) → Fit xs → value xs < 2 ^ bitsOf xs
 val-lt [] h = le-refl 1
 val-lt (x ∷ xs) h = let k = val-lt xs (h .1) in omega (arith, pow-add 2 64 (bitsOf xs))
 
-not-val : (xs : List ℕ) → Fit xs → val (notW xs) ≡ 2 ^ bitsOf xs - 1 - val xs
+not-val : (xs : List ℕ) → Fit xs → value (notWords xs) ≡ 2 ^ bitsOf xs - 1 - value xs
 not-val [] h = refl
 not-val (x ∷ xs) h = omega (arith, not-val xs (h .1), val-lt xs (h .1), pow-add 2 64 (bitsOf xs), pow-pos (bitsOf xs))
 
-pub near-not : (m W : ℕ) (xs : List ℕ) (f : ℕ → Bool) → m ≤ wide W → Near m W xs f → Near m W (notW xs) (λ x. not (f x))
+pub near-not : (m W : ℕ) (xs : List ℕ) (f : ℕ → Bool) → m ≤ wide W → Near m W xs f → Near m W (notWords xs) (λ x. not (f x))
 near-not m W xs f r X = record {
   len = not-len xs ∙ X .len;
   fit = not-fit xs;
-  bits = λ x l. ap (λ (n : ℕ). bit n x) (not-val xs (X .fit)) ∙ bit-not (bitsOf xs) x (val xs) (val-lt xs (X .fit)) (omega (arith, width-is xs, ap wide (X .len))) ∙ ap not (X .bits x l);
+  bits = λ x l. ap (λ (n : ℕ). bit n x) (not-val xs (X .fit)) ∙ bit-not (bitsOf xs) x (value xs) (val-lt xs (X .fit)) (omega (arith, width-is xs, ap wide (X .len))) ∙ ap not (X .bits x l);
 }
 
 -- differences and sums
-sub-len : (xs ys : List ℕ) (b : Bool) → length xs ≡ length ys → length (subW xs ys b) ≡ length xs
+sub-len : (xs ys : List ℕ) (b : Bool) → length xs ≡ length ys → length (subtractWords xs ys b) ≡ length xs
 sub-len [] ys b e = refl
 sub-len (x ∷ xs) [] b e = absurd (omega arith)
 sub-len (x ∷ xs) (y ∷ ys) b e = ap suc (sub-len xs ys (ltb x y || ltb (wrapSub x y) (digit b)) (omega arith))
 
-sub-fit : (xs ys : List ℕ) (b : Bool) → Fit (subW xs ys b)
+sub-fit : (xs ys : List ℕ) (b : Bool) → Fit (subtractWords xs ys b)
 sub-fit [] ys b = tt
 sub-fit (x ∷ xs) [] b = tt
 sub-fit (x ∷ xs) (y ∷ ys) b = (omega arith, sub-fit xs ys (ltb x y || ltb (wrapSub x y) (digit b)))
@@ -164,7 +164,7 @@ lastB [] ys b = b
 lastB (x ∷ xs) [] b = b
 lastB (x ∷ xs) (y ∷ ys) b = lastB xs ys (ltb x y || ltb (wrapSub x y) (digit b))
 
-sub-is : (xs ys : List ℕ) (b : Bool) → length xs ≡ length ys → Fit xs → Fit ys → SubWords xs ys (subW xs ys b) b (lastB xs ys b)
+sub-is : (xs ys : List ℕ) (b : Bool) → length xs ≡ length ys → Fit xs → Fit ys → SubWords xs ys (subtractWords xs ys b) b (lastB xs ys b)
 sub-is [] [] b e h k = refl
 sub-is [] (y ∷ ys) b e h k = absurd (omega arith)
 sub-is (x ∷ xs) [] b e h k = absurd (omega arith)
@@ -175,9 +175,9 @@ pub near-sub-of : (m W : ℕ) (xs ys zs : List ℕ) (c : Bool) (f h : ℕ → Bo
     → Near m W zs (λ x. odd3 (f x) (h x) (into borrow f h false x))
 near-sub-of m W xs ys zs c f h r l k R X Y = record { len = l; fit = k; bits = words-diff m f h xs ys zs c R (omega (arith, width-is xs, ap wide (X .len))) (X .bits) (Y .bits) }
 
-pub near-sub : (m W : ℕ) (xs ys : List ℕ) (f h : ℕ → Bool) → m ≤ wide W → Near m W xs f → Near m W ys h → Near m W (subW xs ys false) (λ x. odd3 (f x) (h x) (into borrow f h false x))
+pub near-sub : (m W : ℕ) (xs ys : List ℕ) (f h : ℕ → Bool) → m ≤ wide W → Near m W xs f → Near m W ys h → Near m W (subtractWords xs ys false) (λ x. odd3 (f x) (h x) (into borrow f h false x))
 near-sub m W xs ys f h r X Y =
-    near-sub-of m W xs ys (subW xs ys false) (lastB xs ys false) f h r (sub-len xs ys false (X .len ∙ sym (Y .len)) ∙ X .len) (sub-fit xs ys false) (sub-is xs ys false (X .len ∙ sym (Y .len)) (X .fit) (Y .fit)) X Y
+    near-sub-of m W xs ys (subtractWords xs ys false) (lastB xs ys false) f h r (sub-len xs ys false (X .len ∙ sym (Y .len)) ∙ X .len) (sub-fit xs ys false) (sub-is xs ys false (X .len ∙ sym (Y .len)) (X .fit) (Y .fit)) X Y
 
 pub word-add : (x y : ℕ) (c : Bool) → x < 2 ^ 64 → y < 2 ^ 64
     → wrapAdd (wrapAdd x y) (digit c) + digit (ltb (wrapAdd x y) x || ltb (wrapAdd (wrapAdd x y) (digit c)) (digit c)) * 2 ^ 64 ≡ x + y + digit c
@@ -199,12 +199,12 @@ word-add x y c hx hy =
 abbrev carryOf : ℕ → ℕ → Bool → Bool
 carryOf x y c = ltb (wrapAdd x y) x || ltb (wrapAdd (wrapAdd x y) (digit c)) (digit c)
 
-add-len : (xs ys : List ℕ) (c : Bool) → length xs ≡ length ys → length (addW xs ys c) ≡ length xs
+add-len : (xs ys : List ℕ) (c : Bool) → length xs ≡ length ys → length (addWords xs ys c) ≡ length xs
 add-len [] ys c e = refl
 add-len (x ∷ xs) [] c e = absurd (omega arith)
 add-len (x ∷ xs) (y ∷ ys) c e = ap suc (add-len xs ys (carryOf x y c) (omega arith))
 
-add-fit : (xs ys : List ℕ) (c : Bool) → Fit (addW xs ys c)
+add-fit : (xs ys : List ℕ) (c : Bool) → Fit (addWords xs ys c)
 add-fit [] ys c = tt
 add-fit (x ∷ xs) [] c = tt
 add-fit (x ∷ xs) (y ∷ ys) c = (omega arith, add-fit xs ys (carryOf x y c))
@@ -214,7 +214,7 @@ lastC [] ys c = c
 lastC (x ∷ xs) [] c = c
 lastC (x ∷ xs) (y ∷ ys) c = lastC xs ys (carryOf x y c)
 
-add-is : (xs ys : List ℕ) (c : Bool) → length xs ≡ length ys → Fit xs → Fit ys → AddWords xs ys (addW xs ys c) c (lastC xs ys c)
+add-is : (xs ys : List ℕ) (c : Bool) → length xs ≡ length ys → Fit xs → Fit ys → AddWords xs ys (addWords xs ys c) c (lastC xs ys c)
 add-is [] [] c e h k = refl
 add-is [] (y ∷ ys) c e h k = absurd (omega arith)
 add-is (x ∷ xs) [] c e h k = absurd (omega arith)
@@ -224,16 +224,16 @@ pub near-add-of : (m W : ℕ) (xs ys zs : List ℕ) (c : Bool) (f h : ℕ → Bo
     → Near m W zs (λ x. odd3 (f x) (h x) (into carry f h false x))
 near-add-of m W xs ys zs c f h r l k R X Y = record { len = l; fit = k; bits = words-sum m f h xs ys zs c R (omega (arith, width-is xs, ap wide (X .len))) (X .bits) (Y .bits) }
 
-pub near-add : (m W : ℕ) (xs ys : List ℕ) (f h : ℕ → Bool) → m ≤ wide W → Near m W xs f → Near m W ys h → Near m W (addW xs ys false) (λ x. odd3 (f x) (h x) (into carry f h false x))
+pub near-add : (m W : ℕ) (xs ys : List ℕ) (f h : ℕ → Bool) → m ≤ wide W → Near m W xs f → Near m W ys h → Near m W (addWords xs ys false) (λ x. odd3 (f x) (h x) (into carry f h false x))
 near-add m W xs ys f h r X Y =
-    near-add-of m W xs ys (addW xs ys false) (lastC xs ys false) f h r (add-len xs ys false (X .len ∙ sym (Y .len)) ∙ X .len) (add-fit xs ys false) (add-is xs ys false (X .len ∙ sym (Y .len)) (X .fit) (Y .fit)) X Y
+    near-add-of m W xs ys (addWords xs ys false) (lastC xs ys false) f h r (add-len xs ys false (X .len ∙ sym (Y .len)) ∙ X .len) (add-fit xs ys false) (add-is xs ys false (X .len ∙ sym (Y .len)) (X .fit) (Y .fit)) X Y
 
 -- the shift: it is a sum of the row with itself
-shl-len : (xs : List ℕ) (c : Bool) → length (shlW xs c) ≡ length xs
+shl-len : (xs : List ℕ) (c : Bool) → length (shiftWords xs c) ≡ length xs
 shl-len [] c = refl
 shl-len (x ∷ xs) c = ap suc (shl-len xs (leb (2 ^ 63) x))
 
-shl-fit : (xs : List ℕ) (c : Bool) → Fit (shlW xs c)
+shl-fit : (xs : List ℕ) (c : Bool) → Fit (shiftWords xs c)
 shl-fit [] c = tt
 shl-fit (x ∷ xs) c = (go c, shl-fit xs (leb (2 ^ 63) x))
   where
@@ -245,7 +245,7 @@ abbrev lastH : List ℕ → Bool → Bool
 lastH [] c = c
 lastH (x ∷ xs) c = lastH xs (leb (2 ^ 63) x)
 
-shl-is : (xs : List ℕ) (c : Bool) → Fit xs → AddWords xs xs (shlW xs c) c (lastH xs c)
+shl-is : (xs : List ℕ) (c : Bool) → Fit xs → AddWords xs xs (shiftWords xs c) c (lastH xs c)
 shl-is [] c h = refl
 shl-is (x ∷ xs) c h = (leb (2 ^ 63) x, go (leb (2 ^ 63) x) (λ t. leb→le (2 ^ 63) x t) (λ t. nleb→lt (2 ^ 63) x t), shl-is xs (leb (2 ^ 63) x) (h .1))
   where
@@ -257,11 +257,11 @@ abbrev pub next : (ℕ → Bool) → ℕ → Bool
 next f zero = false
 next f (suc x) = f x
 
-pub near-shl : (m W : ℕ) (xs : List ℕ) (f : ℕ → Bool) → m ≤ wide W → Near m W xs f → Near m W (shlW xs false) (next f)
+pub near-shl : (m W : ℕ) (xs : List ℕ) (f : ℕ → Bool) → m ≤ wide W → Near m W xs f → Near m W (shiftWords xs false) (next f)
 near-shl m W xs f r X = record {
   len = shl-len xs false ∙ X .len;
   fit = shl-fit xs false;
-  bits = λ x l. words-sum m f f xs xs (shlW xs false) (lastH xs false) (shl-is xs false (X .fit)) (omega (arith, width-is xs, ap wide (X .len))) (X .bits) (X .bits) x l ∙ go x;
+  bits = λ x l. words-sum m f f xs xs (shiftWords xs false) (lastH xs false) (shl-is xs false (X .fit)) (omega (arith, width-is xs, ap wide (X .len))) (X .bits) (X .bits) x l ∙ go x;
 }
   where
     same : (a c : Bool) → odd3 a a c ≡ c

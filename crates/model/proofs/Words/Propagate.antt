@@ -15,23 +15,23 @@ use Rattle.model.proofs.Words.Ripple.{borrow, into, odd3}
 use Rattle.model.proofs.Words.Runs.{run}
 
 -- a state in which an edge ends; from which one starts
-abbrev pub ins : List Way → ℕ → Bool
-ins [] x = false
-ins (p ∷ ps) x = eqb x (p .1) || ins ps x
+abbrev pub entersOf : List Way → ℕ → Bool
+entersOf [] x = false
+entersOf (p ∷ ps) x = eqb x (p .1) || entersOf ps x
 
-abbrev pub outs : List Way → ℕ → Bool
-outs [] x = false
-outs (p ∷ ps) x = eqb x (p .0) || outs ps x
+abbrev pub leavesOf : List Way → ℕ → Bool
+leavesOf [] x = false
+leavesOf (p ∷ ps) x = eqb x (p .0) || leavesOf ps x
 
 abbrev pub AscP : ℕ → List Way → Type 0
 AscP a [] = Unit
 AscP a (p ∷ ps) = (a ≤ p .0) × (p .0 < p .1) × AscP (p .1) ps
 
-no-ins : (x a : ℕ) (ps : List Way) → x ≤ a → AscP a ps → ins ps x ≡ false
+no-ins : (x a : ℕ) (ps : List Way) → x ≤ a → AscP a ps → entersOf ps x ≡ false
 no-ins x a [] h A = refl
 no-ins x a (p ∷ ps) h A = ap₂ (λ (c d : Bool). c || d) (unequal x (p .1) (λ e. omega (arith, A .0, A .1))) (no-ins x (p .1) ps (omega (arith, A .0, A .1)) (A .2))
 
-no-outs : (x a : ℕ) (ps : List Way) → x < a → AscP a ps → outs ps x ≡ false
+no-outs : (x a : ℕ) (ps : List Way) → x < a → AscP a ps → leavesOf ps x ≡ false
 no-outs x a [] h A = refl
 no-outs x a (p ∷ ps) h A = ap₂ (λ (c d : Bool). c || d) (unequal x (p .0) (λ e. omega (arith, A .0))) (no-outs x (p .1) ps (omega (arith, A .0, A .1)) (A .2))
 
@@ -94,7 +94,7 @@ module _ (D I O : ℕ → Bool) where
   Done p = (R (p .1) ≡ (D (p .1) || R (p .0))) × (I (p .0) ≡ false → R (p .0) ≡ D (p .0))
 
   -- c: an edge ends in a
-  pub propagate : (a : ℕ) (c : Bool) (ps : List Way) → AscP a ps → I a ≡ c → ((x : ℕ) → a < x → I x ≡ ins ps x) → ((x : ℕ) → a ≤ x → O x ≡ outs ps x)
+  pub propagate : (a : ℕ) (c : Bool) (ps : List Way) → AscP a ps → I a ≡ c → ((x : ℕ) → a < x → I x ≡ entersOf ps x) → ((x : ℕ) → a ≤ x → O x ≡ leavesOf ps x)
       → (c ≡ false → B a ≡ false) → All Done ps
   propagate a c [] H ha hI hO hB = tt
   propagate a c (p ∷ ps) H ha hI hO hB = (
@@ -109,10 +109,10 @@ module _ (D I O : ℕ → Bool) where
       r = p .1
 
       O-q : O q ≡ true
-      O-q = hO q (H .0) ∙ ap (λ (b : Bool). b || outs ps q) (is-true (eqb q q) (eqb-refl q))
+      O-q = hO q (H .0) ∙ ap (λ (b : Bool). b || leavesOf ps q) (is-true (eqb q q) (eqb-refl q))
 
       I-r : I r ≡ true
-      I-r = hI r (omega (arith, H .0, H .1)) ∙ ap (λ (b : Bool). b || ins ps r) (is-true (eqb r r) (eqb-refl r))
+      I-r = hI r (omega (arith, H .0, H .1)) ∙ ap (λ (b : Bool). b || entersOf ps r) (is-true (eqb r r) (eqb-refl r))
 
       I-no : (x : ℕ) → a < x → x < r → I x ≡ false
       I-no x h k = hI x h ∙ ap₂ (λ (b d : Bool). b || d) (unequal x r (λ e. omega arith)) (no-ins x r ps (omega arith) (H .2))
@@ -154,8 +154,8 @@ module _ (D I O : ℕ → Bool) where
       R-r : R r ≡ (D r || R q)
       R-r = R-met r I-r ∙ ap (λ (b : Bool). D r || not b) B-r ∙ ap (λ (b : Bool). D r || b) (Bool·not-not (R q))
 
-      I-rest : (x : ℕ) → r < x → I x ≡ ins ps x
-      I-rest x h = hI x (omega (arith, H .0, H .1)) ∙ ap (λ (b : Bool). b || ins ps x) (unequal x r (λ e. omega arith))
+      I-rest : (x : ℕ) → r < x → I x ≡ entersOf ps x
+      I-rest x h = hI x (omega (arith, H .0, H .1)) ∙ ap (λ (b : Bool). b || entersOf ps x) (unequal x r (λ e. omega arith))
 
-      O-rest : (x : ℕ) → r ≤ x → O x ≡ outs ps x
-      O-rest x h = hO x (omega (arith, H .0, H .1)) ∙ ap (λ (b : Bool). b || outs ps x) (unequal x q (λ e. omega (arith, H .1)))
+      O-rest : (x : ℕ) → r ≤ x → O x ≡ leavesOf ps x
+      O-rest x h = hO x (omega (arith, H .0, H .1)) ∙ ap (λ (b : Bool). b || leavesOf ps x) (unequal x q (λ e. omega (arith, H .1)))

@@ -7,11 +7,11 @@ use native.Mathlib.Omega.{arith}
 use lib.Dec.{eqb}
 use Rattle.model.specs.Bits.{bit, digit}
 
-abbrev pub par : ℕ → Bool
-par n = eqb (n % 2) 1
+abbrev pub odd : ℕ → Bool
+odd n = eqb (n % 2) 1
 
 -- a number's last digit
-pub par-is : (n : ℕ) → (n % 2 ≡ digit (par n))
+pub par-is : (n : ℕ) → (n % 2 ≡ digit (odd n))
 par-is n = go (n % 2) (omega arith)
   where
     go : (d : ℕ) → d < 2 → d ≡ digit (eqb d 1)
@@ -19,7 +19,7 @@ par-is n = go (n % 2) (omega arith)
     go (suc zero) h = refl
     go (suc (suc d)) h = omega arith
 
-pub par-of : (n : ℕ) (b : Bool) → n % 2 ≡ digit b → par n ≡ b
+pub par-of : (n : ℕ) (b : Bool) → n % 2 ≡ digit b → odd n ≡ b
 par-of n true e = ap (λ (d : ℕ). eqb d 1) e
 par-of n false e = ap (λ (d : ℕ). eqb d 1) e
 
@@ -86,18 +86,18 @@ pub sub-bit : (i n x y z : ℕ) (b c′ : Bool) → i < n → z + y + digit b �
     → bit z i ≡ odd3 (bit x i) (bit y i) (into borrow (bit x) (bit y) b i)
 sub-bit i zero x y z b c′ h e = absurd (not-suc-le-zero h)
 sub-bit zero (suc n) x y z b c′ h e =
-    par-of z _ (sub-step (par x) (par y) x y z (digit b) (over c′ n) b (par-is x) (par-is y) refl (e ∙ ap (λ (k : ℕ). x + k) (over-suc c′ n)) .0)
+    par-of z _ (sub-step (odd x) (odd y) x y z (digit b) (over c′ n) b (par-is x) (par-is y) refl (e ∙ ap (λ (k : ℕ). x + k) (over-suc c′ n)) .0)
 sub-bit (suc i) (suc n) x y z b c′ h e =
-    sub-bit i n (x / 2) (y / 2) (z / 2) (borrow (par x) (par y) b) c′ (le-of-suc-le-suc h)
-    (sub-step (par x) (par y) x y z (digit b) (over c′ n) b (par-is x) (par-is y) refl (e ∙ ap (λ (k : ℕ). x + k) (over-suc c′ n)) .1)
+    sub-bit i n (x / 2) (y / 2) (z / 2) (borrow (odd x) (odd y) b) c′ (le-of-suc-le-suc h)
+    (sub-step (odd x) (odd y) x y z (digit b) (over c′ n) b (par-is x) (par-is y) refl (e ∙ ap (λ (k : ℕ). x + k) (over-suc c′ n)) .1)
     ∙ ap (odd3 (bit (x / 2) i) (bit (y / 2) i)) (into-shift borrow (bit x) (bit y) b i)
 
 pub add-bit : (i n x y z : ℕ) (b c′ : Bool) → i < n → z + over c′ n ≡ x + y + digit b
     → bit z i ≡ odd3 (bit x i) (bit y i) (into carry (bit x) (bit y) b i)
 add-bit i zero x y z b c′ h e = absurd (not-suc-le-zero h)
 add-bit zero (suc n) x y z b c′ h e =
-    par-of z _ (add-step (par x) (par y) x y z (digit b) (over c′ n) b (par-is x) (par-is y) refl (ap (λ (k : ℕ). z + k) (sym (over-suc c′ n)) ∙ e) .0)
+    par-of z _ (add-step (odd x) (odd y) x y z (digit b) (over c′ n) b (par-is x) (par-is y) refl (ap (λ (k : ℕ). z + k) (sym (over-suc c′ n)) ∙ e) .0)
 add-bit (suc i) (suc n) x y z b c′ h e =
-    add-bit i n (x / 2) (y / 2) (z / 2) (carry (par x) (par y) b) c′ (le-of-suc-le-suc h)
-    (add-step (par x) (par y) x y z (digit b) (over c′ n) b (par-is x) (par-is y) refl (ap (λ (k : ℕ). z + k) (sym (over-suc c′ n)) ∙ e) .1)
+    add-bit i n (x / 2) (y / 2) (z / 2) (carry (odd x) (odd y) b) c′ (le-of-suc-le-suc h)
+    (add-step (odd x) (odd y) x y z (digit b) (over c′ n) b (par-is x) (par-is y) refl (ap (λ (k : ℕ). z + k) (sym (over-suc c′ n)) ∙ e) .1)
     ∙ ap (odd3 (bit (x / 2) i) (bit (y / 2) i)) (into-shift carry (bit x) (bit y) b i)

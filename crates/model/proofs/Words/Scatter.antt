@@ -37,23 +37,23 @@ any-none p x a [] h f A = refl
 any-none p x a (u ∷ us) h f A = ap₂ (λ (c d : Bool). c || d) (f u (omega (arith, A .0)) (A .1)) (any-none p x (u .close) us (omega (arith, A .0, A .1, A .2)) f (A .3))
 
 -- scatter's block and source
-abbrev pub blockS : List Union → ℕ → Bool
-blockS us x = any (λ u. eqb x (suc (u .final))) us
+abbrev pub scatterBlockOf : List Union → ℕ → Bool
+scatterBlockOf us x = any (λ u. eqb x (suc (u .final))) us
 
-abbrev pub sourceS : List Union → ℕ → Bool
-sourceS us x = any (λ u. eqb x (u .open′)) us
+abbrev pub scatterSourceOf : List Union → ℕ → Bool
+scatterSourceOf us x = any (λ u. eqb x (u .open′)) us
 
-no-block : (x a : ℕ) (us : List Union) → x < a → Asc a us → blockS us x ≡ false
+no-block : (x a : ℕ) (us : List Union) → x < a → Asc a us → scatterBlockOf us x ≡ false
 no-block x a us h A = any-none (λ u. eqb x (suc (u .final))) x a us h (λ u k l. unequal x (suc (u .final)) (λ e. omega arith)) A
 
-no-source : (x a : ℕ) (us : List Union) → x < a → Asc a us → sourceS us x ≡ false
+no-source : (x a : ℕ) (us : List Union) → x < a → Asc a us → scatterSourceOf us x ≡ false
 no-source x a us h A = any-none (λ u. eqb x (u .open′)) x a us h (λ u k l. unequal x (u .open′) (λ e. omega arith)) A
 
 module _ (D X Y : ℕ → Bool) where
   abbrev pub Diff : ℕ → Bool
   Diff j = odd3 (X j) (Y j) (into borrow X Y false j)
 
-  pub scatter : (a : ℕ) (us : List Union) → Asc a us → ((x : ℕ) → a ≤ x → X x ≡ blockS us x) → ((x : ℕ) → a ≤ x → Y x ≡ (D x && sourceS us x))
+  pub scatter : (a : ℕ) (us : List Union) → Asc a us → ((x : ℕ) → a ≤ x → X x ≡ scatterBlockOf us x) → ((x : ℕ) → a ≤ x → Y x ≡ (D x && scatterSourceOf us x))
       → into borrow X Y false a ≡ false → All (λ u. (j : ℕ) → u .open′ ≤ j → j ≤ u .final → Diff j ≡ D (u .open′)) us
   scatter a [] A hX hY c = tt
   scatter a (u ∷ us) A hX hY c = (
@@ -100,8 +100,8 @@ module _ (D X Y : ℕ → Bool) where
       X-hi : X hi ≡ true
       X-hi = X-at hi (omega (arith, A .0, A .1)) (A .2) ∙ is-true (eqb hi hi) (eqb-refl hi)
 
-      X-rest : (x : ℕ) → suc hi ≤ x → X x ≡ blockS us x
-      X-rest x h = hX x (omega (arith, A .0, A .1)) ∙ ap (λ (b : Bool). b || blockS us x) (unequal x hi (λ e. omega arith))
+      X-rest : (x : ℕ) → suc hi ≤ x → X x ≡ scatterBlockOf us x
+      X-rest x h = hX x (omega (arith, A .0, A .1)) ∙ ap (λ (b : Bool). b || scatterBlockOf us x) (unequal x hi (λ e. omega arith))
 
-      Y-rest : (x : ℕ) → suc hi ≤ x → Y x ≡ (D x && sourceS us x)
-      Y-rest x h = hY x (omega (arith, A .0, A .1)) ∙ ap (λ (b : Bool). D x && (b || sourceS us x)) (unequal x lo (λ e. omega (arith, A .1)))
+      Y-rest : (x : ℕ) → suc hi ≤ x → Y x ≡ (D x && scatterSourceOf us x)
+      Y-rest x h = hY x (omega (arith, A .0, A .1)) ∙ ap (λ (b : Bool). D x && (b || scatterSourceOf us x)) (unequal x lo (λ e. omega (arith, A .1)))

@@ -6,3 +6,4 @@ pub mod Passes
 pub mod Words
 pub mod Ends
 pub mod Image
+pub mod Definitions

@@ -70,13 +70,13 @@ module _ (s : Seq) (F : Full s) where
   es = arcs s 0 0
 
   -- what a byte moves
-  abbrev Moved : ℕ → (ℕ → Bool) → ℕ → Type 0
+  abbrev pub Moved : ℕ → (ℕ → Bool) → ℕ → Type 0
   Moved b D x = (x ≡ 0) ⊎ ((e : Arc) × (q : ℕ) × In es e × Byte b (e .kind) (e .from) (e .to) q x × T (D q))
 
   near : (e : Arc) → In es e → Steps e
   near = all-in Steps es (steps s 0 0)
 
-  moved-out : (b : ℕ) (D : ℕ → Bool) (x : ℕ) → T (moved es b D x) → Moved b D x
+  pub moved-out : (b : ℕ) (D : ℕ → Bool) (x : ℕ) → T (moved es b D x) → Moved b D x
   moved-out b D zero h = inl refl
   moved-out b D (suc x) h = go (or-split (D x && letterSet es b (suc x)) (D (suc x) && loopSet es b (suc x)) h)
     where
@@ -108,7 +108,7 @@ module _ (s : Seq) (F : Full s) where
           let c = and-split (loopsByte b (r .0 .kind)) (eqb (suc x) (r .0 .to)) (r .2) in
           onL (r .0) (r .0 .kind) refl (r .1) (c .0) (eqb→eq (suc x) (r .0 .to) (c .1)) (a .0)
 
-  moved-in : (b : ℕ) (D : ℕ → Bool) (e : Arc) (q x : ℕ) → In es e → Byte b (e .kind) (e .from) (e .to) q x → T (D q) → T (moved es b D x)
+  pub moved-in : (b : ℕ) (D : ℕ → Bool) (e : Arc) (q x : ℕ) → In es e → Byte b (e .kind) (e .from) (e .to) q x → T (D q) → T (moved es b D x)
   moved-in b D e q zero i m d = tt
   moved-in b D e q (suc x) i m d = go (e .kind) refl m (near e i)
     where
@@ -139,7 +139,7 @@ module _ (s : Seq) (F : Full s) where
   liveSet [] = passed s F (depth s) first
   liveSet (b ∷ w) = passed s F (depth s) (moved es b (liveSet w))
 
-  still-eps : (e : Arc) (q r : ℕ) → In es e → Still (e .kind) (e .from) (e .to) q r → AnyEdge (Propagates s) (Gathers s) (Scatters s) q r
+  pub still-eps : (e : Arc) (q r : ℕ) → In es e → Still (e .kind) (e .from) (e .to) q r → AnyEdge (Propagates s) (Gathers s) (Scatters s) q r
   still-eps e q r i m = go (e .kind) refl m
     where
       arc-is : (w : ArcKind) → e .kind ≡ w → (x y : ℕ) → x ≡ e .from → y ≡ e .to → In es (arc w (e .level) x y)

@@ -1,0 +1,7 @@
+-- Definitions
+pub mod Parts
+pub mod Free
+pub mod Takes
+pub mod Masks
+pub mod Live
+pub mod Ends

@@ -1,0 +1,98 @@
+-- The live states of document 01 are the bits that the passes set: before any byte, after one from any set of states, and so after a text.
+use mathlib.Core.Path.{_≡_, refl, sym, ap, subst}
+use mathlib.Core.Logic.{_⊎_, inl, inr, _↔_}
+use mathlib.Core.Bool.{Bool}
+use mathlib.Core.List.{List, [], _∷_}
+use Prim.Native.Nat.{ℕ}
+use lib.Dec.{T, eqb→eq, eqb-refl}
+use Rattle.model.specs.Tree.{Tree}
+use Rattle.model.specs.Edges.{depth}
+use Rattle.model.specs.Live.{Reached, itself, onward, Free, Takes, Before, After, LiveFrom, Live}
+use Rattle.model.proofs.Language.Arcs.{Arc, arc, arcs, propagateArc, forkArc}
+use Rattle.model.proofs.Language.Stretches.{feed}
+use Rattle.model.proofs.Passes.Closure.{AnyEdge}
+use Rattle.model.proofs.Passes.OnTrees.{Gathers, Propagates, Scatters}
+use Rattle.model.proofs.Words.InOrder.{Full}
+use Rattle.model.proofs.Words.Passes.{bits-are, passed}
+use Rattle.model.proofs.Ends.Run.{moved, moved-out, moved-in, Moved, still-eps, first, liveSet}
+use Rattle.model.proofs.Definitions.Parts.{StillAlong}
+use Rattle.model.proofs.Definitions.Free.{free-is}
+use Rattle.model.proofs.Definitions.Takes.{takes-is}
+
+-- what is reached grows with the edges and with the set
+reached-map : {R S : ℕ → ℕ → Type 0} {D E : ℕ → Type 0} → ((q r : ℕ) → R q r → S q r) → ((q : ℕ) → D q → E q) → {q : ℕ} → Reached R D q → Reached S E q
+reached-map f g (itself h) = itself (g _ h)
+reached-map f g (onward {q} {r} c e) = onward (reached-map f g c) (f q r e)
+
+module _ (t : Tree) (F : Full t) where
+  abbrev Silent : ℕ → ℕ → Type 0
+  Silent = AnyEdge (Propagates t) (Gathers t) (Scatters t)
+
+  silent-free : (q r : ℕ) → Silent q r → Free t q r
+  silent-free q r h = free-is t q r .1 (go h)
+    where
+      go : Silent q r → StillAlong (arcs t 0 0) q r
+      go (inl e) = (arc propagateArc (e .0) q r, e .1, (refl, refl))
+      go (inr (inl e)) = (arc (forkArc (e .1 .0)) (e .0) (e .1 .1) r, e .1 .2, inr (e .1 .3, refl))
+      go (inr (inr e)) = (arc (forkArc (e .1 .0)) (e .0) q (e .1 .1), e .1 .2, inl (refl, e .1 .3))
+
+  free-silent : (q r : ℕ) → Free t q r → Silent q r
+  free-silent q r h = let a = free-is t q r .0 h in still-eps t F (a .0) q r (a .1) (a .2)
+
+  -- the passes from any set give what the edges without a letter reach
+  pub passed-is : (D : ℕ → Bool) (q : ℕ) → T (passed t F (depth t) D q) ↔ Reached (Free t) (λ x. T (D x)) q
+  passed-is D q = (
+    λ h. reached-map silent-free (λ x k. k) (bits-are t F D q .0 h),
+    λ h. bits-are t F D q .1 (reached-map free-silent (λ x k. k) h),
+  )
+
+  -- BEFORE ANY BYTE
+  pub before-is : (q : ℕ) → T (passed t F (depth t) (first t F) q) ↔ Before t q
+  before-is q = (
+    λ h. reached-map (λ x y e. e) (λ x k. eqb→eq x 0 k) (passed-is (first t F) q .0 h),
+    λ h. passed-is (first t F) q .1 (reached-map (λ x y e. e) (λ x k. subst (λ (y : ℕ). T (first t F y)) (sym k) (eqb-refl 0)) h),
+  )
+
+  -- AFTER A BYTE, from any set of states
+  pub after-is : (b : ℕ) (D : ℕ → Bool) (q : ℕ) → T (passed t F (depth t) (moved (arcs t 0 0) b D) q) ↔ After t b (λ x. T (D x)) q
+  after-is b D q = (
+    λ h. reached-map (λ x y e. e) (λ x k. there x (moved-out t F b D x k)) (passed-is (moved (arcs t 0 0) b D) q .0 h),
+    λ h. passed-is (moved (arcs t 0 0) b D) q .1 (reached-map (λ x y e. e) back h),
+  )
+    where
+      Moves : ℕ → Type 0
+      Moves r = (r ≡ 0) ⊎ ((q : ℕ) × T (D q) × Takes t b q r)
+
+      there : (x : ℕ) → Moved t F b D x → Moves x
+      there x (inl e) = inl e
+      there x (inr m) = inr (m .1, m .4, takes-is t b (m .1) x .1 (m .0, m .2, m .3))
+
+      back : (x : ℕ) → Moves x → T (moved (arcs t 0 0) b D x)
+      back x (inl e) = subst (λ (y : ℕ). T (moved (arcs t 0 0) b D y)) (sym e) tt
+      back x (inr m) = let a = takes-is t b (m .0) x .0 (m .2) in moved-in t F b D (a .0) (m .0) x (a .1) (a .2) (m .1)
+
+  after-map : (b : ℕ) {D E : ℕ → Type 0} → ((q : ℕ) → D q → E q) → (q : ℕ) → After t b D q → After t b E q
+  after-map b {D} {E} f q = reached-map (λ x y e. e) go
+    where
+      go : (r : ℕ) → (r ≡ 0) ⊎ ((q : ℕ) × D q × Takes t b q r) → (r ≡ 0) ⊎ ((q : ℕ) × E q × Takes t b q r)
+      go r (inl e) = inl e
+      go r (inr m) = inr (m .0, f (m .0) (m .1), m .2)
+
+  live-map : (text : List ℕ) {D E : ℕ → Type 0} → ((q : ℕ) → D q → E q) → (q : ℕ) → LiveFrom t D text q → LiveFrom t E text q
+  live-map [] f q h = f q h
+  live-map (b ∷ text) f q h = live-map text (after-map b f) q h
+
+  -- after the bytes w, the last one first, and then those of a text
+  live-on : (w text : List ℕ) (q : ℕ) → T (liveSet t F (feed w text) q) ↔ LiveFrom t (λ x. T (liveSet t F w x)) text q
+  live-on w [] q = (λ h. h, λ h. h)
+  live-on w (b ∷ text) q = (
+    λ h. live-map text (λ x. after-is b (liveSet t F w) x .0) q (live-on (b ∷ w) text q .0 h),
+    λ h. live-on (b ∷ w) text q .1 (live-map text (λ x. after-is b (liveSet t F w) x .1) q h),
+  )
+
+  -- AFTER A TEXT
+  pub live-is : (text : List ℕ) (q : ℕ) → T (liveSet t F (feed [] text) q) ↔ Live t text q
+  live-is text q = (
+    λ h. live-map text (λ x. before-is x .0) q (live-on [] text q .0 h),
+    λ h. live-on [] text q .1 (live-map text (λ x. before-is x .1) q h),
+  )

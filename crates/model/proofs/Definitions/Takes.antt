@@ -1,0 +1,134 @@
+-- The edges that take a byte are the ways along arcs by that byte: both are a letter's own edge and its loop.
+use mathlib.Core.Path.{_≡_, refl, sym, ap, subst}
+use mathlib.Core.Logic.{_⊎_, inl, inr, _↔_}
+use mathlib.Core.Bool.{Bool, _||_, or-false}
+use mathlib.Core.List.{List, [], _∷_, _++_, map}
+use Prim.Native.Nat.{ℕ, suc}
+use lib.Dec.{T}
+use Rattle.model.specs.Bits.{bit}
+use Rattle.model.specs.Tree.{canSkip, canLoop, Tree}
+use Rattle.model.specs.Edges.{Part, letterAt, unionAt, parts, EdgeKind, letterEdge, loopEdge, propagateEdge, scatterEdge, gatherEdge, Edge, edge, edgesOf, byLetter, byLoop}
+use Rattle.model.specs.Edges.{when as whenEdge}
+use Rattle.model.specs.Live.{Takes}
+use Rattle.model.proofs.Laws.Bool.{or-left}
+use Rattle.model.proofs.Laws.Lists.{In}
+use Rattle.model.proofs.Laws.Each.{in-left, in-split, map-in, in-each, each-in}
+use Rattle.model.proofs.Language.Arcs.{letterArc, loopArc, propagateArc, forkArc, Arc, arc, when, arcs, Byte}
+use Rattle.model.proofs.Definitions.Parts.{arcsOf, arcs-are, ByteAlong, edge-when, when-edge, arc-when, when-arc, kind-is, from-is, to-is}
+
+abbrev TakesIn : List Edge → ℕ → ℕ → ℕ → Type 0
+TakesIn es b q r = (e : EdgeKind) × (k : ℕ) × In es (edge e k q r) × T (byLetter b e || byLoop b e)
+
+takes-part : (p : Part) (b q r : ℕ) → TakesIn (edgesOf p) b q r → ByteAlong (arcsOf p) b q r
+takes-part (letterAt c x k i) b q r (e, j, m, h) = go m
+  where
+    L : Arc
+    L = arc (loopArc c) k (suc i) (suc i)
+
+    S : Arc
+    S = arc propagateArc k i (suc i)
+
+    Found : Type 0
+    Found = ByteAlong (arcsOf (letterAt c x k i)) b q r
+
+    kept : (f : EdgeKind) → e ≡ f → T (byLetter b f || byLoop b f)
+    kept f s = subst (λ (y : EdgeKind). T (byLetter b y || byLoop b y)) s h
+
+    rest : In (whenEdge (canLoop x) (edge (loopEdge c) k (suc i) (suc i))) (edge e j q r) ⊎ In (whenEdge (canSkip x) (edge propagateEdge k i (suc i))) (edge e j q r) → Found
+    rest (inl n) =
+        let s = edge-when (canLoop x) (edge (loopEdge c) k (suc i) (suc i)) (edge e j q r) n in
+        let f = loopEdge c in
+        (L, inr (when-arc (canLoop x) L (when (canSkip x) S []) (s .0)), (kept f (kind-is e f j k q r (suc i) (suc i) (s .1)), from-is e f j k q r (suc i) (suc i) (s .1), to-is e f j k q r (suc i) (suc i) (s .1)))
+    rest (inr n) = absurd (kept propagateEdge (kind-is e propagateEdge j k q r i (suc i) (edge-when (canSkip x) _ _ n .1)))
+
+    go : In (edgesOf (letterAt c x k i)) (edge e j q r) → Found
+    go (inl s) =
+        let f = letterEdge c in
+        (arc (letterArc c) k i (suc i), inl refl, (subst T (or-false (bit c b)) (kept f (kind-is e f j k q r i (suc i) s)), from-is e f j k q r i (suc i) s, to-is e f j k q r i (suc i) s))
+    go (inr n) = rest (in-split (whenEdge (canLoop x) (edge (loopEdge c) k (suc i) (suc i))) (whenEdge (canSkip x) (edge propagateEdge k i (suc i))) (edge e j q r) n)
+takes-part (unionAt empty k t ws u) b q r (e, j, m, h) = go (in-split scatters (gathers ++ over) (edge e j q r) m)
+  where
+    scatters : List Edge
+    scatters = map (λ a. edge scatterEdge k t (a .0)) ws
+
+    gathers : List Edge
+    gathers = map (λ a. edge gatherEdge k (a .1) u) ws
+
+    over : List Edge
+    over = whenEdge empty (edge propagateEdge k t u)
+
+    Found : Type 0
+    Found = ByteAlong (arcsOf (unionAt empty k t ws u)) b q r
+
+    kept : (f : EdgeKind) → e ≡ f → T (byLetter b f || byLoop b f)
+    kept f s = subst (λ (y : EdgeKind). T (byLetter b y || byLoop b y)) s h
+
+    rest : In gathers (edge e j q r) ⊎ In over (edge e j q r) → Found
+    rest (inl n) = let w = map-in (λ a. edge gatherEdge k (a .1) u) ws (edge e j q r) n in absurd (kept gatherEdge (kind-is e gatherEdge j k q r (w .0 .1) u (w .2)))
+    rest (inr n) = absurd (kept propagateEdge (kind-is e propagateEdge j k q r t u (edge-when empty _ _ n .1)))
+
+    go : In scatters (edge e j q r) ⊎ In (gathers ++ over) (edge e j q r) → Found
+    go (inl n) = let w = map-in (λ a. edge scatterEdge k t (a .0)) ws (edge e j q r) n in absurd (kept scatterEdge (kind-is e scatterEdge j k q r t (w .0 .0) (w .2)))
+    go (inr n) = rest (in-split gathers over (edge e j q r) n)
+
+part-takes : (p : Part) (b q r : ℕ) → ByteAlong (arcsOf p) b q r → TakesIn (edgesOf p) b q r
+part-takes (letterAt c x k i) b q r (a, m, h) = go m
+  where
+    L : Arc
+    L = arc (loopArc c) k (suc i) (suc i)
+
+    S : Arc
+    S = arc propagateArc k i (suc i)
+
+    Found : Type 0
+    Found = TakesIn (edgesOf (letterAt c x k i)) b q r
+
+    moved : (y : Arc) → a ≡ y → Byte b (y .kind) (y .from) (y .to) q r
+    moved y s = subst (λ (y : Arc). Byte b (y .kind) (y .from) (y .to) q r) s h
+
+    skip : (T (canSkip x) × (a ≡ S)) ⊎ In [] a → Found
+    skip (inl s) = absurd (moved S (s .1))
+    skip (inr n) = absurd n
+
+    loop : (T (canLoop x) × (a ≡ L)) ⊎ In (when (canSkip x) S []) a → Found
+    loop (inl s) =
+        let n = moved L (s .1) in
+        let w = whenEdge (canLoop x) (edge (loopEdge c) k (suc i) (suc i)) in
+        (loopEdge c, k, inr (in-left w (whenEdge (canSkip x) (edge propagateEdge k i (suc i))) (edge (loopEdge c) k q r)
+        (subst (In w) (λ l. edge (loopEdge c) k (sym (n .1) l) (sym (n .2) l)) (when-edge (canLoop x) (edge (loopEdge c) k (suc i) (suc i)) (s .0)))), n .0)
+    loop (inr n) = skip (arc-when (canSkip x) S [] a n)
+
+    go : In (arcsOf (letterAt c x k i)) a → Found
+    go (inl s) = let n = moved (arc (letterArc c) k i (suc i)) s in (letterEdge c, k, inl (λ l. edge (letterEdge c) k (n .1 l) (n .2 l)), or-left (bit c b) _ (n .0))
+    go (inr n) = loop (arc-when (canLoop x) L (when (canSkip x) S []) a n)
+part-takes (unionAt empty k t ws u) b q r (a, m, h) = go (arc-when empty P (F ∷ []) a m)
+  where
+    F : Arc
+    F = arc (forkArc ws) k t u
+
+    P : Arc
+    P = arc propagateArc k t u
+
+    moved : (y : Arc) → a ≡ y → Byte b (y .kind) (y .from) (y .to) q r
+    moved y s = subst (λ (y : Arc). Byte b (y .kind) (y .from) (y .to) q r) s h
+
+    go : (T empty × (a ≡ P)) ⊎ In (F ∷ []) a → TakesIn (edgesOf (unionAt empty k t ws u)) b q r
+    go (inl s) = absurd (moved P (s .1))
+    go (inr (inl s)) = absurd (moved F s)
+    go (inr (inr n)) = absurd n
+
+-- AN EDGE THAT TAKES A BYTE IS A WAY ALONG AN ARC BY THAT BYTE
+pub takes-is : (t : Tree) (b q r : ℕ) → Takes t b q r ↔ ByteAlong (arcs t 0 0) b q r
+takes-is t b q r = (there, back)
+  where
+    there : Takes t b q r → ByteAlong (arcs t 0 0) b q r
+    there (e, k, m, h) =
+        let p = each-in edgesOf (parts t 0 0) (edge e k q r) m in
+        let a = takes-part (p .0) b q r (e, k, p .2, h) in
+        (a .0, subst (λ (l : List Arc). In l (a .0)) (sym (arcs-are t)) (in-each arcsOf (parts t 0 0) (p .0) (a .0) (p .1) (a .1)), a .2)
+
+    back : ByteAlong (arcs t 0 0) b q r → Takes t b q r
+    back (a, m, h) =
+        let p = each-in arcsOf (parts t 0 0) a (subst (λ (l : List Arc). In l a) (arcs-are t) m) in
+        let e = part-takes (p .0) b q r (a, p .2, h) in
+        (e .0, e .1, in-each edgesOf (parts t 0 0) (p .0) (edge (e .0) (e .1) q r) (p .1) (e .2), e .3)

@@ -5,3 +5,5 @@ pub mod Takes
 pub mod Masks
 pub mod Live
 pub mod Ends
+pub mod EndsList
+pub mod TreeEnds

@@ -7,3 +7,4 @@ pub mod Words
 pub mod Ends
 pub mod Image
 pub mod Definitions
+pub mod Examples

@@ -10,3 +10,4 @@ pub mod Live
 pub mod Ends
 pub mod Image
 pub mod Answers
+pub mod Worked

@@ -1,0 +1,124 @@
+-- THE WORKED EXAMPLES HOLD: a test that the checker computes over the whole table, and one law that turns the test into the row.
+use mathlib.Core.Path.{_≡_, refl, sym, ap, subst}
+use mathlib.Core.Bool.{Bool, true, false, _&&_}
+use mathlib.Core.List.{List, [], _∷_}
+use mathlib.Core.Option.{Option, none, some}
+use Prim.Native.Nat.{ℕ, _<_}
+use native.Mathlib.Omega.{arith}
+use lib.Dec.{T, eqb, leb, ltb, eqb→eq, leb→le, ltb→lt}
+use lib.ListN.{length}
+use Rattle.model.specs.Lists.{All}
+use Rattle.model.specs.Bits.{mask}
+use Rattle.model.specs.Bytes.{bytes}
+use Rattle.model.specs.Tree.{Tree, Seq, end, letter, union, Alts, last, more}
+use Rattle.model.specs.Grammar.{IsRule}
+use Rattle.model.specs.Writing.{writing}
+use Rattle.model.specs.Edges.{states}
+use Rattle.model.specs.Ends.{EndsAre}
+use Rattle.model.specs.Image.{scatterBlock, scatterSource, scatterTarget, gatherBlock, gatherSource, gatherTarget, propagateBlock, propagateSource, propagateTarget, image}
+use Rattle.model.specs.Answers.{refused, BuildSays, not-a-rule}
+use Rattle.model.specs.Worked.{Claim, isWritten, hasStates, scatterAt, gatherAt, propagateAt, hasEnds, hasImage, Masks, Holds, Row, _⊨_, refusedWith2, Right, marked, further}
+use Rattle.model.proofs.Laws.Bool.{and-split}
+use Rattle.model.proofs.Reading.Reader.{readRule}
+use Rattle.model.proofs.Reading.Decides.{reads}
+use Rattle.model.proofs.Reading.WellFormed.{Good, GoodA, rule-well}
+use Rattle.model.proofs.Words.InOrder.{Full, FullA, NonEmpty}
+use Rattle.model.proofs.Words.Run.{Bytes}
+use Rattle.model.proofs.Image.Verdict.{sameWords, sameWords-eq}
+use Rattle.model.proofs.Definitions.TreeEnds.{treeEnds, tree-ends}
+
+-- ---- the test
+abbrev areBytes : List ℕ → Bool
+areBytes [] = true
+areBytes (b ∷ bs) = ltb b 256 && areBytes bs
+
+abbrev masksTest : Tree → (block source target : ℕ → ℕ → Bool) → (k b s g : ℕ) → Bool
+masksTest t block source target k b s g = eqb (mask (states t) (block k)) b && (eqb (mask (states t) (source k)) s && eqb (mask (states t) (target k)) g)
+
+abbrev claimTest : Tree → Claim → Bool
+claimTest t (isWritten w) = sameWords (writing t) (bytes w)
+claimTest t (hasStates m) = eqb (states t) m
+claimTest t (scatterAt k b s g) = masksTest t (scatterBlock t) (scatterSource t) (scatterTarget t) k b s g
+claimTest t (gatherAt k b s g) = masksTest t (gatherBlock t) (gatherSource t) (gatherTarget t) k b s g
+claimTest t (propagateAt k b s g) = masksTest t (propagateBlock t) (propagateSource t) (propagateTarget t) k b s g
+claimTest t (hasEnds text places) = areBytes (bytes text) && sameWords (treeEnds t (bytes text)) places
+claimTest t (hasImage words) = sameWords (image t) words
+
+abbrev acceptedTest : Option Tree → Claim → Bool
+acceptedTest none c = false
+acceptedTest (some t) c = claimTest t c
+
+abbrev refusedTest : Option Tree → Bool
+refusedTest none = true
+refusedTest (some t) = false
+
+abbrev rowTest : Row → Bool
+rowTest (rule ⊨ claim) = acceptedTest (readRule (bytes rule)) claim
+rowTest (refusedWith2 rule) = leb (length (bytes rule)) 1024 && refusedTest (readRule (bytes rule))
+
+abbrev tableTest : List Row → Bool
+tableTest [] = true
+tableTest (r ∷ rs) = rowTest r && tableTest rs
+
+-- ---- the law
+are-bytes : (bs : List ℕ) → T (areBytes bs) → Bytes bs
+are-bytes [] h = tt
+are-bytes (b ∷ bs) h = let k = and-split (ltb b 256) (areBytes bs) h in (ltb→lt b 256 (k .0), are-bytes bs (k .1))
+
+masks-right : (t : Tree) (block source target : ℕ → ℕ → Bool) (k b s g : ℕ) → T (masksTest t block source target k b s g) → Masks t block source target k b s g
+masks-right t block source target k b s g h =
+    let p = and-split (eqb (mask (states t) (block k)) b) (eqb (mask (states t) (source k)) s && eqb (mask (states t) (target k)) g) h in
+    let q = and-split (eqb (mask (states t) (source k)) s) (eqb (mask (states t) (target k)) g) (p .1) in
+    (eqb→eq (mask (states t) (block k)) b (p .0), eqb→eq (mask (states t) (source k)) s (q .0), eqb→eq (mask (states t) (target k)) g (q .1))
+
+claim-right : (t : Tree) → Full t → (c : Claim) → T (claimTest t c) → Holds t c
+claim-right t F (isWritten w) h = sameWords-eq (writing t) (bytes w) h
+claim-right t F (hasStates m) h = eqb→eq (states t) m h
+claim-right t F (scatterAt k b s g) h = masks-right t (scatterBlock t) (scatterSource t) (scatterTarget t) k b s g h
+claim-right t F (gatherAt k b s g) h = masks-right t (gatherBlock t) (gatherSource t) (gatherTarget t) k b s g h
+claim-right t F (propagateAt k b s g) h = masks-right t (propagateBlock t) (propagateSource t) (propagateTarget t) k b s g h
+claim-right t F (hasEnds text places) h =
+    let k = and-split (areBytes (bytes text)) (sameWords (treeEnds t (bytes text)) places) h in
+    subst (EndsAre t (bytes text)) (sameWords-eq (treeEnds t (bytes text)) places (k .1)) (tree-ends t F (bytes text) (are-bytes (bytes text) (k .0)))
+claim-right t F (hasImage words) h = sameWords-eq (image t) words h
+
+mutual
+  good-full : (s : Seq) → Good s → Full s
+  good-full end g = tt
+  good-full (letter c r s) g = good-full s (g .1)
+  good-full (union a s) g = (alts-full a (g .1), good-full s (g .2))
+
+  alts-full : (a : Alts) → GoodA a → FullA a
+  alts-full (last s) g = (filled s (g .0), good-full s (g .1))
+  alts-full (more s a) g = (filled s (g .0), good-full s (g .1), alts-full a (g .2))
+
+  filled : (s : Seq) → Rattle.model.proofs.Reading.WellFormed.Full s → NonEmpty s
+  filled end h = h
+  filled (letter c r s) h = h
+  filled (union a s) h = h
+
+row-right : (r : Row) → T (rowTest r) → Right r
+row-right (rule ⊨ claim) h = go (readRule (bytes rule)) refl h
+  where
+    go : (o : Option Tree) → readRule (bytes rule) ≡ o → T (acceptedTest o claim) → Right (rule ⊨ claim)
+    go none e k = absurd k
+    go (some t) e k = let d = reads (bytes rule) t .1 e in (t, d, claim-right t (good-full t (rule-well d .good)) claim k)
+row-right (refusedWith2 rule) h = λ before. not-a-rule (leb→le (length (bytes rule)) 1024 (k .0)) (λ t d. go (readRule (bytes rule)) (k .1) t (reads (bytes rule) t .0 d)) refl
+  where
+    k : T (leb (length (bytes rule)) 1024) × T (refusedTest (readRule (bytes rule)))
+    k = and-split (leb (length (bytes rule)) 1024) (refusedTest (readRule (bytes rule))) h
+
+    go : (o : Option Tree) → T (refusedTest o) → (t : Tree) → o ≡ some t → ⊥
+    go none n t e = let z : _≡_ {A = ℕ} 0 1 = cc in omega arith
+    go (some u) n t e = n
+
+table-right : (rs : List Row) → T (tableTest rs) → All Right rs
+table-right [] h = tt
+table-right (r ∷ rs) h = let k = and-split (rowTest r) (tableTest rs) h in (row-right r (k .0), table-right rs (k .1))
+
+-- EVERY EXAMPLE THAT DOCUMENT 01 MARKS P HOLDS
+pub marked-right : All Right marked
+marked-right = table-right marked tt
+
+pub further-right : All Right further
+further-right = table-right further tt

@@ -1,0 +1,97 @@
+-- THE WORKED EXAMPLES OF DOCUMENT 01 ("Measured examples"), as rows of a rule and what is claimed of it.
+-- Nothing here is believed: proofs/Examples.antt proves every row.
+use mathlib.Core.Path.{_≡_}
+use mathlib.Core.Bool.{Bool}
+use mathlib.Core.List.{List, [], _∷_, _++_}
+use Prim.Native.Nat.{ℕ}
+use Prim.Native.String.{String}
+use lib.ListN.{replicate}
+use Rattle.model.specs.Bits.{mask}
+use Rattle.model.specs.Bytes.{bytes}
+use Rattle.model.specs.Tree.{Tree}
+use Rattle.model.specs.Grammar.{IsRule}
+use Rattle.model.specs.Writing.{writing}
+use Rattle.model.specs.Edges.{states}
+use Rattle.model.specs.Ends.{EndsAre}
+use Rattle.model.specs.Image.{scatterBlock, scatterSource, scatterTarget, gatherBlock, gatherSource, gatherTarget, propagateBlock, propagateSource, propagateTarget, image}
+use Rattle.model.specs.Answers.{refused, BuildSays}
+
+-- what a row may claim of the tree of an accepted rule; masks as numbers: block, source, target at depth k
+pub data Claim : Type 0 where
+  isWritten : String → Claim
+  hasStates : ℕ → Claim
+  scatterAt gatherAt propagateAt : (k block source target : ℕ) → Claim
+  hasEnds : (text : String) (places : List ℕ) → Claim
+  hasImage : (words : List ℕ) → Claim
+
+abbrev pub Masks : Tree → (block source target : ℕ → ℕ → Bool) → (k b s g : ℕ) → Type 0
+Masks t block source target k b s g = (mask (states t) (block k) ≡ b) × (mask (states t) (source k) ≡ s) × (mask (states t) (target k) ≡ g)
+
+abbrev pub Holds : Tree → Claim → Type 0
+Holds t (isWritten w) = writing t ≡ bytes w
+Holds t (hasStates m) = states t ≡ m
+Holds t (scatterAt k b s g) = Masks t (scatterBlock t) (scatterSource t) (scatterTarget t) k b s g
+Holds t (gatherAt k b s g) = Masks t (gatherBlock t) (gatherSource t) (gatherTarget t) k b s g
+Holds t (propagateAt k b s g) = Masks t (propagateBlock t) (propagateSource t) (propagateTarget t) k b s g
+Holds t (hasEnds text places) = EndsAre t (bytes text) places
+Holds t (hasImage words) = image t ≡ words
+
+infix 90 _⊨_
+pub data Row : Type 0 where
+  _⊨_ : String → Claim → Row
+  refusedWith2 : String → Row
+
+-- a row is right: its rule has a tree of which the claim holds, or build refuses it with 2, whatever was lent
+abbrev pub Right : Row → Type 0
+Right (rule ⊨ claim) = (t : Tree) × IsRule (bytes rule) t × Holds t claim
+Right (refusedWith2 rule) = (before : List ℕ) → BuildSays (bytes rule) before (refused 2 before)
+
+-- the examples that document 01 marks P, in its order
+abbrev pub marked : List Row
+marked =
+    "a" ⊨ hasEnds "aba" (1 ∷ 3 ∷ [])
+    ∷ "b?" ⊨ hasEnds "" (0 ∷ [])
+    ∷ "b?" ⊨ hasEnds "ab" (0 ∷ 1 ∷ 2 ∷ [])
+    ∷ "a{2,3}" ⊨ isWritten "a?aa"
+    ∷ "a{2,3}" ⊨ hasEnds "aaaa" (2 ∷ 3 ∷ 4 ∷ [])
+    ∷ "[AB]+B.{1,3}[BC]?.*C" ⊨ hasStates 9
+    ∷ "[AB]+B.{1,3}[BC]?.*C" ⊨ hasEnds "ABCBBC" (6 ∷ [])
+    ∷ "[AB]+B.{1,3}[BC]?.*C" ⊨ hasEnds "ABCBCC" (5 ∷ 6 ∷ [])
+    ∷ "A(BA|CD)(CD|AB)B" ⊨ hasStates 17
+    ∷ "A(BA|CD)(CD|AB)B" ⊨ hasEnds "ABACDB" (6 ∷ [])
+    ∷ "A(BA|CD)(CD|AB)B" ⊨ scatterAt 0 8256 258 4644
+    ∷ "A(BA|CD)(CD|AB)B" ⊨ gatherAt 0 30960 18576 33024
+    ∷ "A(AB|B?)(B?.*|AB)C" ⊨ hasEnds "AC" (2 ∷ [])
+    ∷ "A(AB|B?)(B?.*|AB)C" ⊨ hasStates 16
+    ∷ "A(AB|B?)(B?.*|AB)C" ⊨ propagateAt 0 16514 2 16384
+    ∷ "A(AB|B?)(B?.*|AB)C" ⊨ propagateAt 1 1888 288 1088
+    ∷ "((ab))" ⊨ isWritten "ab"
+    ∷ "a|b" ⊨ isWritten "(a|b)"
+    ∷ "a|b" ⊨ hasStates 6
+    ∷ "((a|b)|c)" ⊨ isWritten "((a|b)|c)"
+    ∷ "[ba]" ⊨ isWritten "[a-b]"
+    ∷ refusedWith2 ""
+    ∷ refusedWith2 "()"
+    ∷ refusedWith2 "a||b"
+    ∷ refusedWith2 "(a)*"
+    ∷ refusedWith2 "[c-ab]"
+    ∷ []
+
+-- further examples: those that document 01 lists without the mark and a checker can compute, and doubtful points
+abbrev pub further : List Row
+further =
+    "a" ⊨ hasImage (3 ∷ 2 ∷ 1 ∷ 0 ∷ 256 ∷ (replicate 97 0 ++ (2 ∷ (replicate 158 0 ++ (256 ∷ (replicate 256 0 ++ (0 ∷ 0 ∷ 3 ∷ 0 ∷ 0 ∷ 0 ∷ [])))))))
+    ∷ "a?bc?" ⊨ propagateAt 0 15 5 10
+    ∷ "((a|b)|c)" ⊨ hasStates 10
+    ∷ "a(b?|c)d" ⊨ hasEnds "ad" (2 ∷ [])
+    ∷ "[z-\\xFF\\-b-ea]" ⊨ isWritten "[\\-a-ez-\\xFF]"
+    ∷ "\\x0a-\\x41[\\x00-\\xff]" ⊨ isWritten "\\x0A\\-A."
+    ∷ "[^a]{1}$" ⊨ isWritten "[^a]$"
+    ∷ refusedWith2 "a{0}"
+    ∷ refusedWith2 "a{3,}"
+    ∷ refusedWith2 "a\n"
+    ∷ refusedWith2 "[a-]"
+    ∷ refusedWith2 "[.]"
+    ∷ refusedWith2 "\\X41"
+    ∷ refusedWith2 "a?*"
+    ∷ []

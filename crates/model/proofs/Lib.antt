@@ -8,3 +8,4 @@ pub mod Ends
 pub mod Image
 pub mod Definitions
 pub mod Examples
+pub mod Answers

@@ -1,0 +1,125 @@
+//! Writes a crate of theorems: for each outside vector that the checker can compute, that the one answer which document 01's table gives is
+//! the vector's. `rt check` then computes them. Usage: definitions VECTORS OUT
+
+use outside_checks::{bytes, places, runs, vectors, word, Runs};
+use std::fmt::Write as _;
+use std::fs;
+use std::path::Path;
+
+/// The checker computes masks state by state: rules of more states than this take it too long.
+const STATES: u64 = 14;
+
+/// What the lent words and bytes hold before a call.
+const BEFORE: u64 = 7;
+
+const HEAD: &str = "\
+-- The outside vectors, computed from the definitions.
+use mathlib.Core.Path.{_≡_, refl}
+use mathlib.Core.Bool.{Bool, true, false, _&&_}
+use mathlib.Core.List.{List, [], _∷_, _++_}
+use Prim.Native.Nat.{ℕ}
+use lib.Dec.{eqb}
+use lib.ListN.{replicate}
+use Rattle.model.specs.Answers.{Answer}
+use Rattle.model.specs.Models.Verdict.{sameWords}
+use Rattle.model.proofs.Answers.Build.{buildAnswer}
+use Rattle.model.proofs.Answers.ReadBack.{readBackAnswer}
+use Rattle.model.proofs.Answers.Match.{matchAnswer}
+
+abbrev expand : List (ℕ × ℕ) → List ℕ
+expand [] = []
+expand (r ∷ rs) = replicate (r .0) (r .1) ++ expand rs
+
+abbrev is : Answer → ℕ → ℕ → List (ℕ × ℕ) → Bool
+is a number count lent = eqb (a .number) number && (eqb (a .count) count && sameWords (a .lent) (expand lent))
+";
+
+fn list(runs: &Runs) -> String {
+    let mut out = String::from("(");
+    for (n, value) in runs {
+        write!(out, "({n}, {value}) ∷ ").unwrap();
+    }
+    out + "[])"
+}
+
+fn numbers(values: impl Iterator<Item = u64>) -> String {
+    let mut out = String::from("(");
+    for value in values {
+        write!(out, "{value} ∷ ").unwrap();
+    }
+    out + "[])"
+}
+
+/// What was lent, with `whole` written over its beginning as far as it fits.
+fn lent(whole: Runs, room: usize) -> Runs {
+    let mut left = room;
+    let mut out = Runs::new();
+    for (n, value) in whole {
+        out.push((n.min(left), value));
+        left -= n.min(left);
+    }
+    out.push((left, BEFORE));
+    out
+}
+
+fn singles(values: impl Iterator<Item = u64>) -> Runs {
+    values.map(|v| (1, v)).collect()
+}
+
+struct Theorems {
+    text: String,
+    count: usize,
+    left_out: usize,
+}
+
+impl Theorems {
+    fn add(&mut self, call: String, number: &str, count: &str, after: &Runs) {
+        self.count += 1;
+        let n = self.count;
+        writeln!(self.text, "\nvector-{n} : is ({call}) {number} {count} {} ≡ true\nvector-{n} = refl", list(after)).unwrap();
+    }
+}
+
+fn main() {
+    let arguments: Vec<String> = std::env::args().collect();
+    let (folder, out) = (Path::new(&arguments[1]), Path::new(&arguments[2]));
+    let mut t = Theorems { text: HEAD.to_string(), count: 0, left_out: 0 };
+    let before = |room: usize| format!("(replicate {room} {BEFORE})");
+
+    for v in vectors(folder, "build.txt", "build") {
+        let (rule, room, number) = (bytes(&v[0]), v[1].parse::<usize>().unwrap(), v[2].as_str());
+        let image = runs(&v[4]);
+        // a refusal for room (5) needs the image's length, and so its masks; the vector does not say how many states it has
+        if (number == "0" && word(&image, 1) > STATES) || (number == "5" && rule.len() > STATES as usize) {
+            t.left_out += 1;
+            continue;
+        }
+        let call = format!("buildAnswer {} {}", numbers(rule.iter().map(|b| u64::from(*b))), before(room));
+        t.add(call, number, &v[3], &lent(image, room));
+    }
+    for v in vectors(folder, "readback.txt", "readback") {
+        let (image, room) = (runs(&v[0]), v[1].parse::<usize>().unwrap());
+        if word(&image, 1) > STATES {
+            t.left_out += 1;
+            continue;
+        }
+        let call = format!("readBackAnswer (expand {}) {}", list(&image), before(room));
+        t.add(call, &v[2], &v[3], &lent(singles(bytes(&v[4]).into_iter().map(u64::from)), room));
+    }
+    for v in vectors(folder, "match.txt", "match") {
+        let (image, text, room) = (runs(&v[0]), bytes(&v[1]), v[2].parse::<usize>().unwrap());
+        if word(&image, 1) > STATES || text.len() > 40 {
+            t.left_out += 1;
+            continue;
+        }
+        let call = format!("matchAnswer (expand {}) {} {}", list(&image), numbers(text.iter().map(|b| u64::from(*b))), before(room));
+        t.add(call, &v[3], &v[4], &lent(singles(places(&v[5]).into_iter()), room));
+    }
+
+    fs::create_dir_all(out.join("src")).unwrap();
+    fs::create_dir_all(out.join("specs")).unwrap();
+    fs::write(out.join("src/lib.rt"), "// No code: the theorems stand in specs/.\npub const VECTORS: usize = 0;\n").unwrap();
+    fs::write(out.join("specs/Lib.antt"), "pub mod Vectors\n").unwrap();
+    fs::write(out.join("specs/Vectors.antt"), t.text).unwrap();
+    println!("definitions: {} vectors to compute, {} left out as too large for the checker", t.count, t.left_out);
+}

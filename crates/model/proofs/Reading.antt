@@ -1,5 +1,4 @@
 -- Reading
-pub mod Reader
 pub mod Answers
 pub mod Letters
 pub mod Signs

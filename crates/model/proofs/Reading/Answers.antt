@@ -7,7 +7,7 @@ use native.Mathlib.Omega.{arith}
 use lib.Dec.{T, eqb, eqb→eq}
 use lib.ListN.{length, length-append}
 use Rattle.model.specs.Lists.{All, within}
-use Rattle.model.proofs.Reading.Reader.{Read, bad, bind, case, got, over, past}
+use Rattle.model.specs.Models.Reader.{Read, bad, bind, case, got, over, past}
 
 -- ---- what is got has P
 abbrev pub Holds : {A : Type 0} → (A → List ℕ → Type 0) → Read A → Type 0

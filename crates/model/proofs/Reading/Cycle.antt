@@ -9,7 +9,7 @@ use Rattle.model.specs.Tree.{Alts, Seq, glue, last, more}
 use Rattle.model.specs.Grammar.{IsAlts, IsItem, IsSeq, bracket}
 use Rattle.model.proofs.Reading.Answers.{Begins, Holds, holds-map, length-parts, opens-long, past-holds}
 use Rattle.model.proofs.Reading.Decides.{item-opens, seq-opens, sound-alts, sound-item, sound-seq}
-use Rattle.model.proofs.Reading.Reader.{Read, bad, bind, case, got, over, past, readAlts, readItem, readPiece, readSeq}
+use Rattle.model.specs.Models.Reader.{Read, bad, bind, case, got, over, past, readAlts, readItem, readPiece, readSeq}
 
 abbrev pub alts : List ℕ → Read Alts
 alts l = readAlts (3 * length l + 3) l

@@ -12,7 +12,7 @@ use Rattle.model.specs.Grammar.{IsAlts, IsItem, IsLetter, IsRule, IsSeq,
 use Rattle.model.proofs.Laws.Bool.{is-true}
 use Rattle.model.proofs.Reading.Answers.{Begins, Holds, begins, begins-app, begins-opens, begins-past, bind-holds, case-holds, closes, closes-over, closes-past, cond-holds, free, joined, length-parts, opens, opens-app, opens-free, opens-long, opens-over, over-free, parted, past-holds}
 use Rattle.model.proofs.Reading.Letters.{complete-letter, letter-begins, sound-letter}
-use Rattle.model.proofs.Reading.Reader.{Read, bad, got, over, past, readAlts, readItem, readLetter, readPiece, readRule, readSeq, readSign, whole}
+use Rattle.model.specs.Models.Reader.{Read, bad, got, over, past, readAlts, readItem, readLetter, readPiece, readRule, readSeq, readSign, whole}
 use Rattle.model.proofs.Reading.Signs.{complete-sign, sound-sign}
 
 -- ---- (a) what is read is in the grammar

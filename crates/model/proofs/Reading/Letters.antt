@@ -15,7 +15,7 @@ use Rattle.model.specs.Bytes.{IsDigit, IsEscape, IsHex, decimal, digit, 
 use Rattle.model.specs.Grammar.{IsLetter, IsMember, IsMembers, IsSingle, bare, beside, class, dot, escape, escaped, every, itself, member, plain-byte, range, single}
 use Rattle.model.proofs.Laws.Bool.{and-both, and-split, is-true, le-false, le-true, or-left, or-right, or-split}
 use Rattle.model.proofs.Reading.Answers.{Begins, Holds, begins, bind-holds, case-holds, cond-holds, holds-map, joined, length-parts, not-within, parted, past-holds, past-other, repeats, tail-eq, within-every}
-use Rattle.model.proofs.Reading.Reader.{bad, got, hexValue, past, readEscape, readHex, readHexes, readLetter, readMember, readMembers, readSingle}
+use Rattle.model.specs.Models.Reader.{bad, got, hexValue, past, readEscape, readHex, readHexes, readLetter, readMember, readMembers, readSingle}
 use Rattle.model.proofs.Words.Bits.{bit-ext, bit-or}
 
 -- ---- digits

@@ -12,7 +12,7 @@ use Rattle.model.specs.Grammar.{IsBounds, IsNumber, IsSign, Sign, absent
 use Rattle.model.proofs.Laws.Bool.{is-false, is-true, le-true}
 use Rattle.model.proofs.Reading.Answers.{Begins, Holds, bind-holds, case-holds, cond-holds, free, joined, parted, past-holds, past-other}
 use Rattle.model.proofs.Reading.Letters.{Least, digit-of, digit-value, digital-of}
-use Rattle.model.proofs.Reading.Reader.{bad, close, got, past, reach, readBounds, readBraces, readDigits, readNumber, readSign, stop}
+use Rattle.model.specs.Models.Reader.{bad, close, got, past, reach, readBounds, readBraces, readDigits, readNumber, readSign, stop}
 
 -- ---- numbers
 pub more-than : (x : ℕ) → T (digital x) → T (not (eqb x 48)) → 1 ≤ x - 48

@@ -1,5 +1,6 @@
 -- Reading
 pub mod Answers
+pub mod Escapes
 pub mod Letters
 pub mod Signs
 pub mod Decides

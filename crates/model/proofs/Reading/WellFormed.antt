@@ -5,16 +5,18 @@ use mathlib.Core.List.{List, _∷_}
 use Prim.Native.Nat.{ℕ, zero, suc, _+_, _-_, _^_, _≤_, _<_}
 use native.Mathlib.Nat.{le-refl}
 use native.Mathlib.Omega.{arith}
-use lib.Dec.{T, eqb, leb, ltb, leb→le, le→leb, lit<, lit≤}
+use lib.Dec.{T, eqb, leb, ltb, leb→le, ltb→lt, le→leb, lit<, lit≤}
 use lib.Bits.{bitOr, or-lt, or-add-and, and-le-r}
 use lib.Pow.{pow-pos, pow-lt}
 use Rattle.model.specs.Lists.{within}
 use Rattle.model.specs.Bits.{bit}
-use Rattle.model.specs.Bytes.{IsEscape, IsHex, decimal, digit, lower, number, plain, sign, signs, upper}
+use Rattle.model.specs.Bytes.{byte, IsEscape, number, plain, sign, signs}
 use Rattle.model.specs.Tree.{Alts, Repeat, Seq, end, glue, last, letter, more, once, option, plus, star, union}
 use Rattle.model.specs.Grammar.{IsAlts, IsItem, IsLetter, IsMember, IsMembers, IsRule, IsSeq, IsSign, IsSingle, Sign, absent, also, asterisk, beside, braces, bracket, class, copies, cross, dot, escape, escaped, group, item, itself, lone, member, only, plain-byte, question, range, repeated, rule, single, span, then, times}
 use Rattle.model.proofs.Laws.Bool.{and-both, and-split}
-use Rattle.model.proofs.Reading.Answers.{within-every}
+use Rattle.model.proofs.Reading.Answers.{among}
+use Rattle.model.proofs.Reading.Escapes.{hex-small}
+use Rattle.model.proofs.Laws.Bits.{bit-some}
 use Rattle.model.proofs.Words.Bits.{bit-mask, mask-lt}
 
 -- a class holds some bytes, and nothing past 255
@@ -48,31 +50,15 @@ pub record WellFormed (s : Seq) : Type 0 where
   pub good : Good s
 
 -- ---- classes
-bit-some : (i c : ℕ) → T (bit c i) → 1 ≤ c
-bit-some i zero h = absurd (no-bit i h)
-  where
-    no-bit : (i : ℕ) → T (bit 0 i) → ⊥
-    no-bit zero h = h
-    no-bit (suc i) h = no-bit i h
-bit-some i (suc c) h = omega arith
-
-hex-small : {x d : ℕ} → IsHex x d → d ≤ 15
-hex-small (decimal (digit p h)) = omega arith
-hex-small (upper p h k) = k
-hex-small (lower p h k) = k
-
 plain-small : (b : ℕ) → T (plain b) → b < 256
 plain-small b h = let k = leb→le b 126 (and-split (leb b 126) (not (within b signs)) (and-split (leb 33 b) (leb b 126 && not (within b signs)) h .1) .0) in omega arith
 
 escape-small : {w : List ℕ} {b : ℕ} → IsEscape w b → b < 256
-escape-small (sign {b} p h) = ltb-lt (within-every (λ y. T (ltb y 256)) b (45 ∷ signs) h (tt, (tt, (tt, (tt, (tt, (tt, (tt, (tt, (tt, (tt, (tt, (tt, (tt, tt))))))))))))))
-  where
-    ltb-lt : T (ltb b 256) → b < 256
-    ltb-lt t = leb→le (suc b) 256 t
+escape-small (sign {b} p h) = ltb→lt b 256 (among (λ y. ltb y 256) b (byte "-" ∷ signs) h tt)
 escape-small (number {h} {k} p q a b) = let m = hex-small a in let n = hex-small b in omega arith
 
 pub single-small : {w : List ℕ} {b : ℕ} → IsSingle w b → b < 256
-single-small (itself {b} p h) = plain-small b (and-split (plain b) (not (eqb b 45)) h .0)
+single-small (itself {b} p h) = plain-small b (and-split (plain b) (not (eqb b (byte "-"))) h .0)
 single-small (escaped d) = escape-small d
 
 pub bit-span : (lo hi i : ℕ) → i < 256 → bit (span lo hi) i ≡ (leb lo i && leb i hi)

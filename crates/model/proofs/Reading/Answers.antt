@@ -1,6 +1,6 @@
 -- An answer is sound if what was read is what the grammar says of the bytes that were taken: each way in which a reader goes on keeps its answer
 -- sound. And what may follow a part of a rule, as tests on the next byte: with these the readers know where a part ends.
-use mathlib.Core.Path.{_≡_, refl, ap, _∙_, subst}
+use mathlib.Core.Path.{_≡_, refl, ap, subst}
 use mathlib.Core.Bool.{Bool, true, false, not, cond}
 use mathlib.Core.List.{List, [], _∷_, _++_, append-assoc}
 use Prim.Native.Nat.{ℕ, _≤_}
@@ -18,6 +18,15 @@ use Rattle.model.proofs.Laws.Lists.{any-in, any-out}
 pub data Sound {A : Type 0} (X : List ℕ → A → Type 0) (l : List ℕ) : Read A → Type 0 where
   took : (u : List ℕ) {a : A} {r : List ℕ} → l ≡ u ++ r → X u a → Sound X l (got a r)
   stopped : {r : List ℕ} → Sound X l (bad r)
+
+-- the byte x comes next, or it does not
+pub past-cases : (P : Read (Unit {0}) → Type 0) (x : ℕ) (r : List ℕ) → ((r′ : List ℕ) → r ≡ x ∷ r′ → P (got tt r′)) → P (bad r) → P (past x r)
+past-cases P x [] f g = g
+past-cases P x (y ∷ ys) f g = go (eqb y x) (eqb→eq y x)
+  where
+    go : (b : Bool) → (T b → y ≡ x) → P (cond b (got tt ys) (bad (y ∷ ys)))
+    go true e = f ys (ap (λ (z : ℕ). z ∷ ys) (e tt))
+    go false e = g
 
 module _ {B : Type 0} {Y : List ℕ → B → Type 0} {k : List ℕ} where
   pub bind-sound : {A : Type 0} {X : List ℕ → A → Type 0} {l : List ℕ} {m : Read A} {f : A → List ℕ → Read B}
@@ -39,24 +48,13 @@ module _ {B : Type 0} {Y : List ℕ → B → Type 0} {k : List ℕ} where
   pub equal-sound : (y x : ℕ) {m n : Read B} → (y ≡ x → Sound Y k m) → Sound Y k n → Sound Y k (cond (eqb y x) m n)
   equal-sound y x f g = cond-sound (eqb y x) (λ h. f (eqb→eq y x h)) (λ h. g)
 
-  -- the byte x comes next, or it does not
   pub case-past-sound : (x : ℕ) (r : List ℕ) {f : Unit {0} → List ℕ → Read B} {n : Read B}
       → ((z : Unit {0}) (r′ : List ℕ) → r ≡ x ∷ r′ → Sound Y k (f z r′)) → Sound Y k n → Sound Y k (case (past x r) f n)
-  case-past-sound x [] h g = g
-  case-past-sound x (y ∷ ys) {f} {n} h g = go (eqb y x) (eqb→eq y x)
-    where
-      go : (b : Bool) → (T b → y ≡ x) → Sound Y k (case (cond b (got tt ys) (bad (y ∷ ys))) f n)
-      go true e = h tt ys (ap (λ (z : ℕ). z ∷ ys) (e tt))
-      go false e = g
+  case-past-sound x r {f} {n} h g = past-cases (λ m. Sound Y k (case m f n)) x r (h tt) g
 
   pub bind-past-sound : (x : ℕ) (r : List ℕ) {f : Unit {0} → List ℕ → Read B}
       → ((z : Unit {0}) (r′ : List ℕ) → r ≡ x ∷ r′ → Sound Y k (f z r′)) → Sound Y k (bind (past x r) f)
-  bind-past-sound x [] h = stopped
-  bind-past-sound x (y ∷ ys) {f} h = go (eqb y x) (eqb→eq y x)
-    where
-      go : (b : Bool) → (T b → y ≡ x) → Sound Y k (bind (cond b (got tt ys) (bad (y ∷ ys))) f)
-      go true e = h tt ys (ap (λ (z : ℕ). z ∷ ys) (e tt))
-      go false e = stopped
+  bind-past-sound x r {f} h = past-cases (λ m. Sound Y k (bind m f)) x r (h tt) stopped
 
 -- ---- what was got has a property
 abbrev pub Holds : {A : Type 0} → (A → List ℕ → Type 0) → Read A → Type 0
@@ -151,9 +149,6 @@ pub opens-long : (u : List ℕ) → T (opens u) → 1 ≤ length u
 opens-long [] h = absurd h
 opens-long (x ∷ xs) h = omega arith
 
--- ---- two parts, one after the other, and what follows them
+-- ---- a text of two parts, and what follows it
 pub parted : (w u v r : List ℕ) → w ≡ u ++ v → w ++ r ≡ u ++ (v ++ r)
 parted w u v r p = rw p (append-assoc u v r)
-
-pub joined : (l u m v r : List ℕ) → l ≡ u ++ m → m ≡ v ++ r → l ≡ (u ++ v) ++ r
-joined l u m v r p q = rw append-assoc (p ∙ ap (λ (x : List ℕ). u ++ x) q)

@@ -1,17 +1,16 @@
 -- THE READERS WITHOUT A BOUND: with a bound of three calls for each byte, and up to three more, each of the three readers equals its own body over
 -- the three; for every body reads at least one byte, or goes down one reader, before it calls again. Proofs of code cite these equations.
 use mathlib.Core.Path.{_≡_, refl, ap, _∙_}
-use mathlib.Core.Bool.{Bool, true, false, cond}
-use mathlib.Core.List.{List, [], _∷_, _++_}
+use mathlib.Core.Bool.{cond}
+use mathlib.Core.List.{List, _∷_, _++_}
 use Prim.Native.Nat.{ℕ, zero, suc, _+_, _-_, _*_, _≤_, _<_}
 use native.Mathlib.Omega.{arith}
-use lib.Dec.{T, eqb, eqb→eq}
 use lib.ListN.{length, length-append}
 use Rattle.model.specs.Bytes.{byte}
 use Rattle.model.specs.Tree.{Alts, Seq, glue, last, more}
 use Rattle.model.specs.Grammar.{IsItem, IsSeq, bracket}
-use Rattle.model.specs.Models.Reader.{Read, bad, bind, case, got, over, past, readAlts, readItem, readPiece, readSeq}
-use Rattle.model.proofs.Reading.Answers.{Holds, Sound, took, stopped, opens-long, sound-holds}
+use Rattle.model.specs.Models.Reader.{Read, bind, case, got, over, past, readAlts, readItem, readPiece, readSeq}
+use Rattle.model.proofs.Reading.Answers.{Holds, Sound, took, stopped, opens-long, past-cases, sound-holds}
 use Rattle.model.proofs.Reading.Decides.{item-opens, seq-opens, sound-alts, sound-item, sound-seq}
 
 abbrev pub alts : List ℕ → Read Alts
@@ -48,12 +47,7 @@ bind-same stopped h = refl
 
 case-past-same : {B : Type 0} (x : ℕ) (r : List ℕ) {f g : Unit {0} → List ℕ → B} (b : B)
     → ((z : Unit {0}) (r′ : List ℕ) → r ≡ x ∷ r′ → f z r′ ≡ g z r′) → case (past x r) f b ≡ case (past x r) g b
-case-past-same x [] b h = refl
-case-past-same {B} x (y ∷ ys) {f} {g} b h = go (eqb y x) (eqb→eq y x)
-  where
-    go : (t : Bool) → (T t → y ≡ x) → case (cond t (got tt ys) (bad (y ∷ ys))) f b ≡ case (cond t (got tt ys) (bad (y ∷ ys))) g b
-    go true e = h tt ys (ap (λ (z : ℕ). z ∷ ys) (e tt))
-    go false e = refl
+case-past-same x r {f} {g} b h = past-cases (λ m. case m f b ≡ case m g b) x r (h tt) refl
 
 alts-same : (S S′ : List ℕ → Read Seq) (A A′ : List ℕ → Read Alts) (l : List ℕ)
     → Sound IsSeq l (S l) → S l ≡ S′ l → ((r : List ℕ) → length r < length l → A r ≡ A′ r) → altsBody S A l ≡ altsBody S′ A′ l
@@ -72,11 +66,15 @@ item-same A A′ l f = case-past-same (byte "(") l (readPiece l) (λ z r q. rw (
 mutual
   more-alts : (n : ℕ) (l : List ℕ) → 3 * length l + 3 ≤ n → readAlts (suc n) l ≡ readAlts n l
   more-alts zero l h = absurd (omega arith)
-  more-alts (suc n) l h = alts-same (readSeq (suc n)) (readSeq n) (readAlts (suc n)) (readAlts n) l (sound-seq (suc n) l) (more-seq n l (omega arith)) (λ r k. more-alts n r (omega arith))
+  more-alts (suc n) l h =
+      alts-same (readSeq (suc n)) (readSeq n) (readAlts (suc n)) (readAlts n) l
+      (sound-seq (suc n) l) (more-seq n l (omega arith)) (λ r k. more-alts n r (omega arith))
 
   more-seq : (n : ℕ) (l : List ℕ) → 3 * length l + 2 ≤ n → readSeq (suc n) l ≡ readSeq n l
   more-seq zero l h = absurd (omega arith)
-  more-seq (suc n) l h = seq-same (readItem (suc n)) (readItem n) (readSeq (suc n)) (readSeq n) l (sound-item (suc n) l) (more-item n l (omega arith)) (λ r k. more-seq n r (omega arith))
+  more-seq (suc n) l h =
+      seq-same (readItem (suc n)) (readItem n) (readSeq (suc n)) (readSeq n) l
+      (sound-item (suc n) l) (more-item n l (omega arith)) (λ r k. more-seq n r (omega arith))
 
   more-item : (n : ℕ) (l : List ℕ) → 3 * length l + 1 ≤ n → readItem (suc n) l ≡ readItem n l
   more-item zero l h = absurd (omega arith)

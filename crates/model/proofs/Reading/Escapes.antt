@@ -1,7 +1,7 @@
 -- Digits, hex digits and escapes: the readers and the grammar agree, by what each byte's kind says of its number.
-use mathlib.Core.Path.{_≡_, refl, ap, subst, sym}
-use mathlib.Core.Logic.{_⊎_, inl, inr}
-use mathlib.Core.Bool.{false, _&&_, _||_}
+use mathlib.Core.Path.{_≡_, refl}
+use mathlib.Core.Logic.{_⊎_, inl, inr, _↔_}
+use mathlib.Core.Bool.{Bool, false, _&&_, _||_}
 use mathlib.Core.List.{List, [], _∷_, _++_}
 use Prim.Native.Nat.{ℕ, _+_, _-_, _*_, _≤_, _<_}
 use native.Mathlib.Omega.{arith}
@@ -12,12 +12,19 @@ use Rattle.model.specs.Models.Reader.{got, hexValue, readEscape, readHex
 use Rattle.model.proofs.Laws.Bool.{and-both, and-split, is-true, le-false, le-true, or-left, or-right, or-split}
 use Rattle.model.proofs.Reading.Answers.{Sound, took, stopped, cond-sound, equal-sound}
 
+-- a byte from lo to hi
+between : (lo hi x : ℕ) → T (leb lo x && leb x hi) ↔ ((lo ≤ x) × (x ≤ hi))
+between lo hi x = (
+  λ h. let k = and-split (leb lo x) (leb x hi) h in (leb→le lo x (k .0), leb→le x hi (k .1)),
+  λ h. and-both (leb lo x) (leb x hi) (le→leb lo x (h .0)) (le→leb x hi (h .1)),
+)
+
 -- ---- digits
 pub digit-of : (x : ℕ) → T (digital x) → IsDigit x (x - byte "0")
-digit-of x h = let k = and-split (leb (byte "0") x) (leb x (byte "9")) h in digit {x = x} {d = x - byte "0"} (omega (arith, leb→le)) (omega (arith, leb→le))
+digit-of x h = let k = between (byte "0") (byte "9") x .0 h in digit {x = x} {d = x - byte "0"} (omega arith) (omega arith)
 
 pub digital-of : {x d : ℕ} → IsDigit x d → T (digital x)
-digital-of (digit {x} p h) = and-both (leb (byte "0") x) (leb x (byte "9")) (omega (arith, le→leb)) (omega (arith, le→leb))
+digital-of (digit {x} p h) = between (byte "0") (byte "9") x .1 (omega arith)
 
 pub digit-value : {x d : ℕ} → IsDigit x d → x - byte "0" ≡ d
 digit-value (digit p h) = omega arith
@@ -26,27 +33,31 @@ not-digital : (x : ℕ) → byte "9" < x → digital x ≡ false
 not-digital x h = rw (le-true (byte "0") x (omega arith), le-false x (byte "9") h)
 
 -- ---- hex digits
-hex-of : (x : ℕ) → T (hexadecimal x) → IsHex x (hexValue x)
-hex-of x h = go (or-split (digital x) _ h)
-  where
-    letter : T (leb (byte "A") x && leb x (byte "F")) ⊎ T (leb (byte "a") x && leb x (byte "f")) → IsHex x (hexValue x)
-    letter (inl k) =
-        let m = and-split (leb (byte "A") x) (leb x (byte "F")) k in
-        rw (not-digital x (omega (arith, leb→le)), is-true (leb x (byte "F")) (m .1)) (upper {x = x} {d = x - 55} (omega (arith, leb→le)) (omega (arith, leb→le)) (omega (arith, leb→le)))
-    letter (inr k) =
-        let m = and-split (leb (byte "a") x) (leb x (byte "f")) k in
-        rw (not-digital x (omega (arith, leb→le)), le-false x (byte "F") (omega (arith, leb→le))) (lower {x = x} {d = x - 87} (omega (arith, leb→le)) (omega (arith, leb→le)) (omega (arith, leb→le)))
+abbrev capital : ℕ → Bool
+capital x = leb (byte "A") x && leb x (byte "F")
 
-    go : T (digital x) ⊎ T ((leb (byte "A") x && leb x (byte "F")) || (leb (byte "a") x && leb x (byte "f"))) → IsHex x (hexValue x)
+abbrev small : ℕ → Bool
+small x = leb (byte "a") x && leb x (byte "f")
+
+hex-of : (x : ℕ) → T (hexadecimal x) → IsHex x (hexValue x)
+hex-of x h = go (or-split (digital x) (capital x || small x) h)
+  where
+    letter : T (capital x) ⊎ T (small x) → IsHex x (hexValue x)
+    letter (inl k) =
+        let m = between (byte "A") (byte "F") x .0 k in
+        rw (not-digital x (omega arith), le-true x (byte "F") (omega arith)) (upper {x = x} {d = x - 55} (omega arith) (omega arith) (omega arith))
+    letter (inr k) =
+        let m = between (byte "a") (byte "f") x .0 k in
+        rw (not-digital x (omega arith), le-false x (byte "F") (omega arith)) (lower {x = x} {d = x - 87} (omega arith) (omega arith) (omega arith))
+
+    go : T (digital x) ⊎ T (capital x || small x) → IsHex x (hexValue x)
     go (inl k) = rw (is-true (digital x) k) (decimal (digit-of x k))
-    go (inr k) = letter (or-split (leb (byte "A") x && leb x (byte "F")) _ k)
+    go (inr k) = letter (or-split (capital x) (small x) k)
 
 hexadecimal-of : {x d : ℕ} → IsHex x d → T (hexadecimal x)
-hexadecimal-of (decimal {x} k) = or-left (digital x) _ (digital-of k)
-hexadecimal-of (upper {x} p h k) =
-    or-right (digital x) _ (or-left (leb (byte "A") x && leb x (byte "F")) _ (and-both (leb (byte "A") x) (leb x (byte "F")) (omega (arith, le→leb)) (omega (arith, le→leb))))
-hexadecimal-of (lower {x} p h k) =
-    or-right (digital x) _ (or-right (leb (byte "A") x && leb x (byte "F")) _ (and-both (leb (byte "a") x) (leb x (byte "f")) (omega (arith, le→leb)) (omega (arith, le→leb))))
+hexadecimal-of (decimal {x} k) = or-left (digital x) (capital x || small x) (digital-of k)
+hexadecimal-of (upper {x} p h k) = or-right (digital x) (capital x || small x) (or-left (capital x) (small x) (between (byte "A") (byte "F") x .1 (omega arith)))
+hexadecimal-of (lower {x} p h k) = or-right (digital x) (capital x || small x) (or-right (capital x) (small x) (between (byte "a") (byte "f") x .1 (omega arith)))
 
 hex-value : {x d : ℕ} → IsHex x d → hexValue x ≡ d
 hex-value (decimal {x} k) = rw (is-true (digital x) (digital-of k)) (digit-value k)

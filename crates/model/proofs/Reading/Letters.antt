@@ -1,7 +1,7 @@
 -- Letters: the reader and the grammar agree. Inside a class a member cannot begin with `-` or `]`, so the next byte tells whether a single is
 -- the lower end of a range, and whether the class is closed.
 use mathlib.Core.Path.{_≡_, refl, sym, ap, _∙_}
-use mathlib.Core.Bool.{Bool, false, not, _||_, or-assoc}
+use mathlib.Core.Bool.{Bool, false, not, or-assoc}
 use mathlib.Core.List.{List, [], _∷_, _++_, append-assoc}
 use Prim.Native.Nat.{ℕ, zero, suc, _+_, _^_, _≤_, _<_}
 use native.Mathlib.Nat.{pow-suc}
@@ -13,7 +13,7 @@ use Rattle.model.specs.Lists.{within}
 use Rattle.model.specs.Bits.{bit}
 use Rattle.model.specs.Bytes.{byte, bytes, plain}
 use Rattle.model.specs.Grammar.{IsLetter, IsMember, IsMembers, IsSingle, bare, beside, class, dot, escape, escaped, itself, member, plain-byte, range, single}
-use Rattle.model.specs.Models.Reader.{bad, got, past, readEscape, readLetter, readMember, readMembers, readSingle}
+use Rattle.model.specs.Models.Reader.{bad, got, past, readLetter, readMember, readMembers, readSingle}
 use Rattle.model.proofs.Laws.Bool.{is-true, le-true}
 use Rattle.model.proofs.Reading.Answers.{Sound, took, stopped, begins, bind-sound, case-past-sound, cond-sound, equal-sound, map-sound, not-among, parted, past-other}
 use Rattle.model.proofs.Reading.Escapes.{Least, complete-escape, escape-tail, sound-escape}
@@ -60,12 +60,14 @@ sound-member : (l : List ℕ) → Sound IsMember l (readMember l)
 sound-member l =
     bind-sound (sound-single 0 l) (λ u lo r e d.
     case-past-sound (byte "-") r
-    (λ z r′ p. bind-sound (sound-single lo r′) (λ v hi r″ f b. took (u ++ (byte "-" ∷ v)) (cc (append-assoc u (byte "-" ∷ v) r″)) (range refl refl (b .1) (d .0) (b .0))))
+    (λ z r′ p. bind-sound (sound-single lo r′) (λ v hi r″ f b.
+    took (u ++ (byte "-" ∷ v)) (cc (append-assoc u (byte "-" ∷ v) r″)) (range refl refl (b .1) (d .0) (b .0))))
     (took u e (single refl (d .0))))
 
 complete-member : {w : List ℕ} {c : ℕ} → IsMember w c → (r : List ℕ) → past (byte "-") r ≡ bad r → readMember (w ++ r) ≡ got c r
 complete-member (single q d) r f = rw (complete-single 0 (omega arith) d r, f, q)
-complete-member (range {w} {u} {v} {lo} p q k d b) r f = rw (parted w u (byte "-" ∷ v) r p, complete-single 0 (omega arith) d (byte "-" ∷ (v ++ r)), complete-single lo k b r, q)
+complete-member (range {w} {u} {v} {lo} p q k d b) r f =
+    rw (parted w u (byte "-" ∷ v) r p, complete-single 0 (omega arith) d (byte "-" ∷ (v ++ r)), complete-single lo k b r, q)
 
 member-inside : {w : List ℕ} {c : ℕ} → IsMember w c → T (inside w)
 member-inside (single q d) = single-inside d
@@ -102,7 +104,8 @@ data Closed (c : ℕ) : List ℕ → ℕ → Type 0 where
   closed : {w u : List ℕ} {z d : ℕ} → w ≡ u ++ bytes "]" → z ≡ bitOr c d → IsMembers u d → Closed c w z
 
 one-more : (c : ℕ) {u v : List ℕ} {d z : ℕ} → IsMember u d → Closed (bitOr c d) v z → Closed c (u ++ v) z
-one-more c {u} {d} m (closed {u = t} {d = e} p q b) = closed (ap (λ (x : List ℕ). u ++ x) p ∙ sym (append-assoc u t (bytes "]"))) (q ∙ or-regroup c d e) (beside refl refl m b)
+one-more c {u} {d} m (closed {u = t} {d = e} p q b) =
+    closed (ap (λ (x : List ℕ). u ++ x) p ∙ sym (append-assoc u t (bytes "]"))) (q ∙ or-regroup c d e) (beside refl refl m b)
 
 sound-members : (n c : ℕ) (l : List ℕ) → Sound (Closed c) l (readMembers n c l)
 sound-members zero c l = stopped
@@ -144,7 +147,8 @@ complete-letter (plain-byte {b} p q h) r = rw (p, is-true (plain b) h, q)
 complete-letter (escape q d) r = rw (escape-tail d .1, complete-escape 0 (omega arith) d r, q)
 complete-letter (dot p q) r = rw (p, q)
 complete-letter (class {w} {u} {c} p d) r =
-    rw (parted w (byte "[" ∷ u) (bytes "]") r p, complete-members d (suc (length (u ++ (byte "]" ∷ r)))) 0 r (omega (arith, length-append u (byte "]" ∷ r))), or-zero-l c)
+    let enough : length u ≤ suc (length (u ++ (byte "]" ∷ r))) = omega (arith, length-append u (byte "]" ∷ r)) in
+    rw (parted w (byte "[" ∷ u) (bytes "]") r p, complete-members d (suc (length (u ++ (byte "]" ∷ r)))) 0 r enough, or-zero-l c)
 
 pub letter-begins : {w : List ℕ} {c : ℕ} → IsLetter w c → T (begins w)
 letter-begins (plain-byte {b} p q h) = rw p (not-among plain b (bytes "(|)?*+{") h tt)

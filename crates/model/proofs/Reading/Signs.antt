@@ -1,16 +1,16 @@
 -- Repeat signs: the reader and the grammar agree. A number goes on as long as digits come, `,` and `}` are no digits, and a letter's sign is
 -- absent exactly if none of `? * + {` comes next.
-use mathlib.Core.Path.{_≡_, refl, sym, ap, _∙_}
-use mathlib.Core.Logic.{_⊎_, inl, inr}
-use mathlib.Core.Bool.{Bool, true, false, not, _||_, cond}
+use mathlib.Core.Path.{_≡_, refl, subst}
+use mathlib.Core.Bool.{Bool, true, false, not}
 use mathlib.Core.List.{List, [], _∷_, _++_, append-assoc}
 use Prim.Native.Nat.{ℕ, zero, suc, _+_, _-_, _*_, _≤_, max}
 use native.Mathlib.Omega.{arith}
-use lib.Dec.{T, eqb, leb, eqb→eq, leb→le}
+use lib.Dec.{T, T-not, eqb, leb, eqb→eq, leb→le}
+use Rattle.model.specs.Lists.{within}
 use Rattle.model.specs.Bytes.{byte, bytes, IsDigit, digit, digital}
-use Rattle.model.specs.Tree.{once, option, plus, star}
+use Rattle.model.specs.Tree.{once}
 use Rattle.model.specs.Grammar.{IsBounds, IsNumber, IsSign, Sign, absent, asterisk, both, braces, cross, one, plainly, question, same, three, two, upto}
-use Rattle.model.specs.Models.Reader.{bad, close, got, past, reach, readBounds, readBraces, readDigits, readNumber, readSign, stop}
+use Rattle.model.specs.Models.Reader.{bad, got, past, reach, readBounds, readBraces, readDigits, readNumber, readSign, stop}
 use Rattle.model.proofs.Laws.Bool.{is-false, is-true, le-true, unequal}
 use Rattle.model.proofs.Reading.Answers.{Sound, took, stopped, bind-past-sound, bind-sound, case-past-sound, cond-sound, equal-sound, free, parted, past-other}
 use Rattle.model.proofs.Reading.Escapes.{Least, digit-of, digit-value, digital-of}
@@ -71,7 +71,8 @@ digit-small (digit p h) = h
 complete-number : {w : List ℕ} {n : ℕ} (m : ℕ) → m ≤ n → IsNumber w n → (r : List ℕ) → T (halts r) → readNumber m (w ++ r) ≡ got n r
 complete-number m g (one {n = zero} {x} p (digit q h)) r f = rw (p, q, le-true m 0 g)
 complete-number m g (one {n = suc n} {x} p d) r f =
-    rw (p, is-true (digital x) (digital-of d), leading d (omega arith), digit-value d, le-true m (10 * (10 * suc n + 9) + 9) (omega arith)) (digits-halt 2 m (suc n) r g f)
+    rw (p, is-true (digital x) (digital-of d), leading d (omega arith), digit-value d, le-true m (10 * (10 * suc n + 9) + 9) (omega arith))
+    (digits-halt 2 m (suc n) r g f)
 complete-number m g (two {n} {x} {y} {d} {e} p q k a b) r f =
     rw (
       p,
@@ -127,7 +128,12 @@ sound-bounds l =
 complete-bounds : {w : List ℕ} {x y : ℕ} → x ≤ y → 1 ≤ y → IsBounds w x y → (r : List ℕ) → readBounds (w ++ (byte "}" ∷ r)) ≡ got (x, y) (byte "}" ∷ r)
 complete-bounds i j (both {w} {u} {v} {x} p a b) r =
     let s = byte "," ∷ (v ++ (byte "}" ∷ r)) in
-    rw (parted w u (byte "," ∷ v) (byte "}" ∷ r) p, number-past a s, complete-number 0 (omega arith) a s tt, complete-number (max x 1) (omega arith) b (byte "}" ∷ r) tt)
+    rw (
+      parted w u (byte "," ∷ v) (byte "}" ∷ r) p,
+      number-past a s,
+      complete-number 0 (omega arith) a s tt,
+      complete-number (max x 1) (omega arith) b (byte "}" ∷ r) tt,
+    )
 complete-bounds i j (same p a) r = rw (number-past a (byte "}" ∷ r), complete-number 0 (omega arith) a (byte "}" ∷ r) tt, p)
 complete-bounds i j (upto p q b) r = rw (p, complete-number 1 j b (byte "}" ∷ r) tt, q)
 
@@ -151,15 +157,10 @@ sound-sign (x ∷ xs) =
 
 no-sign : (r : List ℕ) → T (free r) → readSign r ≡ got (plainly once) r
 no-sign [] h = refl
-no-sign (x ∷ xs) h = go (eqb x (byte "?")) (eqb x (byte "*")) (eqb x (byte "+")) (eqb x (byte "{")) h
+no-sign (x ∷ xs) h = rw (other (byte "?") tt, other (byte "*") tt, other (byte "+") tt, other (byte "{") tt)
   where
-    go : (a b c d : Bool) → T (not (a || (b || (c || (d || false)))))
-        → cond a (got (plainly option) xs) (cond b (got (plainly star) xs) (cond c (got (plainly plus) xs) (cond d (readBraces xs) (got (plainly once) (x ∷ xs))))) ≡ got (plainly once) (x ∷ xs)
-    go true b c d k = absurd k
-    go false true c d k = absurd k
-    go false false true d k = absurd k
-    go false false false true k = absurd k
-    go false false false false k = refl
+    other : (y : ℕ) → T (within y (bytes "?*+{")) → eqb x y ≡ false
+    other y k = unequal x y (λ e. T-not (within y (bytes "?*+{")) (subst (λ (z : ℕ). T (not (within z (bytes "?*+{")))) e h) k)
 
 pub complete-sign : {w : List ℕ} {q : Sign} → IsSign w q → (r : List ℕ) → T (free r) → readSign (w ++ r) ≡ got q r
 complete-sign (absent p q) r f = rw (p, q) (no-sign r f)

@@ -17,7 +17,6 @@ use Rattle.model.specs.Grammar.{IsAlts, IsItem, IsLetter, IsMember, IsMe
 use Rattle.model.specs.Writing.{writing, altsWriting, byteWriting, classWriting, hexDigit, inside, outside, repeatWriting, runWriting, sole}
 use Rattle.model.proofs.Image.Tokens.{glue-end}
 use Rattle.model.proofs.Laws.Bool.{and-both, and-split, le-false, le-true}
-use Rattle.model.proofs.Reading.Answers.{joined}
 use Rattle.model.proofs.Reading.Decides.{one-tree}
 use Rattle.model.proofs.Reading.WellFormed.{Class, Full, Good, GoodA, Several, WellFormed, bit-span, members-class, rule-well}
 use Rattle.model.proofs.Words.Bits.{bit-ext, bit-or}

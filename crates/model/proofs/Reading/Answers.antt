@@ -10,7 +10,7 @@ use lib.ListN.{length}
 use Rattle.model.specs.Lists.{any, within}
 use Rattle.model.specs.Bytes.{byte, bytes}
 use Rattle.model.specs.Models.Reader.{Read, bad, bind, case, got, over, past}
-use Rattle.model.proofs.Laws.Bool.{is-false, unequal}
+use Rattle.model.proofs.Laws.Bool.{cond-cases, is-false, unequal}
 use Rattle.model.proofs.Laws.Lists.{any-in, any-out}
 
 -- ---- sound answers
@@ -41,8 +41,7 @@ module _ {B : Type 0} {Y : List ℕ → B → Type 0} {k : List ℕ} where
   map-sound stopped g = stopped
 
   pub cond-sound : (b : Bool) {m n : Read B} → (T b → Sound Y k m) → (T (not b) → Sound Y k n) → Sound Y k (cond b m n)
-  cond-sound true f g = f tt
-  cond-sound false f g = g tt
+  cond-sound b f g = cond-cases (Sound Y k) b f g
 
   -- the byte y is x, or it is not
   pub equal-sound : (y x : ℕ) {m n : Read B} → (y ≡ x → Sound Y k m) → Sound Y k n → Sound Y k (cond (eqb y x) m n)

@@ -28,6 +28,7 @@ past-cases P x (y ∷ ys) f g = go (eqb y x) (eqb→eq y x)
     go true e = f ys (ap (λ (z : ℕ). z ∷ ys) (e tt))
     go false e = g
 
+-- each way to go on: the bytes taken and what they mean are handed to the next step
 module _ {B : Type 0} {Y : List ℕ → B → Type 0} {k : List ℕ} where
   pub bind-sound : {A : Type 0} {X : List ℕ → A → Type 0} {l : List ℕ} {m : Read A} {f : A → List ℕ → Read B}
       → Sound X l m → ((u : List ℕ) (a : A) (r : List ℕ) → l ≡ u ++ r → X u a → Sound Y k (f a r)) → Sound Y k (bind m f)

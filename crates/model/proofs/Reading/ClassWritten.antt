@@ -71,6 +71,7 @@ from c b i = leb b i && bit c i
 abbrev Run : ℕ → ℕ → ℕ → Type 0
 Run c a b = (i : ℕ) → a ≤ i → i < b → bit c i ≡ true
 
+-- a run goes on with the next byte
 longer : (c a b : ℕ) → Run c a b → bit c b ≡ true → Run c a (suc b)
 longer c a b R e i h k = go (eq-or-lt-of-le (le-of-suc-le-suc k))
   where
@@ -111,10 +112,12 @@ data Rest (c b : ℕ) (w : List ℕ) : Type 0 where
   none-left : w ≡ [] → ((i : ℕ) → i < 256 → from c b i ≡ false) → Rest c b w
   some-left : Made c b w → Rest c b w
 
+-- a byte that is not in c leaves the rest as it is
 skip : (c b : ℕ) (w : List ℕ) → bit c b ≡ false → Rest c (suc b) w → Rest c b w
 skip c b w e (none-left p N) = none-left p (λ i k. sym (from-next c b e i) ∙ N i k)
 skip c b w e (some-left m) = some-left (record { made = m .made; members = m .members; bits = λ i k. m .bits i k ∙ from-next c b e i })
 
+-- a run of c, and then the rest
 close-run : (c a b : ℕ) (w : List ℕ) → a < b → b ≤ 256 → Run c a b → Rest c b w → Made c a (runWriting a (b - 1) ++ w)
 close-run c a b w h k R (none-left p N) = record {
   made = span a (b - 1);
@@ -127,6 +130,7 @@ close-run c a b w h k R (some-left m) = record {
   bits = λ i l. rw (bit-or i (span a (b - 1)) (m .made), bit-span a (b - 1) i l, m .bits i l) (run-from c a b h R i);
 }
 
+-- as the writing goes: outside a run, and inside one that began in a
 mutual
   outside-rest : (n c b : ℕ) → n + b ≡ 256 → Rest c b (outside n c b)
   outside-rest zero c b e = none-left refl (λ i h. rw (le-false b i (omega arith)))
@@ -141,17 +145,21 @@ mutual
   inside-made (suc n) c b a e h R =
       cond-cases (Made c a) (bit c b)
       (λ t. inside-made n c (suc b) a (omega arith) (omega arith) (longer c a b R (is-true (bit c b) t)))
-      (λ t. close-run c a b (outside n c (suc b)) h (omega arith) R (skip c b (outside n c (suc b)) (is-false (bit c b) t) (outside-rest n c (suc b) (omega arith))))
+      (λ t. close-run c a b (outside n c (suc b)) h (omega arith) R
+      (skip c b (outside n c (suc b)) (is-false (bit c b) t) (outside-rest n c (suc b) (omega arith))))
 
 -- ---- a class
+-- members that make what c has from 0 on make c
 all-members : (c : ℕ) (w : List ℕ) → Class c → Rest c 0 w → IsMembers w c
 all-members c w h (none-left p N) =
     let z : c ≡ 0 = bit-ext 256 c 0 (h .bytes-only) (pow-pos 256) (λ i k. (rw (le-true 0 i (omega arith)) at (N i k)) ∙ sym (bit-zero i)) in
     absurd (omega (arith, h .some-byte))
 all-members c w h (some-left m) =
-    let z : m .made ≡ c = bit-ext 256 (m .made) c (members-class (m .members) .bytes-only) (h .bytes-only) (λ i k. m .bits i k ∙ rw (le-true 0 i (omega arith))) in
+    let small = members-class (m .members) .bytes-only in
+    let z : m .made ≡ c = bit-ext 256 (m .made) c small (h .bytes-only) (λ i k. m .bits i k ∙ rw (le-true 0 i (omega arith))) in
     subst (IsMembers w) z (m .members)
 
+-- the byte that `sole` finds is the only one of c
 sole-is : (n c b : ℕ) → sole n c b < 256 → c ≡ 2 ^ sole n c b
 sole-is zero c b = λ h. absurd (omega arith)
 sole-is (suc n) c b = cond-cases (λ x. x < 256 → c ≡ 2 ^ x) (eqb c (2 ^ b)) (λ t h. eqb→eq c (2 ^ b) t) (λ t. sole-is n c (suc b))

@@ -33,6 +33,7 @@ not-digital : (x : ℕ) → byte "9" < x → digital x ≡ false
 not-digital x h = rw (le-true (byte "0") x (omega arith), le-false x (byte "9") h)
 
 -- ---- hex digits
+-- `A` to `F`, and `a` to `f`
 abbrev capital : ℕ → Bool
 capital x = leb (byte "A") x && leb x (byte "F")
 
@@ -56,8 +57,10 @@ hex-of x h = go (or-split (digital x) (capital x || small x) h)
 
 hexadecimal-of : {x d : ℕ} → IsHex x d → T (hexadecimal x)
 hexadecimal-of (decimal {x} k) = or-left (digital x) (capital x || small x) (digital-of k)
-hexadecimal-of (upper {x} p h k) = or-right (digital x) (capital x || small x) (or-left (capital x) (small x) (between (byte "A") (byte "F") x .1 (omega arith)))
-hexadecimal-of (lower {x} p h k) = or-right (digital x) (capital x || small x) (or-right (capital x) (small x) (between (byte "a") (byte "f") x .1 (omega arith)))
+hexadecimal-of (upper {x} p h k) =
+    or-right (digital x) (capital x || small x) (or-left (capital x) (small x) (between (byte "A") (byte "F") x .1 (omega arith)))
+hexadecimal-of (lower {x} p h k) =
+    or-right (digital x) (capital x || small x) (or-right (capital x) (small x) (between (byte "a") (byte "f") x .1 (omega arith)))
 
 hex-value : {x d : ℕ} → IsHex x d → hexValue x ≡ d
 hex-value (decimal {x} k) = rw (is-true (digital x) (digital-of k)) (digit-value k)

@@ -16,9 +16,11 @@ use Rattle.model.proofs.Reading.Answers.{Sound, took, stopped, bind-pas
 use Rattle.model.proofs.Reading.Escapes.{Least, digit-of, digit-value, digital-of}
 
 -- ---- numbers
+-- the digits u mean v, and no digit follows them
 sound-stop : (m v : ℕ) (l u r : List ℕ) → l ≡ u ++ r → IsNumber u v → Sound (Least m IsNumber) l (stop m v r)
 sound-stop m v l u r e d = cond-sound (leb m v) (λ h. took u e (d, leb→le m v h)) (λ h. stopped)
 
+-- after a first digit x that is not `0`: at most a third digit, at most a second and a third
 module _ (m x : ℕ) (h : T (digital x)) (k : 1 ≤ x - byte "0") where
   sound-third : (y : ℕ) → T (digital y) → (l : List ℕ) → Sound (Least m IsNumber) (x ∷ y ∷ l) (readDigits 1 m (10 * (x - byte "0") + (y - byte "0")) l)
   sound-third y g [] = sound-stop m _ _ (x ∷ y ∷ []) [] refl (two refl refl k (digit-of x h) (digit-of y g))
@@ -57,11 +59,13 @@ abbrev halts : List ℕ → Bool
 halts [] = true
 halts (x ∷ xs) = not (digital x)
 
+-- a number ends where no digit comes next
 digits-halt : (k m v : ℕ) (r : List ℕ) → m ≤ v → T (halts r) → readDigits k m v r ≡ got v r
 digits-halt zero m v r g h = rw (le-true m v g)
 digits-halt (suc k) m v [] g h = rw (le-true m v g)
 digits-halt (suc k) m v (x ∷ xs) g h = rw (is-false (digital x) h, le-true m v g)
 
+-- a digit that means at least 1 is not `0`
 leading : {x d : ℕ} → IsDigit x d → 1 ≤ d → eqb x (byte "0") ≡ false
 leading (digit {x} p q) h = unequal x (byte "0") (omega arith)
 
@@ -110,10 +114,10 @@ number-past (two {x} {y} p q k a b) r = rw p (past-other digital (byte ",") x (y
 number-past (three {x} {y} {z} p q k a b c) r = rw p (past-other digital (byte ",") x (y ∷ z ∷ r) (digital-of a) tt)
 
 -- ---- bounds
--- bounds in order
-pub record Bounds (w : List ℕ) (b : ℕ × ℕ) : Type 0 where
-  pub is : IsBounds w (b .0) (b .1)
-  pub ordered : b .0 ≤ b .1
+-- in order
+record Bounds (w : List ℕ) (b : ℕ × ℕ) : Type 0 where
+  is : IsBounds w (b .0) (b .1)
+  ordered : b .0 ≤ b .1
 
 sound-bounds : (l : List ℕ) → Sound Bounds l (readBounds l)
 sound-bounds l =
@@ -155,6 +159,7 @@ sound-sign (x ∷ xs) =
     (equal-sound x (byte "{") (λ e. rw e (sound-braces xs))
     (took [] refl (absent refl refl)))))
 
+-- none of the four signs comes next
 no-sign : (r : List ℕ) → T (free r) → readSign r ≡ got (plainly once) r
 no-sign [] h = refl
 no-sign (x ∷ xs) h = rw (other (byte "?") tt, other (byte "*") tt, other (byte "+") tt, other (byte "{") tt)

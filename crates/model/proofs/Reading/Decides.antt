@@ -67,7 +67,7 @@ mutual
   item-opens (lone {u} {v} p q d b) = rw p (opens-append u v (begins-opens u (letter-begins d)))
   item-opens (group p q d) = rw p tt
 
--- ---- what is in the grammar is read, whatever r follows it that may follow it
+-- ---- what is in the grammar is read, and what may follow it is left
 mutual
   pub complete-alts : {w : List ℕ} {a : Alts} → IsAlts w a → (n : ℕ) (r : List ℕ) → T (closes r) → 3 * length (w ++ r) + 3 ≤ n → readAlts n (w ++ r) ≡ got a r
   complete-alts (only d) zero r c k = absurd (omega arith)
@@ -104,7 +104,9 @@ mutual
       rw (e, complete-alts d n (byte ")" ∷ r) tt (omega (arith, ap length e)), q)
 
 pub complete-rule : {w : List ℕ} {s : Seq} → IsRule w s → readRule w ≡ some s
-complete-rule (rule {w} p d) = let e = complete-alts d (3 * length w + 3) [] tt (omega (arith, length-append w [])) in rw (p) (ap whole (rw append-nil at e))
+complete-rule (rule {w} p d) =
+    let e = complete-alts d (3 * length w + 3) [] tt (omega (arith, length-append w [])) in
+    rw p (ap whole (rw append-nil at e))
 
 -- THE READER DECIDES THE GRAMMAR
 pub reads : (w : List ℕ) (s : Seq) → IsRule w s ↔ (readRule w ≡ some s)

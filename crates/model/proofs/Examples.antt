@@ -19,9 +19,9 @@ use Rattle.model.specs.Image.{scatterBlock, scatterSource, scatterTarget
 use Rattle.model.specs.Answers.{refused, BuildSays, not-a-rule}
 use Rattle.model.specs.Worked.{Claim, isWritten, hasStates, scatterAt, gatherAt, propagateAt, hasEnds, hasImage, Masks, Holds, Row, _⊨_, refusedWith2, Right, marked, further}
 use Rattle.model.proofs.Laws.Bool.{and-split}
-use Rattle.model.proofs.Reading.Reader.{readRule}
+use Rattle.model.specs.Models.Reader.{readRule}
 use Rattle.model.proofs.Reading.Decides.{reads}
-use Rattle.model.proofs.Reading.WellFormed.{Good, GoodA, rule-well}
+use Rattle.model.proofs.Reading.WellFormed.{Good, GoodAlts, rule-well}
 use Rattle.model.proofs.Words.InOrder.{Full, FullA, NonEmpty}
 use Rattle.model.proofs.Words.Run.{Bytes}
 use Rattle.model.proofs.Image.Verdict.{sameWords, sameWords-eq}
@@ -88,7 +88,7 @@ mutual
   good-full (letter c r s) g = good-full s (g .1)
   good-full (union a s) g = (alts-full a (g .1), good-full s (g .2))
 
-  alts-full : (a : Alts) → GoodA a → FullA a
+  alts-full : (a : Alts) → GoodAlts a → FullA a
   alts-full (last s) g = (filled s (g .0), good-full s (g .1))
   alts-full (more s a) g = (filled s (g .0), good-full s (g .1), alts-full a (g .2))
 

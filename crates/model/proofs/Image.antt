@@ -1,5 +1,6 @@
 -- Image
 pub mod Tokens
+pub mod TokenWriting
 pub mod Shown
 pub mod Fine
 pub mod LayOut

@@ -1,4 +1,6 @@
--- Laws
+-- Laws that every folder cites, each stated once: tests, lists, bits, trees.
 pub mod Bool
 pub mod Lists
 pub mod Each
+pub mod Bits
+pub mod Trees

@@ -10,4 +10,7 @@ pub mod Live
 pub mod Ends
 pub mod Image
 pub mod Answers
+-- The worked examples, every one proved.
 pub mod Worked
+-- Models: what the code computes. The theorems in proofs/ tie each to the definitions above.
+pub mod Models

@@ -14,7 +14,7 @@ use Rattle.model.specs.Edges.{states, depth}
 use Rattle.model.specs.Image.{image}
 use Rattle.model.specs.Answers.{Answer, refused, done, BuildSays, rule-too-long, not-a-rule, too-many-states, too-deep, no-room, built}
 use Rattle.model.proofs.Laws.Bool.{le-true, le-false, le-or-lt}
-use Rattle.model.proofs.Reading.Reader.{readRule}
+use Rattle.model.specs.Models.Reader.{readRule}
 use Rattle.model.proofs.Reading.Decides.{reads}
 
 -- ---- the answer, computed: checks 3 to 5 on a tree, check 2 on what was read, check 1 on the rule

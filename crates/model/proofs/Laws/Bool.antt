@@ -5,7 +5,7 @@ use mathlib.Core.Bool.{Bool, true, false, not, _&&_, _||_, cond}
 use Prim.Native.Nat.{ℕ, _≤_, _<_}
 use native.Mathlib.Decide.{decLe}
 use native.Mathlib.Omega.{arith}
-use lib.Dec.{T, eqb, leb, eqb→eq, leb→le, le→leb}
+use lib.Dec.{T, eqb, leb, eqb→eq, le→leb}
 use lib.Arith.{lt→nleb}
 
 -- ---- and, or
@@ -29,7 +29,15 @@ pub or-split : (a b : Bool) → T (a || b) → T a ⊎ T b
 or-split true b h = inl tt
 or-split false b h = inr h
 
+pub or-none : (a b : Bool) → T (not (a || b)) → T (not a) × T (not b)
+or-none true b h = absurd h
+or-none false b h = (tt, h)
+
 -- ---- a test that passes, and one that does not
+pub cond-cases : {A : Type 0} (P : A → Type 0) (b : Bool) {x y : A} → (T b → P x) → (T (not b) → P y) → P (cond b x y)
+cond-cases P true f g = f tt
+cond-cases P false f g = g tt
+
 pub is-true : (b : Bool) → T b → b ≡ true
 is-true true h = refl
 is-true false h = absurd h

@@ -1,166 +1,154 @@
--- What the readers get: laws for the parts, and the tests on bytes.
-use mathlib.Core.Path.{_≡_, refl, sym, ap, _∙_, subst}
-use mathlib.Core.Bool.{Bool, true, false, not, _||_, cond}
+-- An answer is sound if what was read is what the grammar says of the bytes that were taken: each way in which a reader goes on keeps its answer
+-- sound. And what may follow a part of a rule, as tests on the next byte: with these the readers know where a part ends.
+use mathlib.Core.Path.{_≡_, refl, ap, subst}
+use mathlib.Core.Bool.{Bool, true, false, not, cond}
 use mathlib.Core.List.{List, [], _∷_, _++_, append-assoc}
-use Prim.Native.Nat.{ℕ, _+_, _≤_}
+use Prim.Native.Nat.{ℕ, _≤_}
 use native.Mathlib.Omega.{arith}
-use lib.Dec.{T, eqb, eqb→eq}
-use lib.ListN.{length, length-append}
-use Rattle.model.specs.Lists.{All, within}
-use Rattle.model.proofs.Reading.Reader.{Read, bad, bind, case, got, over, past}
+use lib.Dec.{T, T-not, not-T, eqb, eqb→eq}
+use lib.ListN.{length}
+use Rattle.model.specs.Lists.{any, within}
+use Rattle.model.specs.Bytes.{byte, bytes}
+use Rattle.model.specs.Models.Reader.{Read, bad, bind, case, got, over, past}
+use Rattle.model.proofs.Laws.Bool.{cond-cases, is-false, unequal}
+use Rattle.model.proofs.Laws.Lists.{any-in, any-out}
 
--- ---- what is got has P
+-- ---- sound answers
+-- what was got from l is what X says of the bytes u that were taken from it
+pub data Sound {A : Type 0} (X : List ℕ → A → Type 0) (l : List ℕ) : Read A → Type 0 where
+  took : (u : List ℕ) {a : A} {r : List ℕ} → l ≡ u ++ r → X u a → Sound X l (got a r)
+  stopped : {r : List ℕ} → Sound X l (bad r)
+
+-- the byte x comes next, or it does not
+pub past-cases : (P : Read (Unit {0}) → Type 0) (x : ℕ) (r : List ℕ) → ((r′ : List ℕ) → r ≡ x ∷ r′ → P (got tt r′)) → P (bad r) → P (past x r)
+past-cases P x [] f g = g
+past-cases P x (y ∷ ys) f g = go (eqb y x) (eqb→eq y x)
+  where
+    go : (b : Bool) → (T b → y ≡ x) → P (cond b (got tt ys) (bad (y ∷ ys)))
+    go true e = f ys (ap (λ (z : ℕ). z ∷ ys) (e tt))
+    go false e = g
+
+-- each way to go on: the bytes taken and what they mean are handed to the next step
+module _ {B : Type 0} {Y : List ℕ → B → Type 0} {k : List ℕ} where
+  pub bind-sound : {A : Type 0} {X : List ℕ → A → Type 0} {l : List ℕ} {m : Read A} {f : A → List ℕ → Read B}
+      → Sound X l m → ((u : List ℕ) (a : A) (r : List ℕ) → l ≡ u ++ r → X u a → Sound Y k (f a r)) → Sound Y k (bind m f)
+  bind-sound (took u {a} {r} e d) g = g u a r e d
+  bind-sound stopped g = stopped
+
+  -- bytes taken from another list, with another meaning
+  pub map-sound : {X : List ℕ → B → Type 0} {l : List ℕ} {m : Read B}
+      → Sound X l m → ((u : List ℕ) (b : B) (r : List ℕ) → l ≡ u ++ r → X u b → Sound Y k (got b r)) → Sound Y k m
+  map-sound (took u {a} {r} e d) g = g u a r e d
+  map-sound stopped g = stopped
+
+  pub cond-sound : (b : Bool) {m n : Read B} → (T b → Sound Y k m) → (T (not b) → Sound Y k n) → Sound Y k (cond b m n)
+  cond-sound b f g = cond-cases (Sound Y k) b f g
+
+  -- the byte y is x, or it is not
+  pub equal-sound : (y x : ℕ) {m n : Read B} → (y ≡ x → Sound Y k m) → Sound Y k n → Sound Y k (cond (eqb y x) m n)
+  equal-sound y x f g = cond-sound (eqb y x) (λ h. f (eqb→eq y x h)) (λ h. g)
+
+  pub case-past-sound : (x : ℕ) (r : List ℕ) {f : Unit {0} → List ℕ → Read B} {n : Read B}
+      → ((z : Unit {0}) (r′ : List ℕ) → r ≡ x ∷ r′ → Sound Y k (f z r′)) → Sound Y k n → Sound Y k (case (past x r) f n)
+  case-past-sound x r {f} {n} h g = past-cases (λ m. Sound Y k (case m f n)) x r (h tt) g
+
+  pub bind-past-sound : (x : ℕ) (r : List ℕ) {f : Unit {0} → List ℕ → Read B}
+      → ((z : Unit {0}) (r′ : List ℕ) → r ≡ x ∷ r′ → Sound Y k (f z r′)) → Sound Y k (bind (past x r) f)
+  bind-past-sound x r {f} h = past-cases (λ m. Sound Y k (bind m f)) x r (h tt) stopped
+
+-- ---- what was got has a property
 abbrev pub Holds : {A : Type 0} → (A → List ℕ → Type 0) → Read A → Type 0
 Holds P (got a r) = P a r
 Holds P (bad r) = Unit {0}
 
-module _ {A B : Type 0} (P : A → List ℕ → Type 0) (Q : B → List ℕ → Type 0) where
-  pub case-holds : (m : Read A) (f : A → List ℕ → Read B) (g : Read B) → Holds P m → ((a : A) (r : List ℕ) → P a r → Holds Q (f a r)) → Holds Q g → Holds Q (case m f g)
-  case-holds (got a r) f g h k j = k a r h
-  case-holds (bad r) f g h k j = j
+pub sound-holds : {A : Type 0} {X : List ℕ → A → Type 0} {l : List ℕ} {m : Read A} (P : A → List ℕ → Type 0)
+    → Sound X l m → ((u : List ℕ) (a : A) (r : List ℕ) → l ≡ u ++ r → X u a → P a r) → Holds P m
+sound-holds P (took u {a} {r} e d) f = f u a r e d
+sound-holds P stopped f = tt
 
-  pub bind-holds : (m : Read A) (f : A → List ℕ → Read B) → Holds P m → ((a : A) (r : List ℕ) → P a r → Holds Q (f a r)) → Holds Q (bind m f)
-  bind-holds (got a r) f h k = k a r h
-  bind-holds (bad r) f h k = tt
+-- ---- a byte among others
+within-any : (f : ℕ → Bool) (x : ℕ) (ys : List ℕ) → T (within x ys) → T (f x) → T (any f ys)
+within-any f x ys h k =
+    let o = any-out (eqb x) ys h in
+    any-in f ys (o .0) (o .1) (subst (λ (y : ℕ). T (f y)) (eqb→eq x (o .0) (o .2)) k)
 
-pub cond-holds : {B : Type 0} (Q : B → List ℕ → Type 0) (b : Bool) (m n : Read B) → (T b → Holds Q m) → (T (not b) → Holds Q n) → Holds Q (cond b m n)
-cond-holds Q true m n f g = f tt
-cond-holds Q false m n f g = g tt
+-- a byte that passes a test which none of ys passes is none of them
+pub not-among : (f : ℕ → Bool) (x : ℕ) (ys : List ℕ) → T (f x) → T (not (any f ys)) → T (not (within x ys))
+not-among f x ys h k = not-T (within x ys) (λ w. T-not (any f ys) k (within-any f x ys w h))
 
-pub past-holds : (x : ℕ) (l : List ℕ) → Holds (λ y r. l ≡ x ∷ r) (past x l)
-past-holds x [] = tt
-past-holds x (y ∷ ys) = cond-holds (λ z r. y ∷ ys ≡ x ∷ r) (eqb y x) (got tt ys) (bad (y ∷ ys)) (λ h. ap (λ (k : ℕ). k ∷ ys) (eqb→eq y x h)) (λ h. tt)
-
--- l begins with bytes that X relates to a, and r follows
-abbrev pub Begins : {A : Type 0} → (List ℕ → A → Type 0) → List ℕ → A → List ℕ → Type 0
-Begins X l a r = (u : List ℕ) × (l ≡ u ++ r) × X u a
-
--- what holds for each of a list holds for a number within it
-pub within-every : (P : ℕ → Type 0) (x : ℕ) (ys : List ℕ) → T (within x ys) → All P ys → P x
-within-every P x [] h e = absurd h
-within-every P x (y ∷ ys) h e = go (eqb x y) refl h (λ k. within-every P x ys k (e .1))
+-- a byte among ys passes a test which each of them passes
+pub among : (f : ℕ → Bool) (x : ℕ) (ys : List ℕ) → T (within x ys) → T (not (any (λ y. not (f y)) ys)) → T (f x)
+among f x ys w k = go (f x) (λ n. T-not (any (λ y. not (f y)) ys) k (within-any (λ y. not (f y)) x ys w n))
   where
-    go : (b : Bool) → eqb x y ≡ b → T (b || within x ys) → (T (within x ys) → P x) → P x
-    go true q k f = subst P (sym (eqb→eq x y (subst T (sym q) tt))) (e .0)
-    go false q k f = f k
+    go : (b : Bool) → (T (not b) → ⊥) → T b
+    go true h = tt
+    go false h = h tt
 
--- what rules out each of a list rules out being within it
-pub not-within : (b : ℕ → Bool) (x : ℕ) (ys : List ℕ) → T (b x) → All (λ y. T (not (b y))) ys → T (not (within x ys))
-not-within b x ys h e = go (within x ys) refl
-  where
-    no-both : (c : Bool) → T c → T (not c) → ⊥
-    no-both true p q = q
-    no-both false p q = p
+-- a byte y that a test tells from x is not x
+pub past-other : (f : ℕ → Bool) (x y : ℕ) (ys : List ℕ) → T (f y) → T (not (f x)) → past x (y ∷ ys) ≡ bad (y ∷ ys)
+past-other f x y ys h k = rw (unequal y x (λ e. T-not (f x) k (subst (λ (z : ℕ). T (f z)) e h)))
 
-    go : (c : Bool) → within x ys ≡ c → T (not c)
-    go true q = absurd (no-both (b x) h (within-every (λ y. T (not (b y))) x ys (subst T (sym q) tt) e))
-    go false q = tt
-
--- ---- what may follow
+-- ---- what may come next
+-- after alternatives, unless `|` goes on with them
 abbrev pub closes : List ℕ → Bool
 closes [] = true
-closes (x ∷ xs) = eqb x 41
-
-abbrev pub repeats : List ℕ
-repeats = 63 ∷ 42 ∷ 43 ∷ 123 ∷ []
+closes (x ∷ xs) = within x (bytes ")")
 
 -- no repeat sign comes next
 abbrev pub free : List ℕ → Bool
 free [] = true
-free (x ∷ xs) = not (within x repeats)
+free (x ∷ xs) = not (within x (bytes "?*+{"))
 
--- an item may begin so; a letter may begin so
+-- an item may begin so
 abbrev pub opens : List ℕ → Bool
 opens [] = false
-opens (x ∷ xs) = not (within x (124 ∷ 41 ∷ repeats))
+opens (x ∷ xs) = not (within x (bytes "|)?*+{"))
 
+-- a letter may begin so
 abbrev pub begins : List ℕ → Bool
 begins [] = false
-begins (x ∷ xs) = not (within x (40 ∷ 124 ∷ 41 ∷ repeats))
+begins (x ∷ xs) = not (within x (bytes "(|)?*+{"))
 
-pub closes-past : (r : List ℕ) → T (closes r) → past 124 r ≡ bad r
+pub closes-past : (r : List ℕ) → T (closes r) → past (byte "|") r ≡ bad r
 closes-past [] h = refl
-closes-past (x ∷ xs) h = subst (λ (y : ℕ). past 124 (y ∷ xs) ≡ bad (y ∷ xs)) (sym (eqb→eq x 41 h)) refl
+closes-past (x ∷ xs) h = past-other (λ y. within y (bytes ")")) (byte "|") x xs h tt
 
 pub closes-over : (r : List ℕ) → T (closes r) → T (over r)
 closes-over [] h = tt
-closes-over (x ∷ xs) h = subst (λ (y : ℕ). T (over (y ∷ xs))) (sym (eqb→eq x 41 h)) tt
+closes-over (x ∷ xs) h = among (λ y. within y (bytes "|)")) x (bytes ")") h tt
 
 pub over-free : (r : List ℕ) → T (over r) → T (free r)
 over-free [] h = tt
-over-free (x ∷ xs) h = within-every (λ y. T (free (y ∷ xs))) x (124 ∷ 41 ∷ []) h (tt, (tt, tt))
+over-free (x ∷ xs) h = among (λ y. not (within y (bytes "?*+{"))) x (bytes "|)") h tt
 
 pub opens-free : (l : List ℕ) → T (opens l) → T (free l)
 opens-free [] h = absurd h
-opens-free (x ∷ xs) h = go (eqb x 124) (eqb x 41) (within x repeats) h
-  where
-    go : (a b c : Bool) → T (not (a || (b || c))) → T (not c)
-    go true b c k = absurd k
-    go false true c k = absurd k
-    go false false c k = k
+opens-free (x ∷ xs) h = not-among (λ y. not (within y (bytes "|)?*+{"))) x (bytes "?*+{") h tt
 
 pub opens-over : (l : List ℕ) → T (opens l) → over l ≡ false
 opens-over [] h = absurd h
-opens-over (x ∷ xs) h = go (eqb x 124) (eqb x 41) (within x repeats) h
-  where
-    go : (a b c : Bool) → T (not (a || (b || c))) → (a || (b || false)) ≡ false
-    go true b c k = absurd k
-    go false true c k = absurd k
-    go false false c k = refl
+opens-over (x ∷ xs) h = is-false (over (x ∷ xs)) (not-among (λ y. not (within y (bytes "|)?*+{"))) x (bytes "|)") h tt)
 
 pub begins-opens : (l : List ℕ) → T (begins l) → T (opens l)
 begins-opens [] h = absurd h
-begins-opens (x ∷ xs) h = go (eqb x 40) (within x (124 ∷ 41 ∷ repeats)) h
-  where
-    go : (a b : Bool) → T (not (a || b)) → T (not b)
-    go true b k = absurd k
-    go false b k = k
+begins-opens (x ∷ xs) h = not-among (λ y. not (within y (bytes "(|)?*+{"))) x (bytes "|)?*+{") h tt
 
-pub begins-past : (l : List ℕ) → T (begins l) → past 40 l ≡ bad l
+pub begins-past : (l : List ℕ) → T (begins l) → past (byte "(") l ≡ bad l
 begins-past [] h = absurd h
-begins-past (x ∷ xs) h = go (eqb x 40) (within x (124 ∷ 41 ∷ repeats)) h
-  where
-    go : (a b : Bool) → T (not (a || b)) → _≡_ {A = Read (Unit {0})} (cond a (got tt xs) (bad (x ∷ xs))) (bad (x ∷ xs))
-    go true b k = absurd k
-    go false b k = refl
+begins-past (x ∷ xs) h = past-other (λ y. not (within y (bytes "(|)?*+{"))) (byte "(") x xs h tt
 
-pub begins-app : (u r : List ℕ) → T (begins u) → T (begins (u ++ r))
-begins-app [] r h = absurd h
-begins-app (x ∷ xs) r h = h
+pub begins-append : (u r : List ℕ) → T (begins u) → T (begins (u ++ r))
+begins-append [] r h = absurd h
+begins-append (x ∷ xs) r h = h
 
-pub opens-app : (u r : List ℕ) → T (opens u) → T (opens (u ++ r))
-opens-app [] r h = absurd h
-opens-app (x ∷ xs) r h = h
+pub opens-append : (u r : List ℕ) → T (opens u) → T (opens (u ++ r))
+opens-append [] r h = absurd h
+opens-append (x ∷ xs) r h = h
 
 pub opens-long : (u : List ℕ) → T (opens u) → 1 ≤ length u
 opens-long [] h = absurd h
 opens-long (x ∷ xs) h = omega arith
 
--- two parts, one after the other
-pub joined : (l u m v r : List ℕ) → l ≡ u ++ m → m ≡ v ++ r → l ≡ (u ++ v) ++ r
-joined l u m v r p q = rw append-assoc (p ∙ ap (λ (x : List ℕ). u ++ x) q)
-
-pub parted : (l w u v r : List ℕ) → l ≡ w ++ r → w ≡ u ++ v → l ≡ u ++ (v ++ r)
-parted l w u v r p q = p ∙ ap (λ (x : List ℕ). x ++ r) q ∙ append-assoc u v r
-
-pub length-parts : (l u r : List ℕ) → l ≡ u ++ r → length l ≡ length u + length r
-length-parts l u r e = ap length e ∙ length-append u r
-
-pub holds-map : {A : Type 0} (P Q : A → List ℕ → Type 0) (m : Read A) → Holds P m → ((a : A) (r : List ℕ) → P a r → Q a r) → Holds Q m
-holds-map P Q (got a r) h f = f a r h
-holds-map P Q (bad r) h f = tt
-
--- a byte that b tells from x isn't x
-pub past-other : (b : ℕ → Bool) (x y : ℕ) (ys : List ℕ) → T (b y) → T (not (b x)) → past x (y ∷ ys) ≡ bad (y ∷ ys)
-past-other b x y ys h k = go (eqb y x) refl
-  where
-    no-both : (c : Bool) → T c → T (not c) → ⊥
-    no-both true p q = q
-    no-both false p q = p
-
-    go : (c : Bool) → eqb y x ≡ c → _≡_ {A = Read (Unit {0})} (cond c (got tt ys) (bad (y ∷ ys))) (bad (y ∷ ys))
-    go true e = absurd (no-both (b x) (subst (λ (z : ℕ). T (b z)) (eqb→eq y x (subst T (sym e) tt)) h) k)
-    go false e = refl
-
-pub tail-eq : (x : ℕ) (l r : List ℕ) → x ∷ l ≡ x ∷ r → l ≡ r
-tail-eq x l r e = cc
+-- ---- a text of two parts, and what follows it
+pub parted : (w u v r : List ℕ) → w ≡ u ++ v → w ++ r ≡ u ++ (v ++ r)
+parted w u v r p = rw p (append-assoc u v r)

@@ -1,114 +1,117 @@
--- The reader and the grammar agree: soundness, completeness, one tree for each rule.
+-- THE READER DECIDES THE GRAMMAR: what it reads is a rule with the tree that it gives, and every rule is read. So no rule has two trees.
+-- Soundness goes along the readers, completeness along the grammar; the byte after a part tells both where the part ends.
 use mathlib.Core.Path.{_≡_, refl, sym, ap, _∙_, subst}
 use mathlib.Core.Logic.{_↔_}
-use mathlib.Core.List.{List, [], _∷_, _++_, append-nil}
+use mathlib.Core.List.{List, [], _∷_, _++_, append-nil, append-assoc}
 use mathlib.Core.Option.{some}
 use Prim.Native.Nat.{ℕ, zero, suc, _+_, _*_, _≤_}
 use native.Mathlib.Omega.{arith}
 use lib.Dec.{T}
-use lib.ListN.{length}
+use lib.ListN.{length, length-append}
+use Rattle.model.specs.Bytes.{byte, bytes}
 use Rattle.model.specs.Tree.{Alts, Seq}
-use Rattle.model.specs.Grammar.{IsAlts, IsItem, IsLetter, IsRule, IsSeq, IsSign, also, bracket, group, item, lone, only, rule, then}
+use Rattle.model.specs.Grammar.{IsAlts, IsItem, IsRule, IsSeq, also, bracket, group, item, lone, only, rule, then}
+use Rattle.model.specs.Models.Reader.{Read, bad, got, over, readAlts, readItem, readPiece, readRule, readSeq, whole}
 use Rattle.model.proofs.Laws.Bool.{is-true}
-use Rattle.model.proofs.Reading.Answers.{Begins, Holds, begins, begins-app, begins-opens, begins-past, bind-holds, case-holds, closes, closes-over, closes-past, cond-holds, free, joined, length-parts, opens, opens-app, opens-free, opens-long, opens-over, over-free, parted, past-holds}
+use Rattle.model.proofs.Reading.Answers.{Sound, took, stopped, begins-append, begins-opens, begins-past, bind-past-sound, bind-sound, case-past-sound, closes, closes-over, closes-past, cond-sound, free, opens, opens-append, opens-free, opens-long, opens-over, over-free, parted}
 use Rattle.model.proofs.Reading.Letters.{complete-letter, letter-begins, sound-letter}
-use Rattle.model.proofs.Reading.Reader.{Read, bad, got, over, past, readAlts, readItem, readLetter, readPiece, readRule, readSeq, readSign, whole}
 use Rattle.model.proofs.Reading.Signs.{complete-sign, sound-sign}
 
--- ---- (a) what is read is in the grammar
-sound-piece : (l : List ℕ) → Holds (Begins IsItem l) (readPiece l)
+-- ---- what is read is in the grammar
+sound-piece : (l : List ℕ) → Sound IsItem l (readPiece l)
 sound-piece l =
-    bind-holds (Begins IsLetter l) (Begins IsItem l) (readLetter l) _ (sound-letter l) (λ c r h.
-    bind-holds (Begins IsSign r) (Begins IsItem l) (readSign r) _ (sound-sign r) (λ q r′ k.
-    (h .0 ++ k .0, joined l (h .0) r (k .0) r′ (h .1) (k .1), lone refl refl (h .2) (k .2))))
+    bind-sound (sound-letter l) (λ u c r e d.
+    bind-sound (sound-sign r) (λ v q r′ f b.
+    took (u ++ v) (cc (append-assoc u v r′)) (lone refl refl d b)))
 
 mutual
-  pub sound-alts : (n : ℕ) (l : List ℕ) → Holds (Begins IsAlts l) (readAlts n l)
-  sound-alts zero l = tt
+  pub sound-alts : (n : ℕ) (l : List ℕ) → Sound IsAlts l (readAlts n l)
+  sound-alts zero l = stopped
   sound-alts (suc n) l =
-      bind-holds (Begins IsSeq l) (Begins IsAlts l) (readSeq n l) _ (sound-seq n l) (λ s r h.
-      case-holds (λ x r′. r ≡ 124 ∷ r′) (Begins IsAlts l) (past 124 r) _ _ (past-holds 124 r)
-      (λ x r′ e. bind-holds (Begins IsAlts r′) (Begins IsAlts l) (readAlts n r′) _ (sound-alts n r′) (λ a r″ k.
-      (h .0 ++ (124 ∷ k .0), joined l (h .0) r (124 ∷ k .0) r″ (h .1) (e ∙ ap (λ (z : List ℕ). 124 ∷ z) (k .1)), also refl (h .2) (k .2))))
-      (h .0, h .1, only (h .2)))
+      bind-sound (sound-seq n l) (λ u s r e d.
+      case-past-sound (byte "|") r
+      (λ z r′ p. bind-sound (sound-alts n r′) (λ v a r″ f b. took (u ++ (byte "|" ∷ v)) (cc (append-assoc u (byte "|" ∷ v) r″)) (also refl d b)))
+      (took u e (only d)))
 
-  pub sound-seq : (n : ℕ) (l : List ℕ) → Holds (Begins IsSeq l) (readSeq n l)
-  sound-seq zero l = tt
+  pub sound-seq : (n : ℕ) (l : List ℕ) → Sound IsSeq l (readSeq n l)
+  sound-seq zero l = stopped
   sound-seq (suc n) l =
-      bind-holds (Begins IsItem l) (Begins IsSeq l) (readItem n l) _ (sound-item n l) (λ s r h.
-      cond-holds (Begins IsSeq l) (over r) _ _
-      (λ b. (h .0, h .1, item (h .2)))
-      (λ b. bind-holds (Begins IsSeq r) (Begins IsSeq l) (readSeq n r) _ (sound-seq n r) (λ t r′ k.
-      (h .0 ++ k .0, joined l (h .0) r (k .0) r′ (h .1) (k .1), then refl refl (h .2) (k .2)))))
+      bind-sound (sound-item n l) (λ u h r e d.
+      cond-sound (over r)
+      (λ z. took u e (item d))
+      (λ z. bind-sound (sound-seq n r) (λ v t r′ f b. took (u ++ v) (cc (append-assoc u v r′)) (then refl refl d b))))
 
-  pub sound-item : (n : ℕ) (l : List ℕ) → Holds (Begins IsItem l) (readItem n l)
-  sound-item zero l = tt
+  pub sound-item : (n : ℕ) (l : List ℕ) → Sound IsItem l (readItem n l)
+  sound-item zero l = stopped
   sound-item (suc n) l =
-      case-holds (λ x r. l ≡ 40 ∷ r) (Begins IsItem l) (past 40 l) _ _ (past-holds 40 l)
-      (λ x r e. bind-holds (Begins IsAlts r) (Begins IsItem l) (readAlts n r) _ (sound-alts n r) (λ a r′ k.
-      bind-holds (λ y r″. r′ ≡ 41 ∷ r″) (Begins IsItem l) (past 41 r′) _ (past-holds 41 r′) (λ y r″ f.
-      (40 ∷ (k .0 ++ (41 ∷ [])), e ∙ ap (λ (z : List ℕ). 40 ∷ z) (joined r (k .0) r′ (41 ∷ []) r″ (k .1) f), group refl refl (k .2)))))
+      case-past-sound (byte "(") l
+      (λ z r p. bind-sound (sound-alts n r) (λ u a r′ e d.
+      bind-past-sound (byte ")") r′ (λ y r″ q. took (byte "(" ∷ (u ++ bytes ")")) (cc (append-assoc u (bytes ")") r″)) (group refl refl d))))
       (sound-piece l)
-
--- ---- every item begins so
-mutual
-  pub seq-opens : {w : List ℕ} {s : Seq} → IsSeq w s → T (opens w)
-  seq-opens (item d) = item-opens d
-  seq-opens (then {u} {v} p q d e) = subst (λ (x : List ℕ). T (opens x)) (sym p) (opens-app u v (item-opens d))
-
-  pub item-opens : {w : List ℕ} {s : Seq} → IsItem w s → T (opens w)
-  item-opens (lone {u} {v} p q d b) = subst (λ (x : List ℕ). T (opens x)) (sym p) (opens-app u v (begins-opens u (letter-begins d)))
-  item-opens (group p q d) = subst (λ (x : List ℕ). T (opens x)) (sym p) tt
-
--- ---- (b) what is in the grammar is read
-mutual
-  pub complete-alts : {w : List ℕ} {a : Alts} → IsAlts w a → (n : ℕ) (l r : List ℕ) → l ≡ w ++ r → T (closes r) → 3 * length l + 3 ≤ n → readAlts n l ≡ got a r
-  complete-alts (only d) zero l r e c k = absurd (omega arith)
-  complete-alts (only d) (suc n) l r e c k = rw (complete-seq d n l r e (closes-over r c) (omega arith), closes-past r c)
-  complete-alts (also p d b) zero l r e c k = absurd (omega arith)
-  complete-alts (also {w} {u} {v} p d b) (suc n) l r e c k =
-      let q = parted l w u (124 ∷ v) r e p in
-      rw (complete-seq d n l (124 ∷ (v ++ r)) q tt (omega arith), complete-alts b n (v ++ r) r refl c (omega (arith, length-parts l u (124 ∷ (v ++ r)) q)))
-
-  pub complete-seq : {w : List ℕ} {s : Seq} → IsSeq w s → (n : ℕ) (l r : List ℕ) → l ≡ w ++ r → T (over r) → 3 * length l + 2 ≤ n → readSeq n l ≡ got s r
-  complete-seq (item d) zero l r e c k = absurd (omega arith)
-  complete-seq (item d) (suc n) l r e c k = rw (complete-item d n l r e (over-free r c) (omega arith), is-true (over r) c)
-  complete-seq (then p q d b) zero l r e c k = absurd (omega arith)
-  complete-seq (then {w} {u} {v} p q d b) (suc n) l r e c k =
-      let f = parted l w u v r e p in
-      let o = opens-app v r (seq-opens b) in
-      rw (
-        complete-item d n l (v ++ r) f (opens-free (v ++ r) o) (omega arith),
-        opens-over (v ++ r) o,
-        complete-seq b n (v ++ r) r refl c (omega (arith, length-parts l u (v ++ r) f, opens-long u (item-opens d))),
-        q,
-      )
-
-  pub complete-item : {w : List ℕ} {s : Seq} → IsItem w s → (n : ℕ) (l r : List ℕ) → l ≡ w ++ r → T (free r) → 3 * length l + 1 ≤ n → readItem n l ≡ got s r
-  complete-item (lone p q d b) zero l r e c k = absurd (omega arith)
-  complete-item (lone {w} {u} {v} p q d b) (suc n) l r e c k =
-      let f = parted l w u v r e p in
-      rw (begins-past l (subst (λ (x : List ℕ). T (begins x)) (sym f) (begins-app u (v ++ r) (letter-begins d))), complete-letter d l (v ++ r) f, complete-sign b (v ++ r) r refl c, q)
-  complete-item (group p q d) zero l r e c k = absurd (omega arith)
-  complete-item (group {w} {u} p q d) (suc n) l r e c k =
-      let f = parted l w (40 ∷ u) (41 ∷ []) r e p in
-      rw (f, complete-alts d n (u ++ (41 ∷ r)) (41 ∷ r) refl tt (omega (arith, ap length f)), q)
-
-pub complete-rule : {w : List ℕ} {s : Seq} → IsRule w s → readRule w ≡ some s
-complete-rule (rule {w} p d) = rw (complete-alts d (3 * length w + 3) w [] (sym (append-nil w)) tt (omega arith), p)
 
 pub sound-rule : (w : List ℕ) (s : Seq) → readRule w ≡ some s → IsRule w s
 sound-rule w s e = go (readAlts (3 * length w + 3) w) (sound-alts (3 * length w + 3) w) e
   where
-    go : (m : Read Alts) → Holds (Begins IsAlts w) m → whole m ≡ some s → IsRule w s
+    go : (m : Read Alts) → Sound IsAlts w m → whole m ≡ some s → IsRule w s
     go (bad r) h q = let z : _≡_ {A = ℕ} 0 1 = cc in absurd (omega arith)
     go (got a (x ∷ xs)) h q = let z : _≡_ {A = ℕ} 0 1 = cc in absurd (omega arith)
-    go (got a []) h q = let z : bracket a ≡ s = cc in subst (λ (l : List ℕ). IsRule l s) (sym (h .1 ∙ append-nil (h .0))) (rule (sym z) (h .2))
+    go (got a []) (took u f d) q = let z : bracket a ≡ s = cc in subst (λ (l : List ℕ). IsRule l s) (sym (f ∙ append-nil u)) (rule (sym z) d)
+
+-- ---- how parts of a rule begin
+mutual
+  pub seq-opens : {w : List ℕ} {s : Seq} → IsSeq w s → T (opens w)
+  seq-opens (item d) = item-opens d
+  seq-opens (then {u} {v} p q d b) = rw p (opens-append u v (item-opens d))
+
+  pub item-opens : {w : List ℕ} {s : Seq} → IsItem w s → T (opens w)
+  item-opens (lone {u} {v} p q d b) = rw p (opens-append u v (begins-opens u (letter-begins d)))
+  item-opens (group p q d) = rw p tt
+
+-- ---- what is in the grammar is read, and what may follow it is left
+mutual
+  pub complete-alts : {w : List ℕ} {a : Alts} → IsAlts w a → (n : ℕ) (r : List ℕ) → T (closes r) → 3 * length (w ++ r) + 3 ≤ n → readAlts n (w ++ r) ≡ got a r
+  complete-alts (only d) zero r c k = absurd (omega arith)
+  complete-alts (only d) (suc n) r c k = rw (complete-seq d n r (closes-over r c) (omega arith), closes-past r c)
+  complete-alts (also p d b) zero r c k = absurd (omega arith)
+  complete-alts (also {w} {u} {v} p d b) (suc n) r c k =
+      let e = parted w u (byte "|" ∷ v) r p in
+      let size = ap length e in
+      rw (e, complete-seq d n (byte "|" ∷ (v ++ r)) tt (omega arith), complete-alts b n r c (omega (arith, length-append u (byte "|" ∷ (v ++ r)))))
+
+  pub complete-seq : {w : List ℕ} {s : Seq} → IsSeq w s → (n : ℕ) (r : List ℕ) → T (over r) → 3 * length (w ++ r) + 2 ≤ n → readSeq n (w ++ r) ≡ got s r
+  complete-seq (item d) zero r c k = absurd (omega arith)
+  complete-seq (item d) (suc n) r c k = rw (complete-item d n r (over-free r c) (omega arith), is-true (over r) c)
+  complete-seq (then p q d b) zero r c k = absurd (omega arith)
+  complete-seq (then {w} {u} {v} p q d b) (suc n) r c k =
+      let e = parted w u v r p in
+      let size = ap length e in
+      let o = opens-append v r (seq-opens b) in
+      rw (
+        e,
+        complete-item d n (v ++ r) (opens-free (v ++ r) o) (omega arith),
+        opens-over (v ++ r) o,
+        complete-seq b n r c (omega (arith, length-append u (v ++ r), opens-long u (item-opens d))),
+        q,
+      )
+
+  pub complete-item : {w : List ℕ} {s : Seq} → IsItem w s → (n : ℕ) (r : List ℕ) → T (free r) → 3 * length (w ++ r) + 1 ≤ n → readItem n (w ++ r) ≡ got s r
+  complete-item (lone p q d b) zero r c k = absurd (omega arith)
+  complete-item (lone {w} {u} {v} p q d b) (suc n) r c k =
+      rw (parted w u v r p, begins-past (u ++ (v ++ r)) (begins-append u (v ++ r) (letter-begins d)), complete-letter d (v ++ r), complete-sign b r c, q)
+  complete-item (group p q d) zero r c k = absurd (omega arith)
+  complete-item (group {w} {u} p q d) (suc n) r c k =
+      let e = parted w (byte "(" ∷ u) (bytes ")") r p in
+      rw (e, complete-alts d n (byte ")" ∷ r) tt (omega (arith, ap length e)), q)
+
+pub complete-rule : {w : List ℕ} {s : Seq} → IsRule w s → readRule w ≡ some s
+complete-rule (rule {w} p d) =
+    let e = complete-alts d (3 * length w + 3) [] tt (omega (arith, length-append w [])) in
+    rw p (ap whole (rw append-nil at e))
 
 -- THE READER DECIDES THE GRAMMAR
 pub reads : (w : List ℕ) (s : Seq) → IsRule w s ↔ (readRule w ≡ some s)
-reads w s = (λ d. complete-rule d, sound-rule w s)
+reads w s = (complete-rule, sound-rule w s)
 
--- one tree at most
+-- A RULE HAS ONE TREE
 pub one-tree : (w : List ℕ) (s t : Seq) → IsRule w s → IsRule w t → s ≡ t
 one-tree w s t d e = let p = complete-rule d in let q = complete-rule e in cc

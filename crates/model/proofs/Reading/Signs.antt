@@ -1,190 +1,175 @@
--- Repeat signs: the reader and the grammar agree.
-use mathlib.Core.Path.{_≡_, refl, sym, ap, _∙_, subst}
-use mathlib.Core.Logic.{_⊎_, inl, inr}
-use mathlib.Core.Bool.{Bool, true, false, not, _||_, cond}
-use mathlib.Core.List.{List, [], _∷_, _++_}
+-- Repeat signs: the reader and the grammar agree. A number goes on as long as digits come, `,` and `}` are no digits, and a letter's sign is
+-- absent exactly if none of `? * + {` comes next.
+use mathlib.Core.Path.{_≡_, refl, subst}
+use mathlib.Core.Bool.{Bool, true, false, not}
+use mathlib.Core.List.{List, [], _∷_, _++_, append-assoc}
 use Prim.Native.Nat.{ℕ, zero, suc, _+_, _-_, _*_, _≤_, max}
 use native.Mathlib.Omega.{arith}
-use lib.Dec.{T, eqb, leb, eqb→eq, leb→le}
-use Rattle.model.specs.Bytes.{IsDigit, digit, digital}
-use Rattle.model.specs.Tree.{once, option, plus, star}
+use lib.Dec.{T, T-not, eqb, leb, eqb→eq, leb→le}
+use Rattle.model.specs.Lists.{within}
+use Rattle.model.specs.Bytes.{byte, bytes, IsDigit, digit, digital}
+use Rattle.model.specs.Tree.{once}
 use Rattle.model.specs.Grammar.{IsBounds, IsNumber, IsSign, Sign, absent, asterisk, both, braces, cross, one, plainly, question, same, three, two, upto}
-use Rattle.model.proofs.Laws.Bool.{is-false, is-true, le-true}
-use Rattle.model.proofs.Reading.Answers.{Begins, Holds, bind-holds, case-holds, cond-holds, free, joined, parted, past-holds, past-other}
-use Rattle.model.proofs.Reading.Letters.{Least, digit-of, digit-value, digital-of}
-use Rattle.model.proofs.Reading.Reader.{bad, close, got, past, reach, readBounds, readBraces, readDigits, readNumber, readSign, stop}
+use Rattle.model.specs.Models.Reader.{bad, got, past, reach, readBounds, readBraces, readDigits, readNumber, readSign, stop}
+use Rattle.model.proofs.Laws.Bool.{is-false, is-true, le-true, unequal}
+use Rattle.model.proofs.Reading.Answers.{Sound, took, stopped, bind-past-sound, bind-sound, case-past-sound, cond-sound, equal-sound, free, parted, past-other}
+use Rattle.model.proofs.Reading.Escapes.{Least, digit-of, digit-value, digital-of}
 
 -- ---- numbers
-pub more-than : (x : ℕ) → T (digital x) → T (not (eqb x 48)) → 1 ≤ x - 48
-more-than x h k = go (digit-of x h) (x - 48) refl
+-- the digits u mean v, and no digit follows them
+sound-stop : (m v : ℕ) (l u r : List ℕ) → l ≡ u ++ r → IsNumber u v → Sound (Least m IsNumber) l (stop m v r)
+sound-stop m v l u r e d = cond-sound (leb m v) (λ h. took u e (d, leb→le m v h)) (λ h. stopped)
+
+-- after a first digit x that is not `0`: at most a third digit, at most a second and a third
+module _ (m x : ℕ) (h : T (digital x)) (k : 1 ≤ x - byte "0") where
+  sound-third : (y : ℕ) → T (digital y) → (l : List ℕ) → Sound (Least m IsNumber) (x ∷ y ∷ l) (readDigits 1 m (10 * (x - byte "0") + (y - byte "0")) l)
+  sound-third y g [] = sound-stop m _ _ (x ∷ y ∷ []) [] refl (two refl refl k (digit-of x h) (digit-of y g))
+  sound-third y g (z ∷ zs) =
+      cond-sound (digital z)
+      (λ f. cond-sound (leb m (10 * (10 * (x - byte "0") + (y - byte "0")) + (z - byte "0")))
+      (λ j. sound-stop m _ _ (x ∷ y ∷ z ∷ []) zs refl (three refl (omega arith) k (digit-of x h) (digit-of y g) (digit-of z f))) (λ j. stopped))
+      (λ f. sound-stop m _ _ (x ∷ y ∷ []) (z ∷ zs) refl (two refl refl k (digit-of x h) (digit-of y g)))
+
+  sound-second : (l : List ℕ) → Sound (Least m IsNumber) (x ∷ l) (readDigits 2 m (x - byte "0") l)
+  sound-second [] = sound-stop m _ _ (x ∷ []) [] refl (one refl (digit-of x h))
+  sound-second (y ∷ ys) =
+      cond-sound (digital y)
+      (λ g. cond-sound (leb m (reach 1 (10 * (x - byte "0") + (y - byte "0")))) (λ i. sound-third y g ys) (λ i. stopped))
+      (λ g. sound-stop m _ _ (x ∷ []) (y ∷ ys) refl (one refl (digit-of x h)))
+
+-- a digit that is not `0` means at least 1
+not-nought : (x : ℕ) → T (digital x) → T (not (eqb x (byte "0"))) → 1 ≤ x - byte "0"
+not-nought x h k = go (digit-of x h) (x - byte "0") refl
   where
-    go : IsDigit x (x - 48) → (d : ℕ) → x - 48 ≡ d → 1 ≤ x - 48
-    go (digit p q) zero e = absurd (subst (λ (y : ℕ). T (not (eqb y 48))) (let z : x ≡ 48 = omega arith in z) k)
+    go : IsDigit x (x - byte "0") → (d : ℕ) → x - byte "0" ≡ d → 1 ≤ x - byte "0"
+    go (digit p q) zero e = let z : x ≡ byte "0" = omega arith in absurd (rw z at k)
     go (digit p q) (suc d) e = omega arith
 
-sound-stop : (m v : ℕ) (l u r : List ℕ) → l ≡ u ++ r → IsNumber u v → Holds (Begins (Least m IsNumber) l) (stop m v r)
-sound-stop m v l u r e d = cond-holds (Begins (Least m IsNumber) l) (leb m v) _ _ (λ h. (u, e, (d, leb→le m v h))) (λ h. tt)
-
-sound-digits : (m x : ℕ) (xs : List ℕ) → T (digital x) → 1 ≤ x - 48 → Holds (Begins (Least m IsNumber) (x ∷ xs)) (readDigits 2 m (x - 48) xs)
-sound-digits m x [] h k = sound-stop m (x - 48) (x ∷ []) (x ∷ []) [] refl (one refl (digit-of x h))
-sound-digits m x (y ∷ []) h k =
-    cond-holds Q (digital y) _ _
-    (λ g. cond-holds Q (leb m (reach 1 (10 * (x - 48) + (y - 48)))) _ _
-    (λ i. sound-stop m (10 * (x - 48) + (y - 48)) (x ∷ y ∷ []) (x ∷ y ∷ []) [] refl (two refl refl k (digit-of x h) (digit-of y g))) (λ i. tt))
-    (λ g. sound-stop m (x - 48) (x ∷ y ∷ []) (x ∷ []) (y ∷ []) refl (one refl (digit-of x h)))
-  where
-    Q : ℕ → List ℕ → Type 0
-    Q = Begins (Least m IsNumber) (x ∷ y ∷ [])
-sound-digits m x (y ∷ z ∷ zs) h k =
-    cond-holds Q (digital y) _ _
-    (λ g. cond-holds Q (leb m (reach 1 (10 * (x - 48) + (y - 48)))) _ _
-    (λ i. cond-holds Q (digital z) _ _
-    (λ f. cond-holds Q (leb m (reach 0 (10 * (10 * (x - 48) + (y - 48)) + (z - 48)))) _ _
-    (λ j. sound-stop m (10 * (10 * (x - 48) + (y - 48)) + (z - 48)) (x ∷ y ∷ z ∷ zs) (x ∷ y ∷ z ∷ []) zs refl (three refl (omega arith) k (digit-of x h) (digit-of y g) (digit-of z f))) (λ j. tt))
-    (λ f. sound-stop m (10 * (x - 48) + (y - 48)) (x ∷ y ∷ z ∷ zs) (x ∷ y ∷ []) (z ∷ zs) refl (two refl refl k (digit-of x h) (digit-of y g))))
-    (λ i. tt))
-    (λ g. sound-stop m (x - 48) (x ∷ y ∷ z ∷ zs) (x ∷ []) (y ∷ z ∷ zs) refl (one refl (digit-of x h)))
-  where
-    Q : ℕ → List ℕ → Type 0
-    Q = Begins (Least m IsNumber) (x ∷ y ∷ z ∷ zs)
-
-pub sound-number : (m : ℕ) (l : List ℕ) → Holds (Begins (Least m IsNumber) l) (readNumber m l)
-sound-number m [] = tt
+sound-number : (m : ℕ) (l : List ℕ) → Sound (Least m IsNumber) l (readNumber m l)
+sound-number m [] = stopped
 sound-number m (x ∷ xs) =
-    cond-holds Q (digital x) _ _
-    (λ h. cond-holds Q (eqb x 48) _ _
-    (λ g. cond-holds Q (leb m 0) _ _ (λ i. (x ∷ [], refl, (one refl (digit (eqb→eq x 48 g) (omega arith)), leb→le m 0 i))) (λ i. tt))
-    (λ g. cond-holds Q (leb m (reach 2 (x - 48))) _ _ (λ i. sound-digits m x xs h (more-than x h g)) (λ i. tt)))
-    (λ h. tt)
-  where
-    Q : ℕ → List ℕ → Type 0
-    Q = Begins (Least m IsNumber) (x ∷ xs)
+    cond-sound (digital x)
+    (λ h. cond-sound (eqb x (byte "0"))
+    (λ g. cond-sound (leb m 0) (λ i. took (x ∷ []) refl (one refl (digit (omega (arith, eqb→eq)) (omega arith)), leb→le m 0 i)) (λ i. stopped))
+    (λ g. cond-sound (leb m (reach 2 (x - byte "0"))) (λ i. sound-second m x h (not-nought x h g) xs) (λ i. stopped)))
+    (λ h. stopped)
 
 -- no digit comes next
 abbrev halts : List ℕ → Bool
 halts [] = true
 halts (x ∷ xs) = not (digital x)
 
+-- a number ends where no digit comes next
 digits-halt : (k m v : ℕ) (r : List ℕ) → m ≤ v → T (halts r) → readDigits k m v r ≡ got v r
 digits-halt zero m v r g h = rw (le-true m v g)
 digits-halt (suc k) m v [] g h = rw (le-true m v g)
 digits-halt (suc k) m v (x ∷ xs) g h = rw (is-false (digital x) h, le-true m v g)
 
-not-zero : (x d : ℕ) → IsDigit x d → 1 ≤ d → eqb x 48 ≡ false
-not-zero x d (digit p q) h = go (eqb x 48) refl
-  where
-    go : (b : Bool) → eqb x 48 ≡ b → b ≡ false
-    go true e = absurd (omega (arith, eqb→eq x 48 (subst T (sym e) tt)))
-    go false e = refl
+-- a digit that means at least 1 is not `0`
+leading : {x d : ℕ} → IsDigit x d → 1 ≤ d → eqb x (byte "0") ≡ false
+leading (digit {x} p q) h = unequal x (byte "0") (omega arith)
 
-complete-number : {w : List ℕ} {n : ℕ} (m : ℕ) → m ≤ n → IsNumber w n → (l r : List ℕ) → l ≡ w ++ r → T (halts r) → readNumber m l ≡ got n r
-complete-number m g (one {n = zero} {x} p (digit q h)) l r e f = ap (readNumber m) (e ∙ ap (λ (z : List ℕ). z ++ r) (p ∙ ap (λ (z : ℕ). z ∷ []) q)) ∙ rw (le-true m 0 g)
-complete-number m g (one {n = suc n} {x} p d) l r e f =
-    ap (readNumber m) (e ∙ ap (λ (z : List ℕ). z ++ r) p)
-    ∙ rw (is-true (digital x) (digital-of d), not-zero x (suc n) d (omega arith), digit-value d, le-true m (10 * (10 * suc n + 9) + 9) (omega arith)) (digits-halt 2 m (suc n) r g f)
-complete-number m g (two {n} {x} {y} {d} {e = d′} p q k a b) l r e f =
-    ap (readNumber m) (e ∙ ap (λ (z : List ℕ). z ++ r) p)
-    ∙ rw (is-true (digital x) (digital-of a), not-zero x d a k, is-true (digital y) (digital-of b), digit-value a, digit-value b, le-true m (10 * (10 * d + 9) + 9) (omega (arith, small b)), le-true m (10 * (10 * d + d′) + 9) (omega arith))
-    (digits-halt 1 m (10 * d + d′) r (omega arith) f ∙ ap (λ (v : ℕ). got v r) (sym q))
-  where
-    small : {x d : ℕ} → IsDigit x d → d ≤ 9
-    small (digit p h) = h
-complete-number m g (three {n} {x} {y} {z} {d} {e = d′} {f = d″} p q k a b c) l r e f =
-    ap (readNumber m) (e ∙ ap (λ (z : List ℕ). z ++ r) p)
-    ∙ rw (
+digit-small : {x d : ℕ} → IsDigit x d → d ≤ 9
+digit-small (digit p h) = h
+
+complete-number : {w : List ℕ} {n : ℕ} (m : ℕ) → m ≤ n → IsNumber w n → (r : List ℕ) → T (halts r) → readNumber m (w ++ r) ≡ got n r
+complete-number m g (one {n = zero} {x} p (digit q h)) r f = rw (p, q, le-true m 0 g)
+complete-number m g (one {n = suc n} {x} p d) r f =
+    rw (p, is-true (digital x) (digital-of d), leading d (omega arith), digit-value d, le-true m (10 * (10 * suc n + 9) + 9) (omega arith))
+    (digits-halt 2 m (suc n) r g f)
+complete-number m g (two {n} {x} {y} {d} {e} p q k a b) r f =
+    rw (
+      p,
       is-true (digital x) (digital-of a),
-      not-zero x d a k,
+      leading a k,
+      is-true (digital y) (digital-of b),
+      digit-value a,
+      digit-value b,
+      le-true m (10 * (10 * d + 9) + 9) (omega (arith, digit-small b)),
+      le-true m (10 * (10 * d + e) + 9) (omega arith),
+      q,
+    )
+    (digits-halt 1 m (10 * d + e) r (omega arith) f)
+complete-number m g (three {n} {x} {y} {z} {d} {e} {f = i} p q k a b c) r f =
+    let v : 10 * (10 * d + e) + i ≡ n = omega arith in
+    rw (
+      p,
+      is-true (digital x) (digital-of a),
+      leading a k,
       is-true (digital y) (digital-of b),
       is-true (digital z) (digital-of c),
       digit-value a,
       digit-value b,
       digit-value c,
-      le-true m (10 * (10 * d + 9) + 9) (omega (arith, small b, small c)),
-      le-true m (10 * (10 * d + d′) + 9) (omega (arith, small c)),
-      le-true m (10 * (10 * d + d′) + d″) (omega arith),
+      le-true m (10 * (10 * d + 9) + 9) (omega (arith, digit-small b, digit-small c)),
+      le-true m (10 * (10 * d + e) + 9) (omega (arith, digit-small c)),
+      le-true m (10 * (10 * d + e) + i) (omega arith),
+      v,
     )
-    (ap (λ (v : ℕ). got v r) (let t : 10 * (10 * d + d′) + d″ ≡ n = omega arith in t))
-  where
-    small : {x d : ℕ} → IsDigit x d → d ≤ 9
-    small (digit p h) = h
 
-number-head : {w : List ℕ} {n : ℕ} → IsNumber w n → (r : List ℕ) → past 44 (w ++ r) ≡ bad (w ++ r)
-number-head (one {x} p d) r = subst (λ (z : List ℕ). past 44 (z ++ r) ≡ bad (z ++ r)) (sym p) (past-other digital 44 x r (digital-of d) tt)
-number-head (two {x} {y} p q k a b) r = subst (λ (z : List ℕ). past 44 (z ++ r) ≡ bad (z ++ r)) (sym p) (past-other digital 44 x (y ∷ r) (digital-of a) tt)
-number-head (three {x} {y} {z} p q k a b c) r = subst (λ (z : List ℕ). past 44 (z ++ r) ≡ bad (z ++ r)) (sym p) (past-other digital 44 x (y ∷ z ∷ r) (digital-of a) tt)
+-- no number begins with `,`
+number-past : {w : List ℕ} {n : ℕ} → IsNumber w n → (r : List ℕ) → past (byte ",") (w ++ r) ≡ bad (w ++ r)
+number-past (one {x} p d) r = rw p (past-other digital (byte ",") x r (digital-of d) tt)
+number-past (two {x} {y} p q k a b) r = rw p (past-other digital (byte ",") x (y ∷ r) (digital-of a) tt)
+number-past (three {x} {y} {z} p q k a b c) r = rw p (past-other digital (byte ",") x (y ∷ z ∷ r) (digital-of a) tt)
 
 -- ---- bounds
--- in order; y may be 0 only as `0` alone
-pub record Bounds (w : List ℕ) (b : ℕ × ℕ) : Type 0 where
-  pub is : IsBounds w (b .0) (b .1)
-  pub ordered : b .0 ≤ b .1
-  pub some-or-zero : (1 ≤ b .1) ⊎ IsNumber w 0
+-- in order
+record Bounds (w : List ℕ) (b : ℕ × ℕ) : Type 0 where
+  is : IsBounds w (b .0) (b .1)
+  ordered : b .0 ≤ b .1
 
-number-bounds : (w : List ℕ) (x : ℕ) → IsNumber w x → Bounds w (x, x)
-number-bounds w zero d = record { is = same refl d; ordered = omega arith; some-or-zero = inr d }
-number-bounds w (suc x) d = record { is = same refl d; ordered = omega arith; some-or-zero = inl (omega arith) }
-
-pub sound-bounds : (l : List ℕ) → Holds (Begins Bounds l) (readBounds l)
+sound-bounds : (l : List ℕ) → Sound Bounds l (readBounds l)
 sound-bounds l =
-    case-holds (λ z r. l ≡ 44 ∷ r) (Begins Bounds l) (past 44 l) _ _ (past-holds 44 l)
-    (λ z r e. bind-holds (Begins (Least 1 IsNumber) r) (Begins Bounds l) (readNumber 1 r) _ (sound-number 1 r) (λ y r′ k.
-    (44 ∷ k .0, e ∙ ap (λ (t : List ℕ). 44 ∷ t) (k .1), record { is = upto refl refl (k .2 .0); ordered = omega arith; some-or-zero = inl (k .2 .1) })))
-    (bind-holds (Begins (Least 0 IsNumber) l) (Begins Bounds l) (readNumber 0 l) _ (sound-number 0 l) (λ x r h.
-    case-holds (λ z r′. r ≡ 44 ∷ r′) (Begins Bounds l) (past 44 r) _ _ (past-holds 44 r)
-    (λ z r′ e. bind-holds (Begins (Least (max x 1) IsNumber) r′) (Begins Bounds l) (readNumber (max x 1) r′) _ (sound-number (max x 1) r′) (λ y r″ k.
-    let i = k .2 .1 in
-    (h .0 ++ (44 ∷ k .0), joined l (h .0) r (44 ∷ k .0) r″ (h .1) (e ∙ ap (λ (t : List ℕ). 44 ∷ t) (k .1)), record { is = both refl (h .2 .0) (k .2 .0); ordered = omega arith; some-or-zero = inl (omega arith) })))
-    (h .0, h .1, number-bounds (h .0) x (h .2 .0))))
+    case-past-sound (byte ",") l
+    (λ z r p. bind-sound (sound-number 1 r) (λ v y r′ f b. took (byte "," ∷ v) (cc) (record { is = upto refl refl (b .0); ordered = omega arith })))
+    (bind-sound (sound-number 0 l) (λ u x r e a.
+    case-past-sound (byte ",") r
+    (λ z r′ p. bind-sound (sound-number (max x 1) r′) (λ v y r″ f b.
+    took (u ++ (byte "," ∷ v)) (cc (append-assoc u (byte "," ∷ v) r″)) (record { is = both refl (a .0) (b .0); ordered = omega (arith, b .1) })))
+    (took u e (record { is = same refl (a .0); ordered = omega arith }))))
 
-complete-bounds : {w : List ℕ} {x y : ℕ} → x ≤ y → 1 ≤ y → IsBounds w x y → (l r : List ℕ) → l ≡ w ++ (125 ∷ r) → readBounds l ≡ got (x, y) (125 ∷ r)
-complete-bounds i j (both {w} {u} {v} {x} {y} p a b) l r e =
-    let f = parted l w u (44 ∷ v) (125 ∷ r) e p in
-    rw (ap (past 44) f ∙ number-head a (44 ∷ (v ++ (125 ∷ r))), complete-number 0 (omega arith) a l (44 ∷ (v ++ (125 ∷ r))) f tt, complete-number (max x 1) (omega arith) b (v ++ (125 ∷ r)) (125 ∷ r) refl tt)
-complete-bounds i j (same {w} p a) l r e = rw (ap (past 44) e ∙ number-head a (125 ∷ r), complete-number 0 (omega arith) a l (125 ∷ r) e tt, p)
-complete-bounds i j (upto {w} {v} p q b) l r e = ap readBounds (e ∙ ap (λ (t : List ℕ). t ++ (125 ∷ r)) p) ∙ rw (complete-number 1 j b (v ++ (125 ∷ r)) (125 ∷ r) refl tt, q)
+complete-bounds : {w : List ℕ} {x y : ℕ} → x ≤ y → 1 ≤ y → IsBounds w x y → (r : List ℕ) → readBounds (w ++ (byte "}" ∷ r)) ≡ got (x, y) (byte "}" ∷ r)
+complete-bounds i j (both {w} {u} {v} {x} p a b) r =
+    let s = byte "," ∷ (v ++ (byte "}" ∷ r)) in
+    rw (
+      parted w u (byte "," ∷ v) (byte "}" ∷ r) p,
+      number-past a s,
+      complete-number 0 (omega arith) a s tt,
+      complete-number (max x 1) (omega arith) b (byte "}" ∷ r) tt,
+    )
+complete-bounds i j (same p a) r = rw (number-past a (byte "}" ∷ r), complete-number 0 (omega arith) a (byte "}" ∷ r) tt, p)
+complete-bounds i j (upto p q b) r = rw (p, complete-number 1 j b (byte "}" ∷ r) tt, q)
 
 -- ---- signs
-pub sound-close : (b : ℕ × ℕ) (l u r : List ℕ) → l ≡ u ++ r → Bounds u b → Holds (Begins IsSign (123 ∷ l)) (close b r)
-sound-close b l u r e d =
-    cond-holds Q (leb 1 (b .1)) _ _
-    (λ g. bind-holds (λ z r′. r ≡ 125 ∷ r′) Q (past 125 r) _ (past-holds 125 r) (λ z r′ f.
-    (123 ∷ (u ++ (125 ∷ [])), ap (λ (t : List ℕ). 123 ∷ t) (joined l u r (125 ∷ []) r′ e f), braces refl refl (d .ordered) (leb→le 1 (b .1) g) (d .is))))
-    (λ g. tt)
-  where
-    Q : Sign → List ℕ → Type 0
-    Q = Begins IsSign (123 ∷ l)
+sound-braces : (l : List ℕ) → Sound IsSign (byte "{" ∷ l) (readBraces l)
+sound-braces l =
+    bind-sound (sound-bounds l) (λ u b r e d.
+    cond-sound (leb 1 (b .1))
+    (λ g. bind-past-sound (byte "}") r (λ z r′ p.
+    took (byte "{" ∷ (u ++ bytes "}")) (cc (append-assoc u (bytes "}") r′)) (braces refl refl (d .ordered) (leb→le 1 (b .1) g) (d .is))))
+    (λ g. stopped))
 
-sound-braces : (l : List ℕ) → Holds (Begins IsSign (123 ∷ l)) (readBraces l)
-sound-braces l = bind-holds (Begins Bounds l) (Begins IsSign (123 ∷ l)) (readBounds l) close (sound-bounds l) (λ b r h. sound-close b l (h .0) r (h .1) (h .2))
-
-pub sound-sign : (l : List ℕ) → Holds (Begins IsSign l) (readSign l)
-sound-sign [] = ([], refl, absent refl refl)
+pub sound-sign : (l : List ℕ) → Sound IsSign l (readSign l)
+sound-sign [] = took [] refl (absent refl refl)
 sound-sign (x ∷ xs) =
-    cond-holds Q (eqb x 63) _ _ (λ h. (x ∷ [], refl, question (ap (λ (y : ℕ). y ∷ []) (eqb→eq x 63 h)) refl)) (λ g.
-    cond-holds Q (eqb x 42) _ _ (λ h. (x ∷ [], refl, asterisk (ap (λ (y : ℕ). y ∷ []) (eqb→eq x 42 h)) refl)) (λ g.
-    cond-holds Q (eqb x 43) _ _ (λ h. (x ∷ [], refl, cross (ap (λ (y : ℕ). y ∷ []) (eqb→eq x 43 h)) refl)) (λ g.
-    cond-holds Q (eqb x 123) (readBraces xs) _
-    (λ h. subst (λ (y : ℕ). Holds (Begins IsSign (y ∷ xs)) (readBraces xs)) (sym (eqb→eq x 123 h)) (sound-braces xs))
-    (λ h. ([], refl, absent refl refl)))))
-  where
-    Q : Sign → List ℕ → Type 0
-    Q = Begins IsSign (x ∷ xs)
+    equal-sound x (byte "?") (λ e. took (bytes "?") (cc) (question refl refl))
+    (equal-sound x (byte "*") (λ e. took (bytes "*") (cc) (asterisk refl refl))
+    (equal-sound x (byte "+") (λ e. took (bytes "+") (cc) (cross refl refl))
+    (equal-sound x (byte "{") (λ e. rw e (sound-braces xs))
+    (took [] refl (absent refl refl)))))
 
+-- none of the four signs comes next
 no-sign : (r : List ℕ) → T (free r) → readSign r ≡ got (plainly once) r
 no-sign [] h = refl
-no-sign (x ∷ xs) h = go (eqb x 63) (eqb x 42) (eqb x 43) (eqb x 123) h
+no-sign (x ∷ xs) h = rw (other (byte "?") tt, other (byte "*") tt, other (byte "+") tt, other (byte "{") tt)
   where
-    go : (a b c d : Bool) → T (not (a || (b || (c || (d || false))))) → cond a (got (plainly option) xs) (cond b (got (plainly star) xs) (cond c (got (plainly plus) xs) (cond d (readBraces xs) (got (plainly once) (x ∷ xs))))) ≡ got (plainly once) (x ∷ xs)
-    go true b c d k = absurd k
-    go false true c d k = absurd k
-    go false false true d k = absurd k
-    go false false false true k = absurd k
-    go false false false false k = refl
+    other : (y : ℕ) → T (within y (bytes "?*+{")) → eqb x y ≡ false
+    other y k = unequal x y (λ e. T-not (within y (bytes "?*+{")) (subst (λ (z : ℕ). T (not (within z (bytes "?*+{")))) e h) k)
 
-pub complete-sign : {w : List ℕ} {q : Sign} → IsSign w q → (l r : List ℕ) → l ≡ w ++ r → T (free r) → readSign l ≡ got q r
-complete-sign (absent p q) l r e f = ap readSign (e ∙ ap (λ (t : List ℕ). t ++ r) p) ∙ rw q (no-sign r f)
-complete-sign (question p q) l r e f = ap readSign (e ∙ ap (λ (t : List ℕ). t ++ r) p) ∙ rw q
-complete-sign (asterisk p q) l r e f = ap readSign (e ∙ ap (λ (t : List ℕ). t ++ r) p) ∙ rw q
-complete-sign (cross p q) l r e f = ap readSign (e ∙ ap (λ (t : List ℕ). t ++ r) p) ∙ rw q
-complete-sign (braces {w} {u} {q} {x} {y} p q′ h k b) l r e f =
-    ap readSign (parted l w (123 ∷ u) (125 ∷ []) r e p) ∙ rw (complete-bounds h k b (u ++ (125 ∷ r)) r refl, le-true 1 y k, q′)
+pub complete-sign : {w : List ℕ} {q : Sign} → IsSign w q → (r : List ℕ) → T (free r) → readSign (w ++ r) ≡ got q r
+complete-sign (absent p q) r f = rw (p, q) (no-sign r f)
+complete-sign (question p q) r f = rw (p, q)
+complete-sign (asterisk p q) r f = rw (p, q)
+complete-sign (cross p q) r f = rw (p, q)
+complete-sign (braces {w} {u} {y} p q h k b) r f = rw (parted w (byte "{" ∷ u) (bytes "}") r p, complete-bounds h k b r, le-true 1 y k, q)

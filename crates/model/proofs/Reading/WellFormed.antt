@@ -1,160 +1,156 @@
--- The trees that rules have.
-use mathlib.Core.Path.{_≡_, sym, subst}
+-- EVERY RULE'S TREE IS WELL FORMED: each class holds some byte and only bytes, no sequence is empty and each union has at least two alternatives;
+-- for the grammar has no empty class, no empty sequence, and brackets around one alternative vanish.
+use mathlib.Core.Path.{_≡_}
 use mathlib.Core.Bool.{not, _&&_}
 use mathlib.Core.List.{List, _∷_}
 use Prim.Native.Nat.{ℕ, zero, suc, _+_, _-_, _^_, _≤_, _<_}
 use native.Mathlib.Nat.{le-refl}
 use native.Mathlib.Omega.{arith}
-use lib.Dec.{T, eqb, leb, ltb, leb→le, le→leb, lit<, lit≤}
+use lib.Dec.{T, eqb, leb, ltb, leb→le, le→leb, ltb→lt, lit<, lit≤}
 use lib.Bits.{bitOr, or-lt, or-add-and, and-le-r}
 use lib.Pow.{pow-pos, pow-lt}
 use Rattle.model.specs.Lists.{within}
 use Rattle.model.specs.Bits.{bit}
-use Rattle.model.specs.Bytes.{IsEscape, IsHex, decimal, digit, lower, number, plain, sign, signs, upper}
+use Rattle.model.specs.Bytes.{byte, IsEscape, number, plain, sign, signs}
 use Rattle.model.specs.Tree.{Alts, Repeat, Seq, end, glue, last, letter, more, once, option, plus, star, union}
 use Rattle.model.specs.Grammar.{IsAlts, IsItem, IsLetter, IsMember, IsMembers, IsRule, IsSeq, IsSign, IsSingle, Sign, absent, also, asterisk, beside, braces, bracket, class, copies, cross, dot, escape, escaped, group, item, itself, lone, member, only, plain-byte, question, range, repeated, rule, single, span, then, times}
+use Rattle.model.proofs.Laws.Bits.{bit-some}
 use Rattle.model.proofs.Laws.Bool.{and-both, and-split}
-use Rattle.model.proofs.Reading.Answers.{within-every}
+use Rattle.model.proofs.Reading.Answers.{among}
+use Rattle.model.proofs.Reading.Escapes.{hex-small}
 use Rattle.model.proofs.Words.Bits.{bit-mask, mask-lt}
 
--- a class holds some bytes, and nothing past 255
+-- a class holds some byte, and nothing past 255
 pub record Class (c : ℕ) : Type 0 where
   pub some-byte : 1 ≤ c
   pub bytes-only : c < 2 ^ 256
 
+-- the sequence has an item; the union has at least two alternatives
 abbrev pub Full : Seq → Type 0
 Full end = ⊥
-Full (letter c p s) = Unit {0}
+Full (letter c r s) = Unit {0}
 Full (union a s) = Unit {0}
 
 abbrev pub Several : Alts → Type 0
 Several (last s) = ⊥
 Several (more s a) = Unit {0}
 
--- no alternative is empty, a union has at least two
+-- and so for all that lies within
 abbrev mutual
   pub Good : Seq → Type 0
   Good end = Unit {0}
-  Good (letter c p s) = Class c × Good s
-  Good (union a s) = Several a × GoodA a × Good s
+  Good (letter c r s) = Class c × Good s
+  Good (union a s) = Several a × GoodAlts a × Good s
 
-  pub GoodA : Alts → Type 0
-  GoodA (last s) = Full s × Good s
-  GoodA (more s a) = Full s × Good s × GoodA a
+  pub GoodAlts : Alts → Type 0
+  GoodAlts (last s) = Full s × Good s
+  GoodAlts (more s a) = Full s × Good s × GoodAlts a
 
--- THE TREE OF SOME RULE
+-- A TREE THAT SOME RULE CAN HAVE
 pub record WellFormed (s : Seq) : Type 0 where
   pub full : Full s
   pub good : Good s
 
--- ---- classes
-bit-some : (i c : ℕ) → T (bit c i) → 1 ≤ c
-bit-some i zero h = absurd (no-bit i h)
-  where
-    no-bit : (i : ℕ) → T (bit 0 i) → ⊥
-    no-bit zero h = h
-    no-bit (suc i) h = no-bit i h
-bit-some i (suc c) h = omega arith
+well : (s : Seq) → Full s → Good s → WellFormed s
+well s f g = record { full = f; good = g }
 
-hex-small : {x d : ℕ} → IsHex x d → d ≤ 15
-hex-small (decimal (digit p h)) = omega arith
-hex-small (upper p h k) = k
-hex-small (lower p h k) = k
-
+-- ---- bytes are below 256
 plain-small : (b : ℕ) → T (plain b) → b < 256
-plain-small b h = let k = leb→le b 126 (and-split (leb b 126) (not (within b signs)) (and-split (leb 33 b) (leb b 126 && not (within b signs)) h .1) .0) in omega arith
+plain-small b h =
+    let k = and-split (leb 33 b) (leb b 126 && not (within b signs)) h in
+    let m = and-split (leb b 126) (not (within b signs)) (k .1) in
+    omega (arith, leb→le b 126 (m .0))
 
 escape-small : {w : List ℕ} {b : ℕ} → IsEscape w b → b < 256
-escape-small (sign {b} p h) = ltb-lt (within-every (λ y. T (ltb y 256)) b (45 ∷ signs) h (tt, (tt, (tt, (tt, (tt, (tt, (tt, (tt, (tt, (tt, (tt, (tt, (tt, tt))))))))))))))
-  where
-    ltb-lt : T (ltb b 256) → b < 256
-    ltb-lt t = leb→le (suc b) 256 t
-escape-small (number {h} {k} p q a b) = let m = hex-small a in let n = hex-small b in omega arith
+escape-small (sign {b} p h) = ltb→lt b 256 (among (λ y. ltb y 256) b (byte "-" ∷ signs) h tt)
+escape-small (number p q h k) = omega (arith, hex-small h, hex-small k)
 
-pub single-small : {w : List ℕ} {b : ℕ} → IsSingle w b → b < 256
-single-small (itself {b} p h) = plain-small b (and-split (plain b) (not (eqb b 45)) h .0)
+single-small : {w : List ℕ} {b : ℕ} → IsSingle w b → b < 256
+single-small (itself {b} p h) = plain-small b (and-split (plain b) (not (eqb b (byte "-"))) h .0)
 single-small (escaped d) = escape-small d
 
+-- ---- classes
 pub bit-span : (lo hi i : ℕ) → i < 256 → bit (span lo hi) i ≡ (leb lo i && leb i hi)
 bit-span lo hi i h = bit-mask 256 i (λ b. leb lo b && leb b hi) h
 
-pub span-class : (lo hi : ℕ) → lo ≤ hi → lo < 256 → Class (span lo hi)
+span-class : (lo hi : ℕ) → lo ≤ hi → lo < 256 → Class (span lo hi)
 span-class lo hi h k = record {
-  some-byte = bit-some lo (span lo hi) (subst T (sym (bit-span lo hi lo k)) (and-both (leb lo lo) (leb lo hi) (le→leb lo lo (le-refl lo)) (le→leb lo hi h)));
+  some-byte = bit-some lo (span lo hi) (rw (bit-span lo hi lo k) (and-both (leb lo lo) (leb lo hi) (le→leb lo lo (le-refl lo)) (le→leb lo hi h)));
   bytes-only = mask-lt 256 (λ b. leb lo b && leb b hi);
 }
 
-pub member-class : {w : List ℕ} {c : ℕ} → IsMember w c → Class c
-member-class (single {b} q d) = subst Class (sym q) (span-class b b (le-refl b) (single-small d))
-member-class (range {lo} {hi} p q h d b) = subst Class (sym q) (span-class lo hi h (single-small d))
-
-or-some : (c d : ℕ) → 1 ≤ c → 1 ≤ bitOr c d
-or-some c d h = omega (arith, or-add-and c d, and-le-r c d)
+member-class : {w : List ℕ} {c : ℕ} → IsMember w c → Class c
+member-class (single {b} q d) = rw q (span-class b b (le-refl b) (single-small d))
+member-class (range {lo} {hi} p q h d b) = rw q (span-class lo hi h (single-small d))
 
 or-class : (c d : ℕ) → Class c → Class d → Class (bitOr c d)
-or-class c d h k = record { some-byte = or-some c d (h .some-byte); bytes-only = or-lt 256 c d (h .bytes-only) (k .bytes-only) }
+or-class c d h k = record { some-byte = omega (arith, or-add-and c d, and-le-r c d); bytes-only = or-lt 256 c d (h .bytes-only) (k .bytes-only) }
 
 pub members-class : {w : List ℕ} {c : ℕ} → IsMembers w c → Class c
 members-class (member d) = member-class d
-members-class (beside {d} {e} p q a b) = subst Class (sym q) (or-class d e (member-class a) (members-class b))
+members-class (beside {d} {e} p q a b) = rw q (or-class d e (member-class a) (members-class b))
 
 one-class : (b : ℕ) → b < 256 → Class (2 ^ b)
 one-class b h = record { some-byte = pow-pos b; bytes-only = pow-lt h }
 
-pub letter-class : {w : List ℕ} {c : ℕ} → IsLetter w c → Class c
-letter-class (plain-byte {b} p q h) = subst Class (sym q) (one-class b (plain-small b h))
-letter-class (escape {b} q d) = subst Class (sym q) (one-class b (escape-small d))
-letter-class (dot p q) = subst Class (sym q) (record { some-byte = lit≤ tt; bytes-only = lit< tt })
+letter-class : {w : List ℕ} {c : ℕ} → IsLetter w c → Class c
+letter-class (plain-byte {b} p q h) = rw q (one-class b (plain-small b h))
+letter-class (escape {b} q d) = rw q (one-class b (escape-small d))
+letter-class (dot p q) = rw q (record { some-byte = lit≤ tt; bytes-only = lit< tt })
 letter-class (class p d) = members-class d
 
--- ---- trees
-glue-full : (h t : Seq) → Full h → Full (glue h t)
-glue-full end t f = absurd f
-glue-full (letter c p s) t f = tt
-glue-full (union a s) t f = tt
+-- ---- sequences
+glue-well : (h t : Seq) → WellFormed h → WellFormed t → WellFormed (glue h t)
+glue-well h t a b = well (glue h t) (full h (a .full)) (good h (a .good))
+  where
+    full : (h : Seq) → Full h → Full (glue h t)
+    full end f = absurd f
+    full (letter c r s) f = tt
+    full (union a s) f = tt
 
-glue-good : (h t : Seq) → Good h → Good t → Good (glue h t)
-glue-good end t g k = k
-glue-good (letter c p s) t g k = (g .0, glue-good s t (g .1) k)
-glue-good (union a s) t g k = (g .0, g .1, glue-good s t (g .2) k)
+    good : (h : Seq) → Good h → Good (glue h t)
+    good end g = b .good
+    good (letter c r s) g = (g .0, good s (g .1))
+    good (union a s) g = (g .0, g .1, good s (g .2))
 
-copies-good : (n c : ℕ) (p : Repeat) (s : Seq) → Class c → Good s → Good (copies n c p s)
-copies-good zero c p s h g = g
-copies-good (suc n) c p s h g = (h, copies-good n c p s h g)
+copies-good : (n c : ℕ) (r : Repeat) (s : Seq) → Class c → Good s → Good (copies n c r s)
+copies-good zero c r s h g = g
+copies-good (suc n) c r s h g = (h, copies-good n c r s h g)
 
-copies-full : (n m c : ℕ) (p q : Repeat) (s : Seq) → 1 ≤ n + m → Full (copies n c p (copies m c q s))
-copies-full zero zero c p q s h = absurd (omega arith)
-copies-full zero (suc m) c p q s h = tt
-copies-full (suc n) m c p q s h = tt
+copies-full : (n m c : ℕ) (r q : Repeat) (s : Seq) → 1 ≤ n + m → Full (copies n c r (copies m c q s))
+copies-full zero zero c r q s h = absurd (omega arith)
+copies-full zero (suc m) c r q s h = tt
+copies-full (suc n) m c r q s h = tt
 
-well : (s : Seq) → Full s → Good s → WellFormed s
-well s f g = record { full = f; good = g }
+letter-well : (c : ℕ) (r : Repeat) → Class c → WellFormed (letter c r end)
+letter-well c r h = well (letter c r end) tt (h, tt)
 
 repeated-well : {w : List ℕ} {q : Sign} (c : ℕ) → Class c → IsSign w q → WellFormed (repeated c q)
-repeated-well c h (absent p q) = rw q (well (letter c once end) tt (h, tt))
-repeated-well c h (question p q) = rw q (well (letter c option end) tt (h, tt))
-repeated-well c h (asterisk p q) = rw q (well (letter c star end) tt (h, tt))
-repeated-well c h (cross p q) = rw q (well (letter c plus end) tt (h, tt))
+repeated-well c h (absent p q) = rw q (letter-well c once h)
+repeated-well c h (question p q) = rw q (letter-well c option h)
+repeated-well c h (asterisk p q) = rw q (letter-well c star h)
+repeated-well c h (cross p q) = rw q (letter-well c plus h)
 repeated-well c h (braces {x} {y} p q k l b) =
-    rw q (well (repeated c (times x y)) (copies-full (y - x) x c option once end (omega arith)) (copies-good (y - x) c option (copies x c once end) h (copies-good x c once end h tt)))
+    rw q (well (repeated c (times x y)) (copies-full (y - x) x c option once end (omega arith))
+    (copies-good (y - x) c option (copies x c once end) h (copies-good x c once end h tt)))
 
-bracket-well : (a : Alts) → GoodA a → WellFormed (bracket a)
+bracket-well : (a : Alts) → GoodAlts a → WellFormed (bracket a)
 bracket-well (last s) g = well s (g .0) (g .1)
 bracket-well (more s a) g = well (union (more s a) end) tt (tt, g, tt)
 
 mutual
-  alts-good : {w : List ℕ} {a : Alts} → IsAlts w a → GoodA a
+  alts-good : {w : List ℕ} {a : Alts} → IsAlts w a → GoodAlts a
   alts-good (only d) = let k = seq-well d in (k .full, k .good)
   alts-good (also p d b) = let k = seq-well d in (k .full, k .good, alts-good b)
 
   seq-well : {w : List ℕ} {s : Seq} → IsSeq w s → WellFormed s
   seq-well (item d) = item-well d
-  seq-well (then {h} {t} p q d b) = let i = item-well d in let k = seq-well b in subst WellFormed (sym q) (well (glue h t) (glue-full h t (i .full)) (glue-good h t (i .good) (k .good)))
+  seq-well (then {h} {t} p q d b) = rw q (glue-well h t (item-well d) (seq-well b))
 
   item-well : {w : List ℕ} {s : Seq} → IsItem w s → WellFormed s
-  item-well (lone {c} p q d b) = subst WellFormed (sym q) (repeated-well c (letter-class d) b)
-  item-well (group {a} p q d) = subst WellFormed (sym q) (bracket-well a (alts-good d))
+  item-well (lone {c} p q d b) = rw q (repeated-well c (letter-class d) b)
+  item-well (group {a} p q d) = rw q (bracket-well a (alts-good d))
 
 -- EVERY RULE'S TREE IS WELL FORMED
 pub rule-well : {w : List ℕ} {s : Seq} → IsRule w s → WellFormed s
-rule-well (rule {a} q d) = subst WellFormed (sym q) (bracket-well a (alts-good d))
+rule-well (rule {a} q d) = rw q (bracket-well a (alts-good d))

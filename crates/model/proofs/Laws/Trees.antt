@@ -1,0 +1,8 @@
+-- Sequences joined: nothing after a sequence leaves it as it is.
+use mathlib.Core.Path.{_≡_, refl, ap}
+use Rattle.model.specs.Tree.{Seq, end, letter, union, glue}
+
+pub glue-end : (s : Seq) → glue s end ≡ s
+glue-end end = refl
+glue-end (letter c r s) = ap (letter c r) (glue-end s)
+glue-end (union a s) = ap (union a) (glue-end s)

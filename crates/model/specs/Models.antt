@@ -1,2 +1,3 @@
--- MODELS: what the code computes, as functions. Nothing here is believed: the theorems in proofs/ tie each model to the definitions.
+-- MODELS: what the code computes. Nothing here is believed; the theorems in proofs/ tie each to the definitions.
 pub mod Reader
+pub mod Words

@@ -10,3 +10,5 @@ pub mod Live
 pub mod Ends
 pub mod Image
 pub mod Answers
+-- what the code computes: not believed, but tied to the definitions above by theorems
+pub mod Models

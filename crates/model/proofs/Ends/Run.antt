@@ -19,7 +19,7 @@ use Rattle.model.proofs.Laws.Bool.{and-both, and-split, or-left, or-rig
 use Rattle.model.proofs.Laws.Lists.{In, all-app, all-in, any-in, any-out}
 use Rattle.model.proofs.Passes.Closure.{AnyEdge}
 use Rattle.model.proofs.Passes.OnTrees.{Gathers, Propagates, Scatters}
-use Rattle.model.proofs.Words.InOrder.{Full}
+use Rattle.model.proofs.Words.Full.{Full}
 use Rattle.model.proofs.Words.Passes.{bits-are, passed}
 
 abbrev pub takesByte : ℕ → ArcKind → Bool
@@ -34,7 +34,10 @@ loopsByte b (loopArc c) = bit c b
 loopsByte b propagateArc = false
 loopsByte b (forkArc xs) = false
 
--- the letters' and the repeats' masks, and the move
+-- the set of state 0, the letters' and the repeats' masks, and the move
+abbrev pub startSet : ℕ → Bool
+startSet x = eqb x 0
+
 abbrev pub letterSet : List Arc → ℕ → ℕ → Bool
 letterSet es b x = any (λ e. takesByte b (e .kind) && eqb x (e .to)) es
 
@@ -132,11 +135,8 @@ module _ (s : Seq) (F : Full s) where
       go (forkArc xs) p m n = absurd m
 
   -- the run: the set before any byte, and after one more
-  abbrev pub first : ℕ → Bool
-  first x = eqb x 0
-
   abbrev pub liveSet : List ℕ → ℕ → Bool
-  liveSet [] = passed s F (depth s) first
+  liveSet [] = passed s F (depth s) startSet
   liveSet (b ∷ w) = passed s F (depth s) (moved es b (liveSet w))
 
   still-eps : (e : Arc) (q r : ℕ) → In es e → Still (e .kind) (e .from) (e .to) q r → AnyEdge (Propagates s) (Gathers s) (Scatters s) q r
@@ -162,7 +162,7 @@ module _ (s : Seq) (F : Full s) where
   clo-live w D f (onward {q = q} {r = r} c e) = eps-still w q r e (clo-live w D f c)
 
   run-out : (w : List ℕ) (q : ℕ) → T (liveSet w q) → LeadsTo (In es) w q
-  run-out [] q h = clo-live [] (λ x. T (first x)) (λ x k. subst (LeadsTo (In es) []) (sym (eqb→eq x 0 k)) start) (bits-are s F first q .0 h)
+  run-out [] q h = clo-live [] (λ x. T (startSet x)) (λ x k. subst (LeadsTo (In es) []) (sym (eqb→eq x 0 k)) start) (bits-are s F startSet q .0 h)
   run-out (b ∷ w) q h = clo-live (b ∷ w) (λ x. T (moved es b (liveSet w) x)) (λ x k. go x (moved-out b (liveSet w) x k) (λ y d. run-out w y d)) (bits-are s F (moved es b (liveSet w)) q .0 h)
     where
       go : (x : ℕ) → Moved b (liveSet w) x → ((y : ℕ) → T (liveSet w y) → LeadsTo (In es) w y) → LeadsTo (In es) (b ∷ w) x
@@ -170,11 +170,11 @@ module _ (s : Seq) (F : Full s) where
       go x (inr m) ih = byte (m .0) (m .2) (m .3) (ih (m .1) (m .4))
 
   run-start : (w : List ℕ) → T (liveSet w 0)
-  run-start [] = bits-are s F first 0 .1 (itself tt)
+  run-start [] = bits-are s F startSet 0 .1 (itself tt)
   run-start (b ∷ w) = bits-are s F (moved es b (liveSet w)) 0 .1 (itself tt)
 
   run-step : (w : List ℕ) (q r : ℕ) → AnyEdge (Propagates s) (Gathers s) (Scatters s) q r → T (liveSet w q) → T (liveSet w r)
-  run-step [] q r e h = bits-are s F first r .1 (onward (bits-are s F first q .0 h) e)
+  run-step [] q r e h = bits-are s F startSet r .1 (onward (bits-are s F startSet q .0 h) e)
   run-step (b ∷ w) q r e h = bits-are s F (moved es b (liveSet w)) r .1 (onward (bits-are s F (moved es b (liveSet w)) q .0 h) e)
 
   run-in : {w : List ℕ} {q : ℕ} → LeadsTo (In es) w q → T (liveSet w q)

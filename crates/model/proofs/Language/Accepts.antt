@@ -7,11 +7,11 @@ use Prim.Native.Nat.{ℕ, suc, _≤_, _<_}
 use native.Mathlib.Nat.{le-refl, eq-or-lt-of-le}
 use native.Mathlib.Omega.{arith}
 use lib.Dec.{T}
-use Rattle.model.specs.Lists.{All}
+use Rattle.model.specs.Lists.{_∈_, All}
 use Rattle.model.specs.Bits.{bit}
 use Rattle.model.specs.Tree.{Alts, Repeat, Seq, canLoop, canSkip, end, last, letter, more, once, option, plus, star, union}
-use Rattle.model.specs.Edges.{altsEnd, seqEnd, ways}
-use Rattle.model.proofs.Language.Arcs.{Arc, Branch, Byte, Ends, Letter, Starts, Still, arc, arcs, branch-parts, branch-whole, forkArc, altsArcs, letter-parts, letter-whole, letterArc, loopArc, propagateArc}
+use Rattle.model.specs.Edges.{altsEnd, endsOf, seqEnd, startsOf, ways}
+use Rattle.model.proofs.Language.Arcs.{Arc, Branch, Byte, Letter, Still, arc, arcs, branch-parts, branch-whole, forkArc, altsArcs, letter-parts, letter-whole, letterArc, loopArc, propagateArc}
 use Rattle.model.proofs.Language.Languages.{Any, Language, Many, after, afterAlts, afterLetter, seqEnd-le, loop-in, skip-letter, altsEmpty-in, take-in}
 use Rattle.model.proofs.Language.Values.{Has, HasA, has-end, has-start, out, table, value, altsValue}
 use Rattle.model.proofs.Laws.Bool.{le-or-lt, pick-gt, pick-le}
@@ -68,13 +68,13 @@ module _ (W : ℕ → Language) where
   loop-carries : (c k i j : ℕ) → ((b : ℕ) (w : List ℕ) → T (bit c b) → W i w → W j (b ∷ w)) → Carries W (arc (loopArc c) k i j)
   loop-carries c k i j f = record { still = λ q r m. absurd m; byte = λ b q r m w h. subst (λ (x : ℕ). W x (b ∷ w)) (sym (m .2)) (f b w (m .0) (subst (λ (x : ℕ). W x w) (m .1) h)) }
 
-  starts-in : (a : Alts) (t p : ℕ) (P : Language) → IsA a t p P → (r : ℕ) → Starts (ways a p) r → (w : List ℕ) → P w → W r w
+  starts-in : (a : Alts) (t p : ℕ) (P : Language) → IsA a t p P → (r : ℕ) → r ∈ startsOf (ways a p) → (w : List ℕ) → P w → W r w
   starts-in (last s) t p P K r (inl e) w h = subst (λ (x : ℕ). W x w) (sym e) (to (start-of s (suc p) P K) h)
   starts-in (last s) t p P K r (inr x) w h = absurd x
   starts-in (more s a) t p P K r (inl e) w h = subst (λ (x : ℕ). W x w) (sym e) (to (start-of s (suc p) P (K .0)) h)
   starts-in (more s a) t p P K r (inr x) w h = starts-in a t (seqEnd s (suc p)) P (K .1) r x w h
 
-  ends-in : (a : Alts) (t p : ℕ) (P : Language) → IsA a t p P → (q : ℕ) → Ends (ways a p) q → (w : List ℕ) → W q w → afterAlts a P w
+  ends-in : (a : Alts) (t p : ℕ) (P : Language) → IsA a t p P → (q : ℕ) → q ∈ endsOf (ways a p) → (w : List ℕ) → W q w → afterAlts a P w
   ends-in (last s) t p P K q (inl e) w h = at (end-of s (suc p) P K) (subst (λ (x : ℕ). W x w) e h)
   ends-in (last s) t p P K q (inr x) w h = absurd x
   ends-in (more s a) t p P K q (inl e) w h = inl (at (end-of s (suc p) P (K .0)) (subst (λ (x : ℕ). W x w) e h))
@@ -154,10 +154,10 @@ module _ (E : Arc → Type 0) where
 
   -- the alternatives' starts and ends
   abbrev FromStarts : Alts → ℕ → Language → Type 0
-  FromStarts a p P = (r : ℕ) → Starts (ways a p) r → Reaches P r
+  FromStarts a p P = (r : ℕ) → r ∈ startsOf (ways a p) → Reaches P r
 
   abbrev FromEnds : Alts → ℕ → ℕ → Type 0
-  FromEnds a p e = (w : List ℕ) (q : ℕ) → Ends (ways a p) q → LeadsTo E w q → LeadsTo E w e
+  FromEnds a p e = (w : List ℕ) (q : ℕ) → q ∈ endsOf (ways a p) → LeadsTo E w q → LeadsTo E w e
 
   mutual
     pub left-live : (s : Seq) (t k : ℕ) (P : Language) → All E (arcs s t k) → Reaches P t → (q : ℕ) → t ≤ q → q ≤ seqEnd s t → (w : List ℕ) → Texts s t P q w → LeadsTo E w q

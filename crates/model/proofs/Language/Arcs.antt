@@ -5,10 +5,10 @@ use mathlib.Core.Bool.{Bool, true, false}
 use mathlib.Core.List.{List, [], _∷_, _++_}
 use Prim.Native.Nat.{ℕ, suc}
 use lib.Dec.{T}
-use Rattle.model.specs.Lists.{All}
+use Rattle.model.specs.Lists.{_∈_, All}
 use Rattle.model.specs.Bits.{bit}
 use Rattle.model.specs.Tree.{Alts, Repeat, Seq, canLoop, canSkip, end, last, letter, more, union}
-use Rattle.model.specs.Edges.{Way, altsEmpty, altsEnd, seqEnd, ways}
+use Rattle.model.specs.Edges.{Way, altsEmpty, altsEnd, endsOf, seqEnd, startsOf, ways}
 use Rattle.model.proofs.Laws.Lists.{all-app, all-left, all-right}
 
 -- a fork holds each alternative's start and end
@@ -41,19 +41,11 @@ abbrev mutual
   altsArcs (more s a) p k = arcs s (suc p) (suc k) ++ altsArcs a (seqEnd s (suc p)) k
 
 -- the moves along an arc: without a letter, and by a byte
-abbrev pub Starts : List Way → ℕ → Type 0
-Starts [] r = ⊥
-Starts (x ∷ xs) r = (r ≡ x .0) ⊎ Starts xs r
-
-abbrev pub Ends : List Way → ℕ → Type 0
-Ends [] q = ⊥
-Ends (x ∷ xs) q = (q ≡ x .1) ⊎ Ends xs q
-
 abbrev pub Still : ArcKind → ℕ → ℕ → ℕ → ℕ → Type 0
 Still (letterArc c) i j q r = ⊥
 Still (loopArc c) i j q r = ⊥
 Still propagateArc i j q r = (q ≡ i) × (r ≡ j)
-Still (forkArc xs) i j q r = ((q ≡ i) × Starts xs r) ⊎ (Ends xs q × (r ≡ j))
+Still (forkArc xs) i j q r = ((q ≡ i) × (r ∈ startsOf xs)) ⊎ ((q ∈ endsOf xs) × (r ≡ j))
 
 abbrev pub Byte : ℕ → ArcKind → ℕ → ℕ → ℕ → ℕ → Type 0
 Byte b (letterArc c) i j q r = T (bit c b) × (q ≡ i) × (r ≡ j)

@@ -6,11 +6,11 @@ use mathlib.Core.List.{List}
 use Prim.Native.Nat.{ℕ, suc, _+_, _≤_, _<_}
 use native.Mathlib.Omega.{arith}
 use lib.Dec.{T}
-use Rattle.model.specs.Lists.{All}
+use Rattle.model.specs.Lists.{_∈_, All}
 use Rattle.model.specs.Tree.{Alts, Repeat, Seq, canSkip, end, last, letter, more, union}
-use Rattle.model.specs.Edges.{Way, altsDepth, altsEmpty, altsEnd, depth, seqEmpty, seqEnd, ways}
+use Rattle.model.specs.Edges.{Way, altsDepth, altsEmpty, altsEnd, depth, endsOf, seqEmpty, seqEnd, startsOf, ways}
 use Rattle.model.specs.Live.{Reached}
-use Rattle.model.proofs.Language.Arcs.{Arc, ArcKind, Ends, Starts, arc, arcs, branch-parts, branch-whole, forkArc, altsArcs, letter-parts, letter-whole, letterArc, loopArc, propagateArc}
+use Rattle.model.proofs.Language.Arcs.{Arc, ArcKind, arc, arcs, branch-parts, branch-whole, forkArc, altsArcs, letter-parts, letter-whole, letterArc, loopArc, propagateArc}
 use Rattle.model.proofs.Language.Values.{Has, HasA, has-end, has-start, out, table, value}
 use Rattle.model.proofs.Laws.Bool.{and-both, and-split, or-left, or-right}
 use Rattle.model.proofs.Laws.Lists.{In, all-app, all-in, all-left, all-right, in-all}
@@ -85,8 +85,8 @@ pub record Split (E : Arc → Type 0) (W : ℕ → Info) (d k i j : ℕ) (xs : L
   pub low : k < d
   pub dep-from : W i .level ≡ k
   pub dep-to : W j .level ≡ k
-  pub begins : (r : ℕ) → Starts xs r → Begin W k i r
-  pub ends : (q : ℕ) → Ends xs q → Finish E W k q j
+  pub begins : (r : ℕ) → (r ∈ startsOf xs) → Begin W k i r
+  pub ends : (q : ℕ) → (q ∈ endsOf xs) → Finish E W k q j
 
 abbrev Fits : (E : Arc → Type 0) (W : ℕ → Info) (d : ℕ) → ArcKind → ℕ → ℕ → ℕ → Type 0
 Fits E W d (letterArc c) k q r = Unit
@@ -130,13 +130,13 @@ module _ (E : Arc → Type 0) (W : ℕ → Info) (d : ℕ) where
       from : W (W (seqEnd s p) .home) .source ≡ t
       from = ap (λ (j : ℕ). W j .source) (ap (λ (i : Info). i .home) z ∙ fin-home s (inside t p v)) ∙ ap (λ (i : Info). i .source) (start-of s p (inside t p v) K)
 
-  begins-good : (a : Alts) (t p k : ℕ) (v : Info) → v .level ≡ k → KnownA W a t p v → (r : ℕ) → Starts (ways a p) r → Begin W k t r
+  begins-good : (a : Alts) (t p k : ℕ) (v : Info) → v .level ≡ k → KnownA W a t p v → (r : ℕ) → r ∈ startsOf (ways a p) → Begin W k t r
   begins-good (last s) t p k v e K r (inl x) = subst (Begin W k t) (sym x) (begin-good s t (suc p) k v e K)
   begins-good (last s) t p k v e K r (inr x) = absurd x
   begins-good (more s a) t p k v e K r (inl x) = subst (Begin W k t) (sym x) (begin-good s t (suc p) k v e (K .0))
   begins-good (more s a) t p k v e K r (inr x) = begins-good a t (seqEnd s (suc p)) k v e (K .1) r x
 
-  ends-good : (a : Alts) (t p j k : ℕ) (v : Info) → v .level ≡ k → (T (altsEmpty a) → E (arc propagateArc k t j)) → KnownA W a t p v → (q : ℕ) → Ends (ways a p) q → Finish E W k q j
+  ends-good : (a : Alts) (t p j k : ℕ) (v : Info) → v .level ≡ k → (T (altsEmpty a) → E (arc propagateArc k t j)) → KnownA W a t p v → (q : ℕ) → q ∈ endsOf (ways a p) → Finish E W k q j
   ends-good (last s) t p j k v e n K q (inl x) = subst (λ (y : ℕ). Finish E W k y j) (sym x) (finish-good s t (suc p) j k v e n K)
   ends-good (last s) t p j k v e n K q (inr x) = absurd x
   ends-good (more s a) t p j k v e n K q (inl x) = subst (λ (y : ℕ). Finish E W k y j) (sym x) (finish-good s t (suc p) j k v e (λ h. n (or-left (seqEmpty s) (altsEmpty a) h)) (K .0))
@@ -186,10 +186,10 @@ module _ (s : Seq) where
   Propagates k q r = In-tree (arc propagateArc k q r)
 
   abbrev pub Scatters : ℕ → ℕ → ℕ → Type 0
-  Scatters k q r = (xs : List Way) × (j : ℕ) × In-tree (arc (forkArc xs) k q j) × Starts xs r
+  Scatters k q r = (xs : List Way) × (j : ℕ) × In-tree (arc (forkArc xs) k q j) × (r ∈ startsOf xs)
 
   abbrev pub Gathers : ℕ → ℕ → ℕ → Type 0
-  Gathers k q r = (xs : List Way) × (i : ℕ) × In-tree (arc (forkArc xs) k i r) × Ends xs q
+  Gathers k q r = (xs : List Way) × (i : ℕ) × In-tree (arc (forkArc xs) k i r) × (q ∈ endsOf xs)
 
   zero-info : Info
   zero-info = record { level = 0; home = 0; source = 0; free = true }

@@ -1,0 +1,3 @@
+-- Models: what the code computes. Nothing here is believed; the theorems in proofs/ tie each to the definitions.
+pub mod Words
+pub mod Run

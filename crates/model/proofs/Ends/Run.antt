@@ -12,9 +12,10 @@ use Rattle.model.specs.Tree.{Alts, Seq, end, last, letter, more, union}
 use Rattle.model.specs.Edges.{altsEnd, depth, seqEnd}
 use Rattle.model.specs.Live.{Reached, itself, onward}
 use Rattle.model.specs.Ends.{Spells}
-use Rattle.model.proofs.Language.Accepts.{LeadsTo, accepts, byte, start, still}
+use Rattle.model.proofs.Language.Accepts.{accepts}
 use Rattle.model.proofs.Language.Arcs.{Arc, ArcKind, Byte, Still, arc, arcs, branch-whole, forkArc, altsArcs, letter-whole, letterArc, loopArc, propagateArc}
 use Rattle.model.proofs.Language.Stretches.{feed, stretch}
+use Rattle.model.proofs.Language.Texts.{LeadsTo, byte, start, still}
 use Rattle.model.proofs.Laws.Bool.{and-both, and-split, or-left, or-right, or-split}
 use Rattle.model.proofs.Laws.Lists.{In, all-app, all-in, any-in, any-out}
 use Rattle.model.proofs.Passes.Closure.{AnyEdge}

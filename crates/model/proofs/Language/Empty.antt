@@ -1,8 +1,8 @@
 -- WHAT CAN SPELL THE EMPTY TEXT: the edge over a union ("if it can spell the empty text, a propagate edge from its start to its end") is there exactly
 -- if the union spells the empty text. A text is empty exactly if the two that it is made of are.
-use mathlib.Core.Path.{_≡_, refl, sym, ap, subst}
+use mathlib.Core.Path.{refl, sym, ap, subst}
 use mathlib.Core.Logic.{inl, inr, _↔_}
-use mathlib.Core.List.{List, [], _∷_, _++_}
+use mathlib.Core.List.{[], append-eq-nil-iff}
 use Prim.Native.Nat.{ℕ}
 use native.Mathlib.Omega.{arith}
 use lib.Dec.{T}
@@ -11,14 +11,6 @@ use Rattle.model.specs.Tree.{Alts, Repeat, Seq, canSkip, end, last, lett
 use Rattle.model.specs.Edges.{altsEmpty, seqEmpty}
 use Rattle.model.specs.Ends.{AltsSpell, LetterSpells, Spells}
 use Rattle.model.proofs.Laws.Bool.{and-both, and-split, or-left, or-right, or-split}
-
-nil-left : (x y : List ℕ) → [] ≡ x ++ y → x ≡ []
-nil-left [] y e = refl
-nil-left (b ∷ x) y e = absurd (omega (arith, ap length e))
-
-nil-right : (x y : List ℕ) → [] ≡ x ++ y → y ≡ []
-nil-right [] y e = sym e
-nil-right (b ∷ x) y e = absurd (omega (arith, ap length e))
 
 -- a letter spells the empty text exactly if it has `?` or `*`
 letter-empty : (c : ℕ) (r : Repeat) → T (canSkip r) ↔ LetterSpells c r []
@@ -41,9 +33,11 @@ mutual
   spelled-empty : (s : Seq) → Spells s [] → T (seqEmpty s)
   spelled-empty end h = tt
   spelled-empty (letter c r s) h =
-      and-both (canSkip r) (seqEmpty s) (letter-empty c r .1 (subst (LetterSpells c r) (nil-left (h .0) (h .1) (h .2)) (h .3))) (spelled-empty s (subst (Spells s) (nil-right (h .0) (h .1) (h .2)) (h .4)))
+      let e = append-eq-nil-iff .0 (sym (h .2)) in
+      and-both (canSkip r) (seqEmpty s) (letter-empty c r .1 (subst (LetterSpells c r) (e .0) (h .3))) (spelled-empty s (subst (Spells s) (e .1) (h .4)))
   spelled-empty (union a s) h =
-      and-both (altsEmpty a) (seqEmpty s) (spelled-alts a (subst (AltsSpell a) (nil-left (h .0) (h .1) (h .2)) (h .3))) (spelled-empty s (subst (Spells s) (nil-right (h .0) (h .1) (h .2)) (h .4)))
+      let e = append-eq-nil-iff .0 (sym (h .2)) in
+      and-both (altsEmpty a) (seqEmpty s) (spelled-alts a (subst (AltsSpell a) (e .0) (h .3))) (spelled-empty s (subst (Spells s) (e .1) (h .4)))
 
   spelled-alts : (a : Alts) → AltsSpell a [] → T (altsEmpty a)
   spelled-alts (last s) h = spelled-empty s h

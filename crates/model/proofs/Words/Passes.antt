@@ -7,7 +7,7 @@ use lib.Dec.{T}
 use Rattle.model.specs.Tree.{Seq}
 use Rattle.model.specs.Edges.{depth}
 use Rattle.model.specs.Live.{Reached, itself, onward}
-use Rattle.model.proofs.Passes.Closure.{Add, AnyEdge, Set, down, up}
+use Rattle.model.proofs.Passes.Closure.{_⊆_, Add, AnyEdge, Set, down, up}
 use Rattle.model.proofs.Passes.OnTrees.{Gathers, Propagates, Scatters, tree-passes}
 use Rattle.model.proofs.Words.Full.{Full}
 use Rattle.model.proofs.Words.GatherPass.{gathered, gathered-is}
@@ -15,11 +15,11 @@ use Rattle.model.proofs.Words.PropagatePass.{propagated, propagated-is}
 use Rattle.model.proofs.Words.ScatterPass.{scattered, scattered-is}
 
 -- ---- a larger set reaches more
-reached-map : {E : ℕ → ℕ → Type 0} {D D′ : Set} → ((q : ℕ) → D q → D′ q) → {q : ℕ} → Reached E D q → Reached E D′ q
+reached-map : {E : ℕ → ℕ → Type 0} {D D′ : Set} → D ⊆ D′ → {q : ℕ} → Reached E D q → Reached E D′ q
 reached-map f (itself h) = itself (f _ h)
 reached-map f (onward c e) = onward (reached-map f c) e
 
-add-map : (E : ℕ → ℕ → Type 0) {D D′ : Set} → ((q : ℕ) → D q → D′ q) → (q : ℕ) → Add E D q → Add E D′ q
+add-map : (E : ℕ → ℕ → Type 0) {D D′ : Set} → D ⊆ D′ → Add E D ⊆ Add E D′
 add-map E f q (inl h) = inl (f q h)
 add-map E f q (inr h) = inr (h .0, f (h .0) (h .1), h .2)
 
@@ -42,11 +42,11 @@ module _ (s : Seq) (F : Full s) where
   abbrev Down : ℕ → ℕ → Set → Set
   Down = down (Propagates s) (Gathers s) (Scatters s)
 
-  up-map : (n : ℕ) {D D′ : Set} → ((q : ℕ) → D q → D′ q) → (q : ℕ) → Up n D q → Up n D′ q
+  up-map : (n : ℕ) {D D′ : Set} → D ⊆ D′ → Up n D ⊆ Up n D′
   up-map zero f q h = reached-map f h
   up-map (suc n) f q h = up-map n (add-map (Gathers s n) (λ y. reached-map f)) q h
 
-  down-map : (n k : ℕ) {D D′ : Set} → ((q : ℕ) → D q → D′ q) → (q : ℕ) → Down n k D q → Down n k D′ q
+  down-map : (n k : ℕ) {D D′ : Set} → D ⊆ D′ → Down n k D ⊆ Down n k D′
   down-map zero k f q h = f q h
   down-map (suc n) k f q h = down-map n (suc k) (λ x. reached-map (add-map (Scatters s k) f)) q h
 

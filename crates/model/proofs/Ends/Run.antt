@@ -87,7 +87,8 @@ loops-move b (loopArc c) i j x n h k = (h, omega (arith, n .0), k)
 loops-move b propagateArc i j x n h k = absurd h
 loops-move b (forkArc xs) i j x n h k = absurd h
 
-move-from : (b : ℕ) (w : ArcKind) (i j q x : ℕ) → Steps w i j → Byte b w i j q (suc x) → (suc x ≡ j) × ((T (takesByte b w) × (q ≡ x)) ⊎ (T (loopsByte b w) × (q ≡ suc x)))
+move-from : (b : ℕ) (w : ArcKind) (i j q x : ℕ) → Steps w i j → Byte b w i j q (suc x)
+    → (suc x ≡ j) × ((T (takesByte b w) × (q ≡ x)) ⊎ (T (loopsByte b w) × (q ≡ suc x)))
 move-from b (letterArc c) i j q x n m = (m .2, inl (m .0, omega (arith, m .1, m .2)))
 move-from b (loopArc c) i j q x n m = (m .2, inr (m .0, omega (arith, m .1, m .2, n .0)))
 move-from b propagateArc i j q x n m = absurd m
@@ -166,7 +167,8 @@ module _ (s : Seq) (F : Full s) where
   run-out : (w : List ℕ) (q : ℕ) → T (liveSet w q) → LeadsTo (In es) w q
   run-out [] q h = reached-leads [] (λ x. T (startSet x)) (λ x k. subst (LeadsTo (In es) []) (sym (eqb→eq x 0 k)) start) (bits-are s F startSet q .0 h)
   run-out (b ∷ w) q h =
-      reached-leads (b ∷ w) (λ x. T (moved es b (liveSet w) x)) (λ x k. go x (moved-out b (liveSet w) x k) (λ y d. run-out w y d)) (bits-are s F (moved es b (liveSet w)) q .0 h)
+      reached-leads (b ∷ w) (λ x. T (moved es b (liveSet w) x)) (λ x k. go x (moved-out b (liveSet w) x k) (λ y d. run-out w y d))
+      (bits-are s F (moved es b (liveSet w)) q .0 h)
     where
       go : (x : ℕ) → Moved b (liveSet w) x → ((y : ℕ) → T (liveSet w y) → LeadsTo (In es) w y) → LeadsTo (In es) (b ∷ w) x
       go x (inl e) ih = subst (LeadsTo (In es) (b ∷ w)) (sym e) start

@@ -24,7 +24,8 @@ StopsAt s text p = Stops s (take p text)
 -- the bytes of x read after those of u, turned round
 turned : (x u v : List ℕ) → feed [] x ≡ feed u v → x ≡ reverse u ++ v
 turned x u v e =
-    sym (reverse-reverse x) ∙ ap reverse (e ∙ ap (λ (t : List ℕ). feed t v) (sym (reverse-reverse u)) ∙ sym (feed-app [] (reverse u) v)) ∙ reverse-reverse (reverse u ++ v)
+    sym (reverse-reverse x)
+    ∙ ap reverse (e ∙ ap (λ (t : List ℕ). feed t v) (sym (reverse-reverse u)) ∙ sym (feed-app [] (reverse u) v)) ∙ reverse-reverse (reverse u ++ v)
 
 stops-are : (s : Seq) (F : Full s) (x : List ℕ) → T (liveSet s F (feed [] x) (seqEnd s 0)) ↔ Stops s x
 stops-are s F x = (

@@ -8,7 +8,7 @@ use Rattle.model.specs.Lists.{_∈_, All}
 use Rattle.model.specs.Bits.{bit}
 use Rattle.model.specs.Tree.{Alts, Seq, end, last, letter, more, union}
 use Rattle.model.specs.Edges.{altsEnd, endsOf, seqEnd, startsOf, ways}
-use Rattle.model.proofs.Language.Arcs.{Arc, Byte, Still, altsArcs, arc, arcs, branch-whole, forkArc, letter-whole, letterArc, loopArc, propagateArc}
+use Rattle.model.proofs.Language.Arcs.{Arc, Byte, Still, altsArcs, arc, arcs, branch-whole, forkArc, letter-whole, propagateArc}
 use Rattle.model.proofs.Language.Languages.{Language, afterAlts, afterLetter, altsEmpty-in, loop-in, skip-letter, take-in}
 use Rattle.model.proofs.Language.Texts.{Has-alts, Has-texts, LeadsTo, at, byte, end-of, start, start-of, still, to}
 use Rattle.model.proofs.Laws.Lists.{all-app}
@@ -31,7 +31,8 @@ module _ (W : ℕ → Language) where
   skip-carries : (k i j : ℕ) → ((w : List ℕ) → W i w → W j w) → Carries W (arc propagateArc k i j)
   skip-carries k i j f = record { still = λ q r m w h. at-state (sym (m .1)) (f w (at-state (m .0) h)); byte = λ b q r m. absurd m }
 
-  by-byte : (c i j : ℕ) → ((b : ℕ) (w : List ℕ) → T (bit c b) → W i w → W j (b ∷ w)) → (b q r : ℕ) → T (bit c b) × (q ≡ i) × (r ≡ j) → (w : List ℕ) → W q w → W r (b ∷ w)
+  by-byte : (c i j : ℕ) → ((b : ℕ) (w : List ℕ) → T (bit c b) → W i w → W j (b ∷ w))
+      → (b q r : ℕ) → T (bit c b) × (q ≡ i) × (r ≡ j) → (w : List ℕ) → W q w → W r (b ∷ w)
   by-byte c i j f b q r m w h = at-state (sym (m .2)) (f b w (m .0) (at-state (m .1) h))
 
   starts-in : (a : Alts) (t p : ℕ) (P : Language) → Has-alts W a t p P → (r : ℕ) → r ∈ startsOf (ways a p) → (w : List ℕ) → P w → W r w
@@ -79,4 +80,5 @@ module _ (W : ℕ → Language) where
     alts-carried : (a : Alts) (t p k : ℕ) (P : Language) → Has-alts W a t p P → All (Carries W) (altsArcs a p k)
     alts-carried (last s) t p k P K = carried s (suc p) (suc k) P K
     alts-carried (more s a) t p k P K =
-        all-app (Carries W) (arcs s (suc p) (suc k)) (altsArcs a (seqEnd s (suc p)) k) (carried s (suc p) (suc k) P (K .0)) (alts-carried a t (seqEnd s (suc p)) k P (K .1))
+        let z = seqEnd s (suc p) in
+        all-app (Carries W) (arcs s (suc p) (suc k)) (altsArcs a z k) (carried s (suc p) (suc k) P (K .0)) (alts-carried a t z k P (K .1))

@@ -63,7 +63,7 @@ skip-letter c star P w n h = inl h
 skip-letter c plus P w n h = absurd n
 
 mutual
-  pub empty-in : (s : Seq) (P : Language) (w : List ℕ) → T (seqEmpty s) → P w → after s P w
+  empty-in : (s : Seq) (P : Language) (w : List ℕ) → T (seqEmpty s) → P w → after s P w
   empty-in end P w n h = h
   empty-in (letter c r s) P w n h = let b = and-split (canSkip r) (seqEmpty s) n in empty-in s (afterLetter c r P) w (b .1) (skip-letter c r P w (b .0) h)
   empty-in (union a s) P w n h = let b = and-split (altsEmpty a) (seqEmpty s) n in empty-in s (afterAlts a P) w (b .1) (altsEmpty-in a P w (b .0) h)

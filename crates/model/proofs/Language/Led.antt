@@ -38,7 +38,8 @@ module _ (E : Arc → Type 0) where
       one : (b : ℕ) (w : List ℕ) → T (bit c b) → P w → LeadsTo E (b ∷ w) (suc t)
       one b w x p = byte (arc (letterArc c) k t (suc t)) (A .takes) (x, refl, refl) (h w p)
 
-      go : (r : Repeat) → (T (canLoop r) → E (arc (loopArc c) k (suc t) (suc t))) → (T (canSkip r) → E (arc propagateArc k t (suc t))) → Reaches (afterLetter c r P) (suc t)
+      go : (r : Repeat) → (T (canLoop r) → E (arc (loopArc c) k (suc t) (suc t))) → (T (canSkip r) → E (arc propagateArc k t (suc t)))
+          → Reaches (afterLetter c r P) (suc t)
       go once loops skips [] x = absurd x
       go once loops skips (b ∷ w) x = one b w (x .0) (x .1)
       go option loops skips w (inl x) = still (arc propagateArc k t (suc t)) (skips tt) (refl, refl) (h w x)
@@ -57,7 +58,8 @@ module _ (E : Arc → Type 0) where
 
   -- THE THEOREM: a text of state q's language leads to q
   mutual
-    pub texts-lead : (s : Seq) (t k : ℕ) (P : Language) → All E (arcs s t k) → Reaches P t → (q : ℕ) → t ≤ q → q ≤ seqEnd s t → (w : List ℕ) → Texts s t P q w → LeadsTo E w q
+    pub texts-lead : (s : Seq) (t k : ℕ) (P : Language) → All E (arcs s t k) → Reaches P t
+        → (q : ℕ) → t ≤ q → q ≤ seqEnd s t → (w : List ℕ) → Texts s t P q w → LeadsTo E w q
     texts-lead end t k P A h q i j w x = let e : t ≡ q = omega arith in subst (LeadsTo E w) e (h w x)
     texts-lead (letter c r s) t k P A h q i j w x =
         let rest = Texts s (suc t) (afterLetter c r P) q in
@@ -92,12 +94,14 @@ module _ (E : Arc → Type 0) where
         past : t < q → cond (leb q (altsEnd a t)) inner rest w
         past l = at (pick-gt q t P (cond (leb q (altsEnd a t)) inner rest) l) x
 
-        go : (t ≡ q) ⊎ (t < q) → (q ≤ altsEnd a t) ⊎ (altsEnd a t < q) → (t < q → q ≤ altsEnd a t → inner w → LeadsTo E w q) → (altsEnd a t < q → rest w → LeadsTo E w q) → LeadsTo E w q
+        go : (t ≡ q) ⊎ (t < q) → (q ≤ altsEnd a t) ⊎ (altsEnd a t < q)
+            → (t < q → q ≤ altsEnd a t → inner w → LeadsTo E w q) → (altsEnd a t < q → rest w → LeadsTo E w q) → LeadsTo E w q
         go (inl e) o f g = subst (LeadsTo E w) e (h w (at (pick-le q t P (cond (leb q (altsEnd a t)) inner rest) (omega arith)) x))
         go (inr l) (inl m) f g = f l m (at (pick-le q (altsEnd a t) inner rest m) (past l))
         go (inr l) (inr m) f g = g m (at (pick-gt q (altsEnd a t) inner rest m) (past l))
 
-    alts-lead : (a : Alts) (t p k : ℕ) (P : Language) → All E (altsArcs a p k) → FromStarts a p P → (q : ℕ) → p < q → q ≤ altsEnd a p → (w : List ℕ) → AltsTexts a t p P q w → LeadsTo E w q
+    alts-lead : (a : Alts) (t p k : ℕ) (P : Language) → All E (altsArcs a p k) → FromStarts a p P
+        → (q : ℕ) → p < q → q ≤ altsEnd a p → (w : List ℕ) → AltsTexts a t p P q w → LeadsTo E w q
     alts-lead (last s) t p k P A h q i j w x = texts-lead s (suc p) (suc k) P A (h (suc p) (inl refl)) q i j w x
     alts-lead (more s a) t p k P A h q i j w x =
         let z = seqEnd s (suc p) in
@@ -109,7 +113,8 @@ module _ (E : Arc → Type 0) where
         ]
 
     -- what the alternatives spell leads through them to the union's end
-    ends-lead : (a : Alts) (t p e k : ℕ) (P : Language) → All E (altsArcs a p k) → FromStarts a p P → FromEnds a p e → (w : List ℕ) → afterAlts a P w → LeadsTo E w e
+    ends-lead : (a : Alts) (t p e k : ℕ) (P : Language) → All E (altsArcs a p k) → FromStarts a p P → FromEnds a p e
+        → (w : List ℕ) → afterAlts a P w → LeadsTo E w e
     ends-lead (last s) t p e k P A h o w x =
         let z = seqEnd s (suc p) in
         o w z (inl refl) (texts-lead s (suc p) (suc k) P A (h (suc p) (inl refl)) z (seqEnd-le s (suc p)) (le-refl z) w (at-end s (suc p) P w x))

@@ -63,7 +63,8 @@ module _ {ℓ} (X : Type ℓ) (through : ℕ → Repeat → X → X) (past : Alt
       has (union a s) t v A = (
         A t (le-refl t) (seqEnd-le (union a s) t) ∙ pick-le t t v (rest t) (le-refl t),
         hasA a t t v (λ q h k. A q (omega arith) (omega (arith, seqEnd-le s (suc z))) ∙ pick-gt q t v (rest q) h ∙ pick-le q z (altsValue a t t v q) (after q) k),
-        has s (suc z) (past a v) (λ q h k. A q (omega (arith, altsEnd-lt a t)) k ∙ pick-gt q t v (rest q) (omega (arith, altsEnd-lt a t)) ∙ pick-gt q z (altsValue a t t v q) (after q) h),
+        has s (suc z) (past a v) (λ q h k. A q (omega (arith, altsEnd-lt a t)) k ∙ pick-gt q t v (rest q) (omega (arith, altsEnd-lt a t))
+            ∙ pick-gt q z (altsValue a t t v q) (after q) h),
       )
         where
           z : ℕ

@@ -99,8 +99,8 @@ Fits E W d propagateArc k q r = Skip W d k q r
 Fits E W d (forkArc xs) k q r = Split E W d k q r xs
 
 module _ (E : Arc → Type 0) (W : ℕ → Info) (d : ℕ) where
-  abbrev pub Fit : Arc → Type 0
-  Fit e = Fits E W d (e .kind) (e .level) (e .from) (e .to)
+  abbrev pub ArcFits : Arc → Type 0
+  ArcFits e = Fits E W d (e .kind) (e .level) (e .from) (e .to)
 
   start-of : (s : Seq) (t : ℕ) (v : Info) → Known W s t v → W t ≡ v
   start-of = has-start Info through past inside W
@@ -148,7 +148,8 @@ module _ (E : Arc → Type 0) (W : ℕ → Info) (d : ℕ) where
   begins-fit (more s a) t p k v e K r (inl x) = subst (Begin W k t) (sym x) (begin-fits s t (suc p) k v e (K .0))
   begins-fit (more s a) t p k v e K r (inr x) = begins-fit a t (seqEnd s (suc p)) k v e (K .1) r x
 
-  ends-fit : (a : Alts) (t p j k : ℕ) (v : Info) → v .level ≡ k → (T (altsEmpty a) → E (arc propagateArc k t j)) → KnownA W a t p v → (q : ℕ) → q ∈ endsOf (ways a p) → Finish E W k q j
+  ends-fit : (a : Alts) (t p j k : ℕ) (v : Info) → v .level ≡ k → (T (altsEmpty a) → E (arc propagateArc k t j))
+      → KnownA W a t p v → (q : ℕ) → q ∈ endsOf (ways a p) → Finish E W k q j
   ends-fit (last s) t p j k v e n K q (inl x) = subst (λ (y : ℕ). Finish E W k y j) (sym x) (finish-fits s t (suc p) k v e K j n)
   ends-fit (last s) t p j k v e n K q (inr x) = absurd x
   ends-fit (more s a) t p j k v e n K q (inl x) =
@@ -157,10 +158,10 @@ module _ (E : Arc → Type 0) (W : ℕ → Info) (d : ℕ) where
 
   -- ---- all arcs of a sequence at depth k, and of alternatives
   mutual
-    fits : (s : Seq) (t k : ℕ) (v : Info) → k + depth s ≤ d → v .level ≡ k → All E (arcs s t k) → Known W s t v → All Fit (arcs s t k)
+    fits : (s : Seq) (t k : ℕ) (v : Info) → k + depth s ≤ d → v .level ≡ k → All E (arcs s t k) → Known W s t v → All ArcFits (arcs s t k)
     fits end t k v b e A K = tt
     fits (letter c r s) t k v b e A K =
-        letter-whole Fit c r s t k (record {
+        letter-whole ArcFits c r s t k (record {
           takes = tt;
           loops = λ n. tt;
           skips = λ n. skip-fits k t (suc t) v (canSkip r) (omega arith) e (K .0) (start-of s (suc t) (through c r v) (K .1)) n;
@@ -170,7 +171,7 @@ module _ (E : Arc → Type 0) (W : ℕ → Info) (d : ℕ) where
         let u = suc (altsEnd a t) in
         let i = start-of s u (past a v) (K .2) in
         let B = branch-parts E a s t k A in
-        branch-whole Fit a s t k (record {
+        branch-whole ArcFits a s t k (record {
           skips = λ n. skip-fits k t u v (altsEmpty a) (omega arith) e (K .0) i n;
           forks = record {
             low = omega arith;
@@ -183,11 +184,11 @@ module _ (E : Arc → Type 0) (W : ℕ → Info) (d : ℕ) where
           rest = fits s u k (past a v) (omega arith) e (B .rest) (K .2);
         })
 
-    alts-fit : (a : Alts) (t p k : ℕ) (v : Info) → suc k + altsDepth a ≤ d → v .level ≡ k → All E (altsArcs a p k) → KnownA W a t p v → All Fit (altsArcs a p k)
+    alts-fit : (a : Alts) (t p k : ℕ) (v : Info) → suc k + altsDepth a ≤ d → v .level ≡ k → All E (altsArcs a p k) → KnownA W a t p v → All ArcFits (altsArcs a p k)
     alts-fit (last s) t p k v b x A K = fits s (suc p) (suc k) (inside t (suc p) v) b (ap suc x) A K
     alts-fit (more s a) t p k v b x A K =
         let z = seqEnd s (suc p) in
-        all-app Fit (arcs s (suc p) (suc k)) (altsArcs a z k)
+        all-app ArcFits (arcs s (suc p) (suc k)) (altsArcs a z k)
         (fits s (suc p) (suc k) (inside t (suc p) v) (omega arith) (ap suc x) (all-left E (arcs s (suc p) (suc k)) (altsArcs a z k) A) (K .0))
         (alts-fit a t z k v (omega arith) x (all-right E (arcs s (suc p) (suc k)) (altsArcs a z k) A) (K .1))
 
@@ -199,6 +200,6 @@ pub known : Seq → ℕ → Info
 known s = value Info through past inside s 0 at-start
 
 -- THE THEOREM: every arc of a tree fits what is known of its states
-pub tree-fits : (E : Arc → Type 0) (s : Seq) → All E (arcs s 0 0) → All (Fit E (known s) (depth s)) (arcs s 0 0)
+pub tree-fits : (E : Arc → Type 0) (s : Seq) → All E (arcs s 0 0) → All (ArcFits E (known s) (depth s)) (arcs s 0 0)
 unfolding known
 tree-fits E s A = fits E (known s) (depth s) s 0 0 at-start (omega arith) refl A (table Info through past inside s 0 at-start)

@@ -11,7 +11,7 @@ use Rattle.model.specs.Live.{Reached}
 use Rattle.model.proofs.Language.Arcs.{Arc, arc, arcs, forkArc, propagateArc}
 use Rattle.model.proofs.Laws.Lists.{In, all-in, in-all}
 use Rattle.model.proofs.Passes.Closure.{AnyEdge, Nested, passes, passes-are}
-use Rattle.model.proofs.Passes.Known.{Begin, Finish, Fit, Info, Skip, Split, known, tree-fits}
+use Rattle.model.proofs.Passes.Known.{Begin, Finish, ArcFits, Info, Skip, Split, known, tree-fits}
 
 module _ (s : Seq) where
   abbrev In-tree : Arc → Type 0
@@ -31,9 +31,9 @@ module _ (s : Seq) where
   W : ℕ → Info
   W = known s
 
-  fit : (e : Arc) → In-tree e → Fit In-tree W (depth s) e
+  fit : (e : Arc) → In-tree e → ArcFits In-tree W (depth s) e
   unfolding W
-  fit = all-in (Fit In-tree (known s) (depth s)) (arcs s 0 0) (tree-fits In-tree s (in-all (arcs s 0 0)))
+  fit = all-in (ArcFits In-tree (known s) (depth s)) (arcs s 0 0) (tree-fits In-tree s (in-all (arcs s 0 0)))
 
   skip : (k q r : ℕ) → Propagates k q r → Skip W (depth s) k q r
   skip k q r i = fit (arc propagateArc k q r) i

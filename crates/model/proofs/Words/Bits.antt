@@ -46,7 +46,8 @@ module _ (op : ℕ → ℕ → ℕ) (f : ℕ → ℕ → ℕ) (g : Bool → Bool
     (digits : (p q : Bool) → f (digit p) (digit q) ≡ digit (g p q)) where
   op-digit : (a b : ℕ) → op a b ≡ op (a / 2) (b / 2) * 2 + digit (g (odd a) (odd b))
   op-digit a b =
-      step a b ∙ ap₂ (λ (x y : ℕ). op (a / 2) (b / 2) * 2 + f x y) (last-digit a) (last-digit b) ∙ ap (λ (x : ℕ). op (a / 2) (b / 2) * 2 + x) (digits (odd a) (odd b))
+      step a b ∙ ap₂ (λ (x y : ℕ). op (a / 2) (b / 2) * 2 + f x y) (last-digit a) (last-digit b)
+      ∙ ap (λ (x : ℕ). op (a / 2) (b / 2) * 2 + x) (digits (odd a) (odd b))
 
   bit-op : (i a b : ℕ) → bit (op a b) i ≡ g (bit a i) (bit b i)
   bit-op zero a b = odd-is (op a b) (g (odd a) (odd b)) (omega (arith, op-digit a b, digit-small (g (odd a) (odd b))))

@@ -31,7 +31,8 @@ propagate-in k es i j h = items-in Way ofPropagate noFork k es (arc propagateArc
 pub propagate-out : (k : ℕ) (es : List Arc) (p : Way) → In (propagatesOf k es) p → In es (arc propagateArc k (p .0) (p .1))
 propagate-out k es p h = let r = items-out Way ofPropagate noFork k es p h in go (r .0) (r .0 .kind) refl (r .1) (r .2) (r .3)
   where
-    go : (e : Arc) (w : ArcKind) → e .kind ≡ w → In es e → e .level ≡ k → In (pick Way ofPropagate noFork w (e .from) (e .to)) p → In es (arc propagateArc k (p .0) (p .1))
+    go : (e : Arc) (w : ArcKind) → e .kind ≡ w → In es e → e .level ≡ k → In (pick Way ofPropagate noFork w (e .from) (e .to)) p
+        → In es (arc propagateArc k (p .0) (p .1))
     go e (letterArc c) q i l h = absurd h
     go e (loopArc c) q i l h = absurd h
     go e propagateArc q i l (inl x) = subst (In es) (λ n. arc (q n) (l n) (sym x n .0) (sym x n .1)) i

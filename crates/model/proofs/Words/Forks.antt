@@ -41,7 +41,8 @@ forksOf = itemsOf Union noPropagate ofFork
 pub fork-in : (k : ℕ) (es : List Arc) (xs : List Way) (i j : ℕ) → In es (arc (forkArc xs) k i j) → In (forksOf k es) (unionOf xs i j)
 fork-in k es xs i j h = items-in Union noPropagate ofFork k es (arc (forkArc xs) k i j) (unionOf xs i j) h refl (inl refl)
 
-pub fork-out : (k : ℕ) (es : List Arc) (u : Union) → In (forksOf k es) u → (xs : List Way) × (i : ℕ) × (j : ℕ) × In es (arc (forkArc xs) k i j) × (u ≡ unionOf xs i j)
+pub fork-out : (k : ℕ) (es : List Arc) (u : Union) → In (forksOf k es) u
+    → (xs : List Way) × (i : ℕ) × (j : ℕ) × In es (arc (forkArc xs) k i j) × (u ≡ unionOf xs i j)
 fork-out k es u h = let r = items-out Union noPropagate ofFork k es u h in go (r .0) (r .0 .kind) refl (r .1) (r .2) (r .3)
   where
     Found : Type 0

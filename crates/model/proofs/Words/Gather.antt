@@ -24,19 +24,16 @@ module _ (X Y : ℕ → Bool) (lo hi : ℕ) (ones : (j : ℕ) → lo ≤ j → j
 
   block-in : (j : ℕ) → lo ≤ j → j ≤ hi → T (into carry X Y false j) → Below j
   block-in zero h k t = absurd (not-yet 0 (omega arith) t)
-  block-in (suc j) h k t =
-      elim (eq-or-lt-of-le h) [
-        | inl e ↦ absurd (not-yet (suc j) e t)
-        | inr l ↦ here (step (Y j) (into carry X Y false j) (subst (λ (x : Bool). T (carry x (Y j) (into carry X Y false j))) (ones j (omega arith) k) t)) (omega arith) (block-in j (omega arith) (omega arith))
-      ]
+  block-in (suc j) h k t = elim (eq-or-lt-of-le h) [ inl e ↦ absurd (not-yet (suc j) e t) | inr l ↦ here (omega arith) (block-in j (omega arith) (omega arith)) ]
     where
       step : (y c : Bool) → T (carry true y c) → T y ⊎ T c
       step true c h = inl tt
       step false c h = inr h
 
-      here : T (Y j) ⊎ T (into carry X Y false j) → lo ≤ j → (T (into carry X Y false j) → Below j) → Below (suc j)
-      here (inl y) l ih = (j, l, le-refl (suc j), y)
-      here (inr c) l ih = let b = ih c in (b .0, b .1, omega (arith, b .2), b .3)
+      here : lo ≤ j → (T (into carry X Y false j) → Below j) → Below (suc j)
+      here l ih =
+          let one = subst (λ (x : Bool). T (carry x (Y j) (into carry X Y false j))) (ones j l k) t in
+          elim (step (Y j) (into carry X Y false j) one) [ inl y ↦ (j, l, le-refl (suc j), y) | inr c ↦ (let b = ih c in (b .0, b .1, omega (arith, b .2), b .3)) ]
 
   block-out : (j : ℕ) → lo ≤ j → j ≤ hi → Below j → T (into carry X Y false j)
   block-out zero h k b = absurd (omega (arith, b .2))
@@ -68,7 +65,8 @@ gatherTargetOf us x = any (λ u. eqb x (u .close)) us
 no-block : (x a b : ℕ) (us : List Union) → x ≤ a → Forks a b us → gatherBlockOf us x ≡ false
 no-block x a b us h A =
     none-after (λ u. leb (u .first) x && ltb x (u .close)) x a b us h A
-    (λ u S l. is-not (leb (u .first) x && ltb x (u .close)) (λ t. omega (arith, S .opens, leb→le (u .first) x (and-split (leb (u .first) x) (ltb x (u .close)) t .0))))
+    (λ u S l. is-not (leb (u .first) x && ltb x (u .close))
+    (λ t. omega (arith, S .opens, leb→le (u .first) x (and-split (leb (u .first) x) (ltb x (u .close)) t .0))))
 
 no-source : (x a b : ℕ) (us : List Union) → x ≤ a → Forks a b us → gatherSourceOf us x ≡ false
 no-source x a b us h A = none-after (λ u. within x (u .ends)) x a b us h A (λ u S l. is-not (within x (u .ends)) (λ t. omega (arith, S .opens, S .between x t)))
@@ -112,7 +110,8 @@ module _ (D : ℕ → Bool) where
         X-at x h k = hX x h ∙ ap (λ (n : Bool). block x || n) (no-block x hi b us k (A .2)) ∙ or-false (block x)
 
         Y-at : (x : ℕ) → a < x → x ≤ hi → Y x ≡ (D x && within x (u .ends))
-        Y-at x h k = hY x h ∙ ap (λ (n : Bool). D x && (within x (u .ends) || n)) (no-source x hi b us k (A .2)) ∙ ap (λ (n : Bool). D x && n) (or-false (within x (u .ends)))
+        Y-at x h k =
+            hY x h ∙ ap (λ (n : Bool). D x && (within x (u .ends) || n)) (no-source x hi b us k (A .2)) ∙ ap (λ (n : Bool). D x && n) (or-false (within x (u .ends)))
 
         outside : (x : ℕ) → (lo ≤ x → x < hi → ⊥) → block x ≡ false
         outside x n = is-not (block x) (λ t. let s = and-split (leb lo x) (ltb x hi) t in n (leb→le lo x (s .0)) (ltb→lt x hi (s .1)))
@@ -129,7 +128,8 @@ module _ (D : ℕ → Bool) where
         c-lo : into carry X Y false lo ≡ false
         c-lo =
             run carry X Y false false (suc a) lo c
-            (λ j h k. ap₂ (λ (x y : Bool). carry x y false) (X-out j h (omega arith) (λ p q. omega arith)) (Y-out j h (omega arith) (λ p q. omega arith))) lo a<lo (le-refl lo)
+            (λ j h k. ap₂ (λ (x y : Bool). carry x y false) (X-out j h (omega arith) (λ p q. omega arith)) (Y-out j h (omega arith) (λ p q. omega arith)))
+            lo a<lo (le-refl lo)
 
         X-hi : X hi ≡ false
         X-hi = X-out hi (omega arith) (le-refl hi) (λ p q. omega arith)
@@ -144,12 +144,15 @@ module _ (D : ℕ → Bool) where
         c-out = ap₂ (λ (x y : Bool). carry x y (into carry X Y false hi)) X-hi Y-hi
 
         found : Below X Y lo hi ones c-lo hi → (x : ℕ) × T (D x) × T (within x (u .ends))
-        found w = let s = and-split (D (w .0)) (within (w .0) (u .ends)) (subst T (Y-at (w .0) (omega (arith, w .1)) (omega (arith, w .2))) (w .3)) in (w .0, s .0, s .1)
+        found w =
+            let s = and-split (D (w .0)) (within (w .0) (u .ends)) (subst T (Y-at (w .0) (omega (arith, w .1)) (omega (arith, w .2))) (w .3)) in
+            (w .0, s .0, s .1)
 
         put : (x : ℕ) × T (D x) × T (within x (u .ends)) → Below X Y lo hi ones c-lo hi
         put w =
             let r = S .between (w .0) (w .2) in
-            (w .0, r .0, r .1, subst T (sym (Y-at (w .0) (omega (arith, r .0)) (omega (arith, r .1)))) (and-both (D (w .0)) (within (w .0) (u .ends)) (w .1) (w .2)))
+            let added = and-both (D (w .0)) (within (w .0) (u .ends)) (w .1) (w .2) in
+            (w .0, r .0, r .1, subst T (sym (Y-at (w .0) (omega (arith, r .0)) (omega (arith, r .1)))) added)
 
         X-rest : (x : ℕ) → hi < x → X x ≡ gatherBlockOf us x
         X-rest x h = hX x (omega arith) ∙ ap (λ (n : Bool). n || gatherBlockOf us x) (outside x (λ p q. omega arith))
@@ -162,4 +165,6 @@ module _ (D : ℕ → Bool) where
   gather b us A = from (gatherBlockOf us) (λ x. D x && gatherSourceOf us x) 0 b us A (λ x h. refl) (λ x h. refl) nothing
     where
       nothing : carry (gatherBlockOf us 0) (D 0 && gatherSourceOf us 0) false ≡ false
-      nothing = ap₂ (λ (x y : Bool). carry x (D 0 && y) false) (no-block 0 0 b us (le-refl 0) A) (no-source 0 0 b us (le-refl 0) A) ∙ ap (λ (y : Bool). carry false y false) (and-false (D 0))
+      nothing =
+          ap₂ (λ (x y : Bool). carry x (D 0 && y) false) (no-block 0 0 b us (le-refl 0) A) (no-source 0 0 b us (le-refl 0) A)
+          ∙ ap (λ (y : Bool). carry false y false) (and-false (D 0))

@@ -61,4 +61,5 @@ module _ (s : Seq) (F : Full s) (k : ℕ) (D : ℕ → Bool) where
           let u = unionOf (h .2 .0) (h .2 .1) x in
           let i = fork-in k (arcs s 0 0) (h .2 .0) (h .2 .1) x (h .2 .2) in
           or-right (D x) (total x && gatherTargetOf us x)
-          (and-both (total x) (gatherTargetOf us x) (total-is u i .1 (h .0, h .1, within-in (u .ends) (h .0) (h .2 .3))) (any-in (λ u. eqb x (u .close)) us u i (eqb-refl x)))
+          (and-both (total x) (gatherTargetOf us x) (total-is u i .1 (h .0, h .1, within-in (u .ends) (h .0) (h .2 .3)))
+          (any-in (λ u. eqb x (u .close)) us u i (eqb-refl x)))

@@ -23,7 +23,8 @@ deeper k e = k ≤ e .level
 mutual
   depths : (s : Seq) (t k : ℕ) → All (deeper k) (arcs s t k)
   depths end t k = tt
-  depths (letter c r s) t k = letter-whole (deeper k) c r s t k (record { takes = le-refl k; loops = λ x. le-refl k; skips = λ x. le-refl k; rest = depths s (suc t) k })
+  depths (letter c r s) t k =
+      letter-whole (deeper k) c r s t k (record { takes = le-refl k; loops = λ x. le-refl k; skips = λ x. le-refl k; rest = depths s (suc t) k })
   depths (union a s) t k =
       let alts = all-map (deeper (suc k)) (deeper k) (λ e h. omega arith) (altsArcs a t k) (altsDepths a t k) in
       branch-whole (deeper k) a s t k (record { skips = λ x. le-refl k; forks = le-refl k; alts = alts; rest = depths s (suc (altsEnd a t)) k })
@@ -91,9 +92,10 @@ module _ (X : Type 0) (pickP : ℕ → ℕ → List X) (pickF : List Way → ℕ
   pub items-in : (k : ℕ) (es : List Arc) (e : Arc) (x : X) → In es e → e .level ≡ k → In (pick (e .kind) (e .from) (e .to)) x → In (itemsOf k es) x
   items-in k [] e x i l h = absurd i
   items-in k (d ∷ es) e x (inl p) l h =
+      let own : T (eqb (e .level) k) = subst (λ (n : ℕ). T (eqb (e .level) n)) l (eqb-refl (e .level)) in
       sooner (keep (eqb (d .level) k) (pick (d .kind) (d .from) (d .to))) (itemsOf k es) x
       (subst (λ (d : Arc). In (keep (eqb (d .level) k) (pick (d .kind) (d .from) (d .to))) x) p
-      (subst (λ (b : Bool). In (keep b (pick (e .kind) (e .from) (e .to))) x) (sym (is-true (eqb (e .level) k) (subst (λ (n : ℕ). T (eqb (e .level) n)) l (eqb-refl (e .level))))) h))
+      (subst (λ (b : Bool). In (keep b (pick (e .kind) (e .from) (e .to))) x) (sym (is-true (eqb (e .level) k) own)) h))
   items-in k (d ∷ es) e x (inr i) l h = later (keep (eqb (d .level) k) (pick (d .kind) (d .from) (d .to))) (itemsOf k es) x (items-in k es e x i l h)
 
   pub items-out : (k : ℕ) (es : List Arc) (x : X) → In (itemsOf k es) x → (e : Arc) × In es e × (e .level ≡ k) × In (pick (e .kind) (e .from) (e .to)) x
@@ -104,7 +106,8 @@ module _ (X : Type 0) (pickP : ℕ → ℕ → List X) (pickF : List Way → ℕ
         | inr i ↦ (let r = items-out k es x i in (r .0, inr (r .1), r .2, r .3))
       ]
     where
-      own : (b : Bool) → eqb (d .level) k ≡ b → In (keep b (pick (d .kind) (d .from) (d .to))) x → (e : Arc) × In (d ∷ es) e × (e .level ≡ k) × In (pick (e .kind) (e .from) (e .to)) x
+      own : (b : Bool) → eqb (d .level) k ≡ b → In (keep b (pick (d .kind) (d .from) (d .to))) x
+          → (e : Arc) × In (d ∷ es) e × (e .level ≡ k) × In (pick (e .kind) (e .from) (e .to)) x
       own true p i = (d, inl refl, eqb→eq (d .level) k (subst T (sym p) tt), i)
       own false p i = absurd i
 
@@ -134,7 +137,9 @@ module _ (X : Type 0) (pickP : ℕ → ℕ → List X) (pickF : List Way → ℕ
     mutual
       pub rows : (s : Seq) (t j k : ℕ) → Full s → In-order t (seqEnd s t) (itemsOf k (arcs s t j))
       rows end t j k F = le-refl t
-      rows (letter c r s) t j k F = no-item (itemsOf k (when (canLoop r) (arc (loopArc c) j (suc t) (suc t)) (es (canSkip r)))) (looped (canLoop r) (skipped (canSkip r) (rows s (suc t) j k F)))
+      rows (letter c r s) t j k F =
+          no-item (itemsOf k (when (canLoop r) (arc (loopArc c) j (suc t) (suc t)) (es (canSkip r))))
+          (looped (canLoop r) (skipped (canSkip r) (rows s (suc t) j k F)))
         where
           z : ℕ
           z = seqEnd s (suc t)
@@ -208,10 +213,12 @@ module _ (X : Type 0) (pickP : ℕ → ℕ → List X) (pickF : List Way → ℕ
           go false false e A B = subst (λ (b : Bool). In-order t z (keep b forks ++ whole)) (sym e) (deep A B)
 
       altsRows : (a : Alts) (p j k : ℕ) → FullA a → In-order p (altsEnd a p) (itemsOf k (altsArcs a p j))
-      altsRows (last s) p j k F = rows-from lo hi Ok (suc p) p (seqEnd s (suc p)) (itemsOf k (arcs s (suc p) (suc j))) (omega arith) (rows s (suc p) (suc j) k (F .1))
+      altsRows (last s) p j k F =
+          rows-from lo hi Ok (suc p) p (seqEnd s (suc p)) (itemsOf k (arcs s (suc p) (suc j))) (omega arith) (rows s (suc p) (suc j) k (F .1))
       altsRows (more s a) p j k F =
           subst (In-order p (altsEnd a z)) (sym (items-app k (arcs s (suc p) (suc j)) (altsArcs a z j)))
-          (rows-app lo hi Ok p z (altsEnd a z) first (itemsOf k (altsArcs a z j)) (rows-from lo hi Ok (suc p) p z first (omega arith) (rows s (suc p) (suc j) k (F .1))) (altsRows a (seqEnd s (suc p)) j k (F .2)))
+          (rows-app lo hi Ok p z (altsEnd a z) first (itemsOf k (altsArcs a z j))
+          (rows-from lo hi Ok (suc p) p z first (omega arith) (rows s (suc p) (suc j) k (F .1))) (altsRows a (seqEnd s (suc p)) j k (F .2)))
         where
           z : ℕ
           z = seqEnd s (suc p)

@@ -112,7 +112,8 @@ module _ {m W : ℕ} (r : m ≤ wide W) where
   near-not {xs} {f} X = record {
     len = not-length xs ∙ X .len;
     fit = not-fit xs;
-    bits = λ x l. ap (λ (n : ℕ). bit n x) (not-value xs (X .fit)) ∙ bit-not (bitsOf xs) x (value xs) (val-lt xs (X .fit)) (omega (arith, near-room m W xs r (X .len))) ∙ ap not (X .bits x l);
+    bits = λ x l. ap (λ (n : ℕ). bit n x) (not-value xs (X .fit))
+        ∙ bit-not (bitsOf xs) x (value xs) (val-lt xs (X .fit)) (omega (arith, near-room m W xs r (X .len))) ∙ ap not (X .bits x l);
   }
 
   module _ {xs ys : List ℕ} {f h : ℕ → Bool} (X : Near m W xs f) (Y : Near m W ys h) where

@@ -119,7 +119,8 @@ add-step false false false x y z k hp hq e = omega arith
 -- THE BITS OF A SUM z = x + y + b, where c is carried out of its n bits
 pub add-bit : (i n x y z : ℕ) (b c : Bool) → i < n → z + over c n ≡ x + y + digit b → bit z i ≡ odd3 (bit x i) (bit y i) (into carry (bit x) (bit y) b i)
 add-bit i zero x y z b c h e = absurd (not-suc-le-zero h)
-add-bit zero (suc n) x y z b c h e = odd-is z (odd3 (odd x) (odd y) b) (add-step (odd x) (odd y) b x y z (over c n) (last-digit x) (last-digit y) (omega (arith, over-suc c n)) .0)
+add-bit zero (suc n) x y z b c h e =
+    odd-is z (odd3 (odd x) (odd y) b) (add-step (odd x) (odd y) b x y z (over c n) (last-digit x) (last-digit y) (omega (arith, over-suc c n)) .0)
 add-bit (suc i) (suc n) x y z b c h e =
     add-bit i n (x / 2) (y / 2) (z / 2) (carry (odd x) (odd y) b) c (le-of-suc-le-suc h)
     (add-step (odd x) (odd y) b x y z (over c n) (last-digit x) (last-digit y) (omega (arith, over-suc c n)) .1)

@@ -102,7 +102,8 @@ module _ (m W : ℕ) (s : Seq) (F : Full s) (M : Masks) (C : Carry m W s M) wher
   fall-words (suc n) k l D f H =
       let S = scatterBy M k D in
       let g = scattered s F k f in
-      fall-words n (suc k) (omega arith) (propagateBy M (suc k) S) (propagated s F (suc k) g) (propagate-is S g (scatter-is D f H k (omega arith)) (suc k) (omega arith))
+      fall-words n (suc k) (omega arith) (propagateBy M (suc k) S) (propagated s F (suc k) g)
+      (propagate-is S g (scatter-is D f H k (omega arith)) (suc k) (omega arith))
 
   pub passes-words : (D : List ℕ) (f : ℕ → Bool) → Holds m W D f → Holds m W (passWords M (depth s) D) (passed s F (depth s) f)
   passes-words D f H = let d = depth s in fall-words d 0 (omega arith) (riseWords M d D) (risen s F d f) (rise-words d (le-refl d) D f H)

@@ -21,7 +21,9 @@ module _ (X Y : ℕ → Bool) (v : Bool) (lo hi : ℕ) (lt : lo < hi) (none : in
     (X-lo : X lo ≡ false) (Y-lo : Y lo ≡ v) (X-in : (j : ℕ) → lo < j → j < hi → X j ≡ false) (Y-in : (j : ℕ) → lo < j → j ≤ hi → Y j ≡ false)
     (X-hi : X hi ≡ true) where
   borrowed : (j : ℕ) → lo < j → j ≤ hi → into borrow X Y false j ≡ v
-  borrowed = run borrow X Y false v (suc lo) hi ((λ i. borrow (X-lo i) (Y-lo i) (none i)) ∙ own v) (λ j h k. ap₂ (λ (x y : Bool). borrow x y v) (X-in j h k) (Y-in j h (omega arith)))
+  borrowed =
+      run borrow X Y false v (suc lo) hi ((λ i. borrow (X-lo i) (Y-lo i) (none i)) ∙ own v)
+      (λ j h k. ap₂ (λ (x y : Bool). borrow x y v) (X-in j h k) (Y-in j h (omega arith)))
     where
       own : (u : Bool) → borrow false u false ≡ u
       own true = refl

@@ -70,7 +70,9 @@ module _ (D : ℕ → Bool) where
         Y-no x h k n = Y-at x h (omega (arith, S .block)) ∙ ap (λ (n : Bool). D x && n) (unequal x lo n) ∙ and-false (D x)
 
         c-lo : into borrow X Y false lo ≡ false
-        c-lo = run borrow X Y false false a lo c (λ j h k. ap₂ (λ (x y : Bool). borrow x y false) (X-no j h (omega arith)) (Y-no j h (omega arith) (λ e. omega arith))) lo (A .0) (le-refl lo)
+        c-lo =
+            run borrow X Y false false a lo c
+            (λ j h k. ap₂ (λ (x y : Bool). borrow x y false) (X-no j h (omega arith)) (Y-no j h (omega arith) (λ e. omega arith))) lo (A .0) (le-refl lo)
 
         X-lo : X lo ≡ false
         X-lo = X-no lo (A .0) lt

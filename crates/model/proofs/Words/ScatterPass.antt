@@ -34,7 +34,8 @@ module _ (s : Seq) (F : Full s) (k : ℕ) (D : ℕ → Bool) where
   spread-is : (u : Union) → In us u → (x : ℕ) → T (within x (u .starts)) → spread x ≡ D (u .start)
   spread-is u i x h =
       let r = all-in Sound us (forks-sound s k F) u i .starting x h in
-      all-in (Scattered D (scatterBlockOf us) (λ j. D j && scatterSourceOf us j)) us (scatter D (seqEnd s 0) us (forks-in-order s k F)) u i x (omega (arith, r)) (r .1)
+      all-in (Scattered D (scatterBlockOf us) (λ j. D j && scatterSourceOf us j)) us (scatter D (seqEnd s 0) us (forks-in-order s k F)) u i
+      x (omega (arith, r)) (r .1)
 
   pub scattered-is : (x : ℕ) → T (scattered x) ↔ Add (Scatters s k) (λ q. T (D q)) x
   scattered-is x = (λ h. there (or-split (D x) (spread x && scatterTargetOf us x) h), back)

@@ -22,7 +22,7 @@ use Rattle.model.proofs.Laws.Bool.{and-split}
 use Rattle.model.specs.Models.Reader.{readRule}
 use Rattle.model.proofs.Reading.Decides.{reads}
 use Rattle.model.proofs.Reading.WellFormed.{Good, GoodAlts, rule-well}
-use Rattle.model.proofs.Words.InOrder.{Full, FullA, NonEmpty}
+use Rattle.model.proofs.Words.Full.{Full, FullA, NonEmpty}
 use Rattle.model.proofs.Words.Run.{Bytes}
 use Rattle.model.proofs.Image.Verdict.{sameWords, sameWords-eq}
 use Rattle.model.proofs.Definitions.TreeEnds.{treeEnds, tree-ends}

@@ -1,12 +1,24 @@
--- Words
+-- Words: over any number of 64-bit words, with carry and borrow handed on, the subtraction gives scatter, the addition gather and the subtraction
+-- propagate, for the masks of document 01; so the run on words gives the live states and the ends.
+-- Read in this order: the bits of numbers and of sums; the unions and the propagate edges of one depth, which stand in order; each pass on bits,
+-- and all of them (`bits-are`); rows of words that hold sets, and the run on them (`step-words`, `run-words`), which uses Ends.
 pub mod Ripple
 pub mod Bits
-pub mod Borrows
 pub mod Runs
+pub mod Full
+pub mod InOrder
+pub mod Forks
+pub mod Chains
 pub mod Scatter
 pub mod Gather
 pub mod Propagate
-pub mod InOrder
+pub mod ScatterPass
+pub mod GatherPass
+pub mod PropagatePass
 pub mod Passes
+pub mod Sums
+pub mod Holds
 pub mod Operations
+pub mod PassHolds
 pub mod Run
+pub mod ImageRun

@@ -1,3 +1,4 @@
 -- MODELS: what the code computes. Nothing here is believed; the theorems in proofs/ tie each to the definitions.
 pub mod Reader
 pub mod Words
+pub mod Run

@@ -11,7 +11,7 @@ use Rattle.model.specs.Tree.{Tree}
 use Rattle.model.specs.Edges.{accepting}
 use Rattle.model.specs.Live.{Live}
 use Rattle.model.specs.Ends.{Spells, End}
-use Rattle.model.proofs.Words.InOrder.{Full}
+use Rattle.model.proofs.Words.Full.{Full}
 use Rattle.model.proofs.Ends.Stops.{StopsAt, end-is}
 use Rattle.model.proofs.Definitions.Live.{live-is}
 

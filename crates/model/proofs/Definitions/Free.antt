@@ -5,34 +5,13 @@ use mathlib.Core.List.{List, [], _∷_, _++_, map}
 use Prim.Native.Nat.{ℕ, suc}
 use lib.Dec.{T}
 use Rattle.model.specs.Tree.{canSkip, canLoop, Tree}
-use Rattle.model.specs.Edges.{Way, Part, letterAt, unionAt, parts, EdgeKind, letterEdge, loopEdge, propagateEdge, scatterEdge, gatherEdge, Edge, edge, edgesOf}
+use Rattle.model.specs.Edges.{startsOf, endsOf, Part, letterAt, unionAt, parts, EdgeKind, letterEdge, loopEdge, propagateEdge, scatterEdge, gatherEdge, Edge, edge, edgesOf}
 use Rattle.model.specs.Edges.{when as whenEdge}
 use Rattle.model.specs.Live.{letterless, Free}
-use Rattle.model.proofs.Laws.Lists.{In, later}
-use Rattle.model.proofs.Laws.Each.{in-left, in-split, in-map, map-in, in-each, each-in}
-use Rattle.model.proofs.Language.Arcs.{letterArc, loopArc, propagateArc, forkArc, Arc, arc, when, arcs, Starts, Ends, Still}
+use Rattle.model.proofs.Laws.Lists.{In, later, sooner, in-split}
+use Rattle.model.proofs.Laws.Each.{in-map, map-in, in-each, each-in}
+use Rattle.model.proofs.Language.Arcs.{letterArc, loopArc, propagateArc, forkArc, Arc, arc, when, arcs, Still}
 use Rattle.model.proofs.Definitions.Parts.{arcsOf, arcs-are, StillAlong, edge-when, when-edge, arc-when, when-arc, when-later, kind-is, from-is, to-is}
-
--- ---- an alternative's start and end
-starts-of : (ws : List Way) (w : Way) → In ws w → Starts ws (w .0)
-starts-of [] w h = absurd h
-starts-of (x ∷ ws) w (inl e) = inl (ap (λ (v : Way). v .0) e)
-starts-of (x ∷ ws) w (inr h) = inr (starts-of ws w h)
-
-ends-of : (ws : List Way) (w : Way) → In ws w → Ends ws (w .1)
-ends-of [] w h = absurd h
-ends-of (x ∷ ws) w (inl e) = inl (ap (λ (v : Way). v .1) e)
-ends-of (x ∷ ws) w (inr h) = inr (ends-of ws w h)
-
-of-starts : (ws : List Way) (r : ℕ) → Starts ws r → (w : Way) × In ws w × (r ≡ w .0)
-of-starts [] r h = absurd h
-of-starts (x ∷ ws) r (inl e) = (x, inl refl, e)
-of-starts (x ∷ ws) r (inr h) = let f = of-starts ws r h in (f .0, inr (f .1), f .2)
-
-of-ends : (ws : List Way) (q : ℕ) → Ends ws q → (w : Way) × In ws w × (q ≡ w .1)
-of-ends [] q h = absurd h
-of-ends (x ∷ ws) q (inl e) = (x, inl refl, e)
-of-ends (x ∷ ws) q (inr h) = let f = of-ends ws q h in (f .0, inr (f .1), f .2)
 
 -- ---- edges without a letter
 abbrev FreeIn : List Edge → ℕ → ℕ → Type 0
@@ -80,7 +59,7 @@ free-part (unionAt empty k t ws u) q r (e, j, m, h) = go (in-split scatters (gat
     rest : In gathers (edge e j q r) ⊎ In over (edge e j q r) → StillAlong (arcsOf (unionAt empty k t ws u)) q r
     rest (inl n) =
         let w = map-in (λ a. edge gatherEdge k (a .1) u) ws (edge e j q r) n in
-        (F, fork-in, inr (subst (Ends ws) (sym (from-is e gatherEdge j k q r (w .0 .1) u (w .2))) (ends-of ws (w .0) (w .1)), to-is e gatherEdge j k q r (w .0 .1) u (w .2)))
+        (F, fork-in, inr (subst (In (endsOf ws)) (sym (from-is e gatherEdge j k q r (w .0 .1) u (w .2))) (in-map (λ a. a .1) ws (w .0) (w .1)), to-is e gatherEdge j k q r (w .0 .1) u (w .2)))
     rest (inr n) =
         let s = edge-when empty (edge propagateEdge k t u) (edge e j q r) n in
         (P, when-arc empty P (F ∷ []) (s .0), (from-is e propagateEdge j k q r t u (s .1), to-is e propagateEdge j k q r t u (s .1)))
@@ -88,7 +67,7 @@ free-part (unionAt empty k t ws u) q r (e, j, m, h) = go (in-split scatters (gat
     go : In scatters (edge e j q r) ⊎ In (gathers ++ over) (edge e j q r) → StillAlong (arcsOf (unionAt empty k t ws u)) q r
     go (inl n) =
         let w = map-in (λ a. edge scatterEdge k t (a .0)) ws (edge e j q r) n in
-        (F, fork-in, inl (from-is e scatterEdge j k q r t (w .0 .0) (w .2), subst (Starts ws) (sym (to-is e scatterEdge j k q r t (w .0 .0) (w .2))) (starts-of ws (w .0) (w .1))))
+        (F, fork-in, inl (from-is e scatterEdge j k q r t (w .0 .0) (w .2), subst (In (startsOf ws)) (sym (to-is e scatterEdge j k q r t (w .0 .0) (w .2))) (in-map (λ a. a .0) ws (w .0) (w .1))))
     go (inr n) = rest (in-split gathers over (edge e j q r) n)
 
 part-free : (p : Part) (q r : ℕ) → StillAlong (arcsOf p) q r → FreeIn (edgesOf p) q r
@@ -108,9 +87,13 @@ part-free (letterAt c x k i) q r (a, m, h) = go m
 
     skip : (T (canSkip x) × (a ≡ S)) ⊎ In [] a → Found
     skip (inl s) =
-        let n = moved S (s .1) in
-        (propagateEdge, k, inr (later (whenEdge (canLoop x) (edge (loopEdge c) k (suc i) (suc i))) (whenEdge (canSkip x) (edge propagateEdge k i (suc i))) (edge propagateEdge k q r)
-        (subst (In (whenEdge (canSkip x) (edge propagateEdge k i (suc i)))) (λ l. edge propagateEdge k (sym (n .0) l) (sym (n .1) l)) (when-edge (canSkip x) (edge propagateEdge k i (suc i)) (s .0)))), tt)
+        let n = moved S (s .1) in (
+          propagateEdge,
+          k,
+          inr (later (whenEdge (canLoop x) (edge (loopEdge c) k (suc i) (suc i))) (whenEdge (canSkip x) (edge propagateEdge k i (suc i))) (edge propagateEdge k q r)
+              (subst (In (whenEdge (canSkip x) (edge propagateEdge k i (suc i)))) (λ l. edge propagateEdge k (sym (n .0) l) (sym (n .1) l)) (when-edge (canSkip x) (edge propagateEdge k i (suc i)) (s .0)))),
+          tt,
+        )
     skip (inr n) = absurd n
 
     loop : (T (canLoop x) × (a ≡ L)) ⊎ In (when (canSkip x) S []) a → Found
@@ -143,21 +126,33 @@ part-free (unionAt empty k t ws u) q r (a, m, h) = go (arc-when empty P (F ∷ [
     moved : (b : Arc) → a ≡ b → Still (b .kind) (b .from) (b .to) q r
     moved b s = subst (λ (y : Arc). Still (y .kind) (y .from) (y .to) q r) s h
 
-    fork : ((q ≡ t) × Starts ws r) ⊎ (Ends ws q × (r ≡ u)) → Found
+    fork : ((q ≡ t) × In (startsOf ws) r) ⊎ (In (endsOf ws) q × (r ≡ u)) → Found
     fork (inl n) =
-        let w = of-starts ws r (n .1) in
-        (scatterEdge, k, in-left scatters (gathers ++ over) (edge scatterEdge k q r)
-        (subst (In scatters) (λ l. edge scatterEdge k (sym (n .0) l) (sym (w .2) l)) (in-map (λ a. edge scatterEdge k t (a .0)) ws (w .0) (w .1))), tt)
+        let w = map-in (λ a. a .0) ws r (n .1) in (
+          scatterEdge,
+          k,
+          sooner scatters (gathers ++ over) (edge scatterEdge k q r)
+              (subst (In scatters) (λ l. edge scatterEdge k (sym (n .0) l) (sym (w .2) l)) (in-map (λ a. edge scatterEdge k t (a .0)) ws (w .0) (w .1))),
+          tt,
+        )
     fork (inr n) =
-        let w = of-ends ws q (n .0) in
-        (gatherEdge, k, later scatters (gathers ++ over) (edge gatherEdge k q r) (in-left gathers over (edge gatherEdge k q r)
-        (subst (In gathers) (λ l. edge gatherEdge k (sym (w .2) l) (sym (n .1) l)) (in-map (λ a. edge gatherEdge k (a .1) u) ws (w .0) (w .1)))), tt)
+        let w = map-in (λ a. a .1) ws q (n .0) in (
+          gatherEdge,
+          k,
+          later scatters (gathers ++ over) (edge gatherEdge k q r) (sooner gathers over (edge gatherEdge k q r)
+              (subst (In gathers) (λ l. edge gatherEdge k (sym (w .2) l) (sym (n .1) l)) (in-map (λ a. edge gatherEdge k (a .1) u) ws (w .0) (w .1)))),
+          tt,
+        )
 
     go : (T empty × (a ≡ P)) ⊎ In (F ∷ []) a → Found
     go (inl s) =
-        let n = moved P (s .1) in
-        (propagateEdge, k, later scatters (gathers ++ over) (edge propagateEdge k q r) (later gathers over (edge propagateEdge k q r)
-        (subst (In over) (λ l. edge propagateEdge k (sym (n .0) l) (sym (n .1) l)) (when-edge empty (edge propagateEdge k t u) (s .0)))), tt)
+        let n = moved P (s .1) in (
+          propagateEdge,
+          k,
+          later scatters (gathers ++ over) (edge propagateEdge k q r) (later gathers over (edge propagateEdge k q r)
+              (subst (In over) (λ l. edge propagateEdge k (sym (n .0) l) (sym (n .1) l)) (when-edge empty (edge propagateEdge k t u) (s .0)))),
+          tt,
+        )
     go (inr (inl s)) = fork (moved F s)
     go (inr (inr n)) = absurd n
 

@@ -12,9 +12,9 @@ use Rattle.model.proofs.Language.Arcs.{Arc, arc, arcs, propagateArc, fo
 use Rattle.model.proofs.Language.Stretches.{feed}
 use Rattle.model.proofs.Passes.Closure.{AnyEdge}
 use Rattle.model.proofs.Passes.OnTrees.{Gathers, Propagates, Scatters}
-use Rattle.model.proofs.Words.InOrder.{Full}
+use Rattle.model.proofs.Words.Full.{Full}
 use Rattle.model.proofs.Words.Passes.{bits-are, passed}
-use Rattle.model.proofs.Ends.Run.{moved, moved-out, moved-in, Moved, still-eps, first, liveSet}
+use Rattle.model.proofs.Ends.Run.{moved, moved-out, moved-in, Moved, still-free, startSet, liveSet}
 use Rattle.model.proofs.Definitions.Parts.{StillAlong}
 use Rattle.model.proofs.Definitions.Free.{free-is}
 use Rattle.model.proofs.Definitions.Takes.{takes-is}
@@ -37,7 +37,7 @@ module _ (t : Tree) (F : Full t) where
       go (inr (inr e)) = (arc (forkArc (e .1 .0)) (e .0) q (e .1 .1), e .1 .2, inl (refl, e .1 .3))
 
   free-silent : (q r : ℕ) → Free t q r → Silent q r
-  free-silent q r h = let a = free-is t q r .0 h in still-eps t F (a .0) q r (a .1) (a .2)
+  free-silent q r h = let a = free-is t q r .0 h in still-free t F (a .0 .kind) (a .0 .level) (a .0 .from) (a .0 .to) q r (a .1) (a .2)
 
   -- the passes from any set give what the edges without a letter reach
   pub passed-is : (D : ℕ → Bool) (q : ℕ) → T (passed t F (depth t) D q) ↔ Reached (Free t) (λ x. T (D x)) q
@@ -47,10 +47,10 @@ module _ (t : Tree) (F : Full t) where
   )
 
   -- BEFORE ANY BYTE
-  pub before-is : (q : ℕ) → T (passed t F (depth t) (first t F) q) ↔ Before t q
+  pub before-is : (q : ℕ) → T (passed t F (depth t) startSet q) ↔ Before t q
   before-is q = (
-    λ h. reached-map (λ x y e. e) (λ x k. eqb→eq x 0 k) (passed-is (first t F) q .0 h),
-    λ h. passed-is (first t F) q .1 (reached-map (λ x y e. e) (λ x k. subst (λ (y : ℕ). T (first t F y)) (sym k) (eqb-refl 0)) h),
+    λ h. reached-map (λ x y e. e) (λ x k. eqb→eq x 0 k) (passed-is startSet q .0 h),
+    λ h. passed-is startSet q .1 (reached-map (λ x y e. e) (λ x k. subst (λ (y : ℕ). T (startSet y)) (sym k) (eqb-refl 0)) h),
   )
 
   -- AFTER A BYTE, from any set of states

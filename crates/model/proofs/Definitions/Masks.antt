@@ -43,7 +43,7 @@ module _ (p : Edge → Bool) (f : Arc → Bool)
   edges-of (unionAt empty k t ws u) =
       any-app p scatters (gathers ++ over)
       ∙ ap₂ _||_ (any-map-none (λ a. edge scatterEdge k t (a .0)) p (λ a. at-scatter k t (a .0)) ws)
-        (any-app p gathers over ∙ ap (λ (b : Bool). b || any p over) (any-map-none (λ a. edge gatherEdge k (a .1) u) p (λ a. at-gather k (a .1) u) ws))
+      (any-app p gathers over ∙ ap (λ (b : Bool). b || any p over) (any-map-none (λ a. edge gatherEdge k (a .1) u) p (λ a. at-gather k (a .1) u) ws))
       ∙ go empty
     where
       scatters : List Edge
@@ -142,8 +142,8 @@ image-is t =
     ++ (section (join (depth t) 0 (λ k. row m (λ x. masks-are t scatter-block k x i) ++ (row m (λ x. masks-are t scatter-source k x i) ++ row m (λ x. masks-are t scatter-target k x i))))
     ++ (section (join (depth t) 0 (λ k. row m (λ x. masks-are t gather-block k x i) ++ (row m (λ x. masks-are t gather-source k x i) ++ row m (λ x. masks-are t gather-target k x i))))
     ++ section (join (suc (depth t)) 0 (λ k.
-      row m (λ x. masks-are t leaving k x i || masks-are t entering k x i)
-      ++ (row m (λ x. masks-are t leaving k x i && not (masks-are t entering k x i)) ++ row m (λ x. masks-are t entering k x i && not (masks-are t leaving k x i)))))))))
+    row m (λ x. masks-are t leaving k x i || masks-are t entering k x i)
+    ++ (row m (λ x. masks-are t leaving k x i && not (masks-are t entering k x i)) ++ row m (λ x. masks-are t entering k x i && not (masks-are t leaving k x i)))))))))
   where
     m : ℕ
     m = states t

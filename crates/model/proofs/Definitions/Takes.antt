@@ -11,8 +11,8 @@ use Rattle.model.specs.Edges.{Part, letterAt, unionAt, parts, EdgeKind, 
 use Rattle.model.specs.Edges.{when as whenEdge}
 use Rattle.model.specs.Live.{Takes}
 use Rattle.model.proofs.Laws.Bool.{or-left}
-use Rattle.model.proofs.Laws.Lists.{In}
-use Rattle.model.proofs.Laws.Each.{in-left, in-split, map-in, in-each, each-in}
+use Rattle.model.proofs.Laws.Lists.{In, sooner, in-split}
+use Rattle.model.proofs.Laws.Each.{map-in, in-each, each-in}
 use Rattle.model.proofs.Language.Arcs.{letterArc, loopArc, propagateArc, forkArc, Arc, arc, when, arcs, Byte}
 use Rattle.model.proofs.Definitions.Parts.{arcsOf, arcs-are, ByteAlong, edge-when, when-edge, arc-when, when-arc, kind-is, from-is, to-is}
 
@@ -93,9 +93,13 @@ part-takes (letterAt c x k i) b q r (a, m, h) = go m
     loop : (T (canLoop x) × (a ≡ L)) ⊎ In (when (canSkip x) S []) a → Found
     loop (inl s) =
         let n = moved L (s .1) in
-        let w = whenEdge (canLoop x) (edge (loopEdge c) k (suc i) (suc i)) in
-        (loopEdge c, k, inr (in-left w (whenEdge (canSkip x) (edge propagateEdge k i (suc i))) (edge (loopEdge c) k q r)
-        (subst (In w) (λ l. edge (loopEdge c) k (sym (n .1) l) (sym (n .2) l)) (when-edge (canLoop x) (edge (loopEdge c) k (suc i) (suc i)) (s .0)))), n .0)
+        let w = whenEdge (canLoop x) (edge (loopEdge c) k (suc i) (suc i)) in (
+          loopEdge c,
+          k,
+          inr (sooner w (whenEdge (canSkip x) (edge propagateEdge k i (suc i))) (edge (loopEdge c) k q r)
+              (subst (In w) (λ l. edge (loopEdge c) k (sym (n .1) l) (sym (n .2) l)) (when-edge (canLoop x) (edge (loopEdge c) k (suc i) (suc i)) (s .0)))),
+          n .0,
+        )
     loop (inr n) = skip (arc-when (canSkip x) S [] a n)
 
     go : In (arcsOf (letterAt c x k i)) a → Found

@@ -13,9 +13,11 @@ use Rattle.model.specs.Edges.{accepting, states, depth}
 use Rattle.model.specs.Ends.{End, EndsAre}
 use Rattle.model.specs.Image.{width}
 use Rattle.model.proofs.Language.Stretches.{feed}
-use Rattle.model.proofs.Words.InOrder.{Full}
-use Rattle.model.proofs.Words.Bits.{value}
-use Rattle.model.proofs.Words.Run.{Bytes, runWords, treeMasks, tree-carry, end-words}
+use Rattle.model.proofs.Words.Full.{Full}
+use Rattle.model.specs.Models.Words.{value}
+use Rattle.model.specs.Models.Run.{runWords}
+use Rattle.model.proofs.Words.Run.{Bytes, end-words}
+use Rattle.model.proofs.Words.ImageRun.{treeMasks, tree-carry}
 use Rattle.model.proofs.Ends.Stops.{StopsAt}
 use Rattle.model.proofs.Image.Apart.{room}
 use Rattle.model.proofs.Definitions.Ends.{end-stops}

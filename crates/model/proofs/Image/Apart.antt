@@ -11,10 +11,11 @@ use lib.Pow.{pow-add, pow-mono}
 use Rattle.model.specs.Bits.{bit, mask}
 use Rattle.model.specs.Tree.{Repeat, once, option, plus, star}
 use Rattle.model.specs.Image.{join, section, width, words}
+use Rattle.model.specs.Models.Words.{value}
 use Rattle.model.proofs.Image.Laid.{blockOf, build, set, sourceOf, targetOf, three}
 use Rattle.model.proofs.Image.LayOut.{Which, gather-block, gather-source, gather-target, scatter-block, scatter-source, scatter-target}
 use Rattle.model.proofs.Image.Tokens.{Token, aBar, aClose, aLetter, anOpen}
-use Rattle.model.proofs.Words.Bits.{bit-mask, mask-lt, value}
+use Rattle.model.proofs.Words.Bits.{bit-mask, mask-lt}
 
 -- ---- the sets that words hold
 -- part k of the parts of w words each

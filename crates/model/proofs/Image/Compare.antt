@@ -13,6 +13,7 @@ use Rattle.model.specs.Lists.{any}
 use Rattle.model.specs.Bits.{bit, mask}
 use Rattle.model.specs.Tree.{canLoop, once, option, plus, star}
 use Rattle.model.specs.Image.{join, width}
+use Rattle.model.specs.Models.Words.{Fit, andWords, bitsOf, value}
 use Rattle.model.proofs.Image.Apart.{after-G, after-R, after-S, anyTo, before, bitOf, chunk, depthWord, gatherWordsAt, letterWordsAt, propagateWordsAt, loopWordsAt, scatterWordsAt, gatherIn, gathS-is, gen, length-build, length-join, length-set, length-three, lettersIn, part-G, part-P, part-S, part-let, part-rep, propagateIn, repeatsIn, repS-is, room, scatterIn, scatS-is, stateWord, tape, tokenAt, tokenOf, wide, widthWord}
 use Rattle.model.proofs.Image.Fine.{AllFine, Fine, fine-at}
 use Rattle.model.proofs.Image.Laid.{blockOf, build, laid, tokenLetters, tokenLoops, set, sourceOf, targetOf, three}
@@ -22,9 +23,9 @@ use Rattle.model.proofs.Image.Tokens.{Token, aBar, aClose, aLetter, anO
 use Rattle.model.proofs.Image.Valid.{reach, valid}
 use Rattle.model.proofs.Image.Verdict.{accepts, anyTo-in, sameWords, sameWords-eq, sameWords-refl, no-bits, some-bit}
 use Rattle.model.proofs.Laws.Bool.{and-both, and-split, is-true, le-or-lt, unequal}
-use Rattle.model.proofs.Words.Bits.{bit-ext, bit-mask, bitsOf, value}
-use Rattle.model.proofs.Words.Borrows.{Fit}
-use Rattle.model.proofs.Words.Operations.{Holds, andWords, near-and, none-and-l, set-holds, val-lt, width-is}
+use Rattle.model.proofs.Words.Bits.{bit-ext, bit-mask}
+use Rattle.model.proofs.Words.Holds.{Holds, set-holds, val-lt, width-is}
+use Rattle.model.proofs.Words.Operations.{near-and, none-and-l}
 
 -- ---- rows of words with the same bits
 val-inj : (xs ys : List ℕ) → length xs ≡ length ys → Fit xs → Fit ys → value xs ≡ value ys → xs ≡ ys

@@ -22,11 +22,11 @@ use Rattle.model.proofs.Image.Valid.{reach, valid}
 use Rattle.model.proofs.Language.Arcs.{Arc, ArcKind, arcs, forkArc, letterArc, loopArc, propagateArc}
 use Rattle.model.proofs.Laws.Bool.{and-split, same-truth}
 use Rattle.model.proofs.Laws.Lists.{any-out}
-use Rattle.model.proofs.Words.Gather.{gatherBlockOf, gatherSourceOf}
-use Rattle.model.proofs.Words.InOrder.{forksOf, propagatesOf}
-use Rattle.model.proofs.Words.Passes.{gatherTargetOf, scatterTargetOf}
+use Rattle.model.proofs.Words.Gather.{gatherBlockOf, gatherSourceOf, gatherTargetOf}
+use Rattle.model.proofs.Words.Chains.{propagatesOf}
+use Rattle.model.proofs.Words.Forks.{forksOf}
 use Rattle.model.proofs.Words.Propagate.{entersOf, leavesOf}
-use Rattle.model.proofs.Words.Scatter.{scatterBlockOf, scatterSourceOf}
+use Rattle.model.proofs.Words.Scatter.{scatterBlockOf, scatterSourceOf, scatterTargetOf}
 
 -- ---- the depth that the scan reaches is that of the tree
 abbrev mutual

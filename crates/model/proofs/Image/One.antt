@@ -11,6 +11,8 @@ use Rattle.model.specs.Bits.{bit}
 use Rattle.model.specs.Tree.{Seq}
 use Rattle.model.specs.Edges.{seqEnd}
 use Rattle.model.specs.Image.{words}
+use Rattle.model.specs.Models.Run.{runWords}
+use Rattle.model.specs.Models.Words.{value}
 use Rattle.model.proofs.Ends.Stops.{StopsAt}
 use Rattle.model.proofs.Image.Apart.{depthWord, tape}
 use Rattle.model.proofs.Image.Fine.{AllFine}
@@ -19,8 +21,8 @@ use Rattle.model.proofs.Image.Tokens.{tokens, tokens-inj}
 use Rattle.model.proofs.Image.Valid.{good-full}
 use Rattle.model.proofs.Image.Verdict.{IsImage, is-image, isImage, tape-is}
 use Rattle.model.proofs.Language.Stretches.{feed}
-use Rattle.model.proofs.Words.Bits.{value}
-use Rattle.model.proofs.Words.Run.{Bytes, image-ends, imageMasks, runWords}
+use Rattle.model.proofs.Words.ImageRun.{image-ends, imageMasks}
+use Rattle.model.proofs.Words.Run.{Bytes}
 
 -- the image determines the tree
 pub image-inj : (s s′ : Seq) → AllFine (tokens s []) → AllFine (tokens s′ []) → arcImage s ≡ arcImage s′ → s ≡ s′

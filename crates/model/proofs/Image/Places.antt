@@ -16,15 +16,17 @@ use Rattle.model.proofs.Language.Arcs.{Arc, ArcKind, arcs, branch-whole
 use Rattle.model.proofs.Language.Languages.{seqEnd-le, altsEnd-lt}
 use Rattle.model.proofs.Laws.Bool.{and-split}
 use Rattle.model.proofs.Laws.Lists.{all-app, all-in, any-app, any-out}
-use Rattle.model.proofs.Words.Gather.{gatherBlockOf, gatherSourceOf}
-use Rattle.model.proofs.Words.InOrder.{Full, FullA, ends-between, forksOf, keep, last-in, noFork, ofPropagate, pick, propagatesOf, starts-between, ofFork, noPropagate}
-use Rattle.model.proofs.Words.Passes.{gatherTargetOf, scatterTargetOf}
+use Rattle.model.proofs.Words.Gather.{gatherBlockOf, gatherSourceOf, gatherTargetOf}
+use Rattle.model.proofs.Words.Chains.{noFork, ofPropagate, propagatesOf}
+use Rattle.model.proofs.Words.Forks.{Union, forksOf, noPropagate, ofFork}
+use Rattle.model.proofs.Words.Full.{Full, FullA, ends-between, last-in, starts-between}
+use Rattle.model.proofs.Words.InOrder.{keep, pick}
 use Rattle.model.proofs.Words.Propagate.{entersOf, leavesOf}
-use Rattle.model.proofs.Words.Scatter.{Union, scatterBlockOf, scatterSourceOf}
+use Rattle.model.proofs.Words.Scatter.{scatterBlockOf, scatterSourceOf, scatterTargetOf}
 
 -- a test of the unions of depth k, as a test of the arcs
 module _ (p : Union → Bool) (h : ArcKind → ℕ → ℕ → Bool) (at-take : (c i j : ℕ) → h (letterArc c) i j ≡ false) (at-loop : (c i j : ℕ) → h (loopArc c) i j ≡ false) (at-prop : (i j : ℕ) → h propagateArc i j ≡ false)
-    (at-fork : (xs : List Way) (i j : ℕ) → h (forkArc xs) i j ≡ p (record { level = 0; open′ = i; close = j; first = firstEnd xs; final = lastStart xs; starts = startsOf xs; ends = endsOf xs })) where
+    (at-fork : (xs : List Way) (i j : ℕ) → h (forkArc xs) i j ≡ p (record { start = i; close = j; first = firstEnd xs; final = lastStart xs; starts = startsOf xs; ends = endsOf xs })) where
   forks-any : (k : ℕ) (es : List Arc) → any (λ e. h (e .kind) (e .from) (e .to) && eqb (e .level) k) es ≡ any p (forksOf k es)
   forks-any k [] = refl
   forks-any k (e ∷ es) =
@@ -42,7 +44,7 @@ module _ (p : Union → Bool) (h : ArcKind → ℕ → ℕ → Bool) (at-take : 
       go (loopArc c) false = ap (λ (b : Bool). b && false) (at-loop c (e .from) (e .to))
       go propagateArc true = ap (λ (b : Bool). b && true) (at-prop (e .from) (e .to))
       go propagateArc false = ap (λ (b : Bool). b && false) (at-prop (e .from) (e .to))
-      go (forkArc xs) true = ap (λ (b : Bool). b && true) (at-fork xs (e .from) (e .to)) ∙ tidy (p (record { level = 0; open′ = e .from; close = e .to; first = firstEnd xs; final = lastStart xs; starts = startsOf xs; ends = endsOf xs }))
+      go (forkArc xs) true = ap (λ (b : Bool). b && true) (at-fork xs (e .from) (e .to)) ∙ tidy (p (record { start = e .from; close = e .to; first = firstEnd xs; final = lastStart xs; starts = startsOf xs; ends = endsOf xs }))
       go (forkArc xs) false = mathlib.Core.Bool.and-false (h (forkArc xs) (e .from) (e .to))
 
 -- a test of the propagate edges of depth k
@@ -74,7 +76,7 @@ module _ (s : Seq) (k x : ℕ) where
   lay-blkS = lay-out-is scatter-block k x s ∙ forks-any (λ u. eqb x (suc (u .final))) (onKind scatter-block x) (λ c i j. refl) (λ c i j. refl) (λ i j. refl) (λ xs i j. refl) k (arcs s 0 0)
 
   pub lay-srcS : laid scatter-source ≡ scatterSourceOf fs x
-  lay-srcS = lay-out-is scatter-source k x s ∙ forks-any (λ u. eqb x (u .open′)) (onKind scatter-source x) (λ c i j. refl) (λ c i j. refl) (λ i j. refl) (λ xs i j. refl) k (arcs s 0 0)
+  lay-srcS = lay-out-is scatter-source k x s ∙ forks-any (λ u. eqb x (u .start)) (onKind scatter-source x) (λ c i j. refl) (λ c i j. refl) (λ i j. refl) (λ xs i j. refl) k (arcs s 0 0)
 
   pub lay-tgtS : laid scatter-target ≡ scatterTargetOf fs x
   lay-tgtS = lay-out-is scatter-target k x s ∙ forks-any (λ u. within x (u .starts)) (onKind scatter-target x) (λ c i j. refl) (λ c i j. refl) (λ i j. refl) (λ xs i j. refl) k (arcs s 0 0)

@@ -8,11 +8,11 @@ use Rattle.model.specs.Edges.{depth, seqEnd}
 use Rattle.model.specs.Image.{join, section, words}
 use Rattle.model.proofs.Ends.Run.{letterSet, loopSet}
 use Rattle.model.proofs.Language.Arcs.{Arc, arcs}
-use Rattle.model.proofs.Words.Gather.{gatherBlockOf, gatherSourceOf}
-use Rattle.model.proofs.Words.InOrder.{forksOf, propagatesOf}
-use Rattle.model.proofs.Words.Passes.{gatherTargetOf, scatterTargetOf}
+use Rattle.model.proofs.Words.Gather.{gatherBlockOf, gatherSourceOf, gatherTargetOf}
+use Rattle.model.proofs.Words.Chains.{propagatesOf}
+use Rattle.model.proofs.Words.Forks.{forksOf}
 use Rattle.model.proofs.Words.Propagate.{entersOf, leavesOf}
-use Rattle.model.proofs.Words.Scatter.{scatterBlockOf, scatterSourceOf}
+use Rattle.model.proofs.Words.Scatter.{scatterBlockOf, scatterSourceOf, scatterTargetOf}
 
 module _ (s : Seq) where
   abbrev m : ℕ

@@ -12,7 +12,7 @@ use Rattle.model.specs.Edges.{altsDepth, altsEmpty, altsEnd, depth, seqE
 use Rattle.model.proofs.Image.LayOut.{Frame, Scan, begin, frame, isEnd, onBar, onClose, scan, step}
 use Rattle.model.proofs.Image.Tokens.{Token, aBar, aClose, aLetter, altsTokens, anOpen, at, parse, tokens}
 use Rattle.model.proofs.Laws.Bool.{and-both, and-split}
-use Rattle.model.proofs.Words.InOrder.{Full, FullA, NonEmpty}
+use Rattle.model.proofs.Words.Full.{Full, FullA, NonEmpty}
 
 -- no empty alternative, no union of one
 abbrev pub Two : Alts → Type 0

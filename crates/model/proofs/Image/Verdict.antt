@@ -28,7 +28,7 @@ use Rattle.model.proofs.Language.Arcs.{Arc, ArcKind, arcs, branch-whole
 use Rattle.model.proofs.Laws.Bool.{and-both, and-split, is-true, or-left, or-right, or-split, same-truth}
 use Rattle.model.proofs.Laws.Lists.{In, all-app, all-in, any-in, any-out}
 use Rattle.model.proofs.Words.Bits.{bit-ext, bit-mask, mask-lt}
-use Rattle.model.proofs.Words.InOrder.{NonEmpty}
+use Rattle.model.proofs.Words.Full.{NonEmpty}
 
 -- ---- a test of some number below n
 pub anyTo-in : (n : ℕ) (p : ℕ → Bool) (k : ℕ) → k < n → T (p k) → T (anyTo n p)

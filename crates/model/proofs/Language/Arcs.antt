@@ -1,17 +1,18 @@
--- Edges, second form: a union's scatter and gather edges are one arc.
+-- THE EDGES OF A TREE AS ARCS: a union's scatter and gather edges are one arc, a fork, so that each item of a tree gives its arcs beside those of its
+-- parts. What holds for all arcs of a tree is shown item by item (`letter-whole`, `branch-whole`).
 use mathlib.Core.Path.{_≡_}
 use mathlib.Core.Logic.{_⊎_}
 use mathlib.Core.Bool.{Bool, true, false}
 use mathlib.Core.List.{List, [], _∷_, _++_}
 use Prim.Native.Nat.{ℕ, suc}
 use lib.Dec.{T}
-use Rattle.model.specs.Lists.{All}
+use Rattle.model.specs.Lists.{_∈_, All}
 use Rattle.model.specs.Bits.{bit}
 use Rattle.model.specs.Tree.{Alts, Repeat, Seq, canLoop, canSkip, end, last, letter, more, union}
-use Rattle.model.specs.Edges.{Way, altsEmpty, altsEnd, seqEnd, ways}
+use Rattle.model.specs.Edges.{Way, altsEmpty, altsEnd, endsOf, seqEnd, startsOf, ways}
 use Rattle.model.proofs.Laws.Lists.{all-app, all-left, all-right}
 
--- a fork holds each alternative's start and end
+-- of what kind an arc is; a fork holds each alternative's start and end
 pub data ArcKind : Type 0 where
   letterArc loopArc : ℕ → ArcKind
   propagateArc : ArcKind
@@ -30,30 +31,26 @@ abbrev pub when : Bool → Arc → List Arc → List Arc
 when true e es = e ∷ es
 when false e es = es
 
+-- the arcs of a sequence that starts in t at depth k; of the alternatives after state p of a union at depth k
 abbrev mutual
   pub arcs : Seq → ℕ → ℕ → List Arc
   arcs end t k = []
-  arcs (letter c r s) t k = arc (letterArc c) k t (suc t) ∷ when (canLoop r) (arc (loopArc c) k (suc t) (suc t)) (when (canSkip r) (arc propagateArc k t (suc t)) (arcs s (suc t) k))
-  arcs (union a s) t k = when (altsEmpty a) (arc propagateArc k t (suc (altsEnd a t))) (arc (forkArc (ways a t)) k t (suc (altsEnd a t)) ∷ (altsArcs a t k ++ arcs s (suc (altsEnd a t)) k))
+  arcs (letter c r s) t k =
+      arc (letterArc c) k t (suc t) ∷ when (canLoop r) (arc (loopArc c) k (suc t) (suc t)) (when (canSkip r) (arc propagateArc k t (suc t)) (arcs s (suc t) k))
+  arcs (union a s) t k =
+      when (altsEmpty a) (arc propagateArc k t (suc (altsEnd a t)))
+      (arc (forkArc (ways a t)) k t (suc (altsEnd a t)) ∷ (altsArcs a t k ++ arcs s (suc (altsEnd a t)) k))
 
   pub altsArcs : Alts → ℕ → ℕ → List Arc
   altsArcs (last s) p k = arcs s (suc p) (suc k)
   altsArcs (more s a) p k = arcs s (suc p) (suc k) ++ altsArcs a (seqEnd s (suc p)) k
 
--- the moves along an arc: without a letter, and by a byte
-abbrev pub Starts : List Way → ℕ → Type 0
-Starts [] r = ⊥
-Starts (x ∷ xs) r = (r ≡ x .0) ⊎ Starts xs r
-
-abbrev pub Ends : List Way → ℕ → Type 0
-Ends [] q = ⊥
-Ends (x ∷ xs) q = (q ≡ x .1) ⊎ Ends xs q
-
+-- the moves from q to r along an arc from i to j: without a letter, and by the byte b
 abbrev pub Still : ArcKind → ℕ → ℕ → ℕ → ℕ → Type 0
 Still (letterArc c) i j q r = ⊥
 Still (loopArc c) i j q r = ⊥
 Still propagateArc i j q r = (q ≡ i) × (r ≡ j)
-Still (forkArc xs) i j q r = ((q ≡ i) × Starts xs r) ⊎ (Ends xs q × (r ≡ j))
+Still (forkArc xs) i j q r = ((q ≡ i) × (r ∈ startsOf xs)) ⊎ ((q ∈ endsOf xs) × (r ≡ j))
 
 abbrev pub Byte : ℕ → ArcKind → ℕ → ℕ → ℕ → ℕ → Type 0
 Byte b (letterArc c) i j q r = T (bit c b) × (q ≡ i) × (r ≡ j)
@@ -61,19 +58,20 @@ Byte b (loopArc c) i j q r = T (bit c b) × (q ≡ i) × (r ≡ j)
 Byte b propagateArc i j q r = ⊥
 Byte b (forkArc xs) i j q r = ⊥
 
-pub all-when : (Q : Arc → Type 0) (b : Bool) (e : Arc) (es : List Arc) → (T b → Q e) → All Q es → All Q (when b e es)
+-- ---- what holds for all arcs, where one of them is there only if a test passes
+all-when : (Q : Arc → Type 0) (b : Bool) (e : Arc) (es : List Arc) → (T b → Q e) → All Q es → All Q (when b e es)
 all-when Q true e es h k = (h tt, k)
 all-when Q false e es h k = k
 
-pub when-head : (Q : Arc → Type 0) (b : Bool) (e : Arc) (es : List Arc) → All Q (when b e es) → T b → Q e
+when-head : (Q : Arc → Type 0) (b : Bool) (e : Arc) (es : List Arc) → All Q (when b e es) → T b → Q e
 when-head Q true e es h x = h .0
 when-head Q false e es h x = absurd x
 
-pub when-tail : (Q : Arc → Type 0) (b : Bool) (e : Arc) (es : List Arc) → All Q (when b e es) → All Q es
+when-tail : (Q : Arc → Type 0) (b : Bool) (e : Arc) (es : List Arc) → All Q (when b e es) → All Q es
 when-tail Q true e es h = h .1
 when-tail Q false e es h = h
 
--- the parts of a tree's arcs
+-- ---- what holds for all arcs of a tree holds for those of its first item and of its parts, and the other way round
 module _ (E : Arc → Type 0) where
   pub record Letter (c : ℕ) (r : Repeat) (s : Seq) (t k : ℕ) : Type 0 where
     pub takes : E (arc (letterArc c) k t (suc t))
@@ -111,9 +109,15 @@ module _ (E : Arc → Type 0) where
       let u = suc (altsEnd a t) in
       let es = arc (forkArc (ways a t)) k t u ∷ (altsArcs a t k ++ arcs s u k) in
       let B = when-tail E (altsEmpty a) (arc propagateArc k t u) es A in
-      record { skips = when-head E (altsEmpty a) (arc propagateArc k t u) es A; forks = B .0; alts = all-left E (altsArcs a t k) (arcs s u k) (B .1); rest = all-right E (altsArcs a t k) (arcs s u k) (B .1) }
+      record {
+        skips = when-head E (altsEmpty a) (arc propagateArc k t u) es A;
+        forks = B .0;
+        alts = all-left E (altsArcs a t k) (arcs s u k) (B .1);
+        rest = all-right E (altsArcs a t k) (arcs s u k) (B .1);
+      }
 
   pub branch-whole : (a : Alts) (s : Seq) (t k : ℕ) → Branch a s t k → All E (arcs (union a s) t k)
   branch-whole a s t k A =
       let u = suc (altsEnd a t) in
-      all-when E (altsEmpty a) (arc propagateArc k t u) (arc (forkArc (ways a t)) k t u ∷ (altsArcs a t k ++ arcs s u k)) (A .skips) (A .forks, all-app E (altsArcs a t k) (arcs s u k) (A .alts) (A .rest))
+      all-when E (altsEmpty a) (arc propagateArc k t u) (arc (forkArc (ways a t)) k t u ∷ (altsArcs a t k ++ arcs s u k)) (A .skips)
+      (A .forks, all-app E (altsArcs a t k) (arcs s u k) (A .alts) (A .rest))

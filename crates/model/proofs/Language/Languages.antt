@@ -1,5 +1,5 @@
--- The texts that lead to a state, and the states that a text leads to.
--- A text read so far is a list of bytes with the last byte read first.
+-- LANGUAGES OF TEXTS READ SO FAR: the texts that end with what a letter, a sequence or the alternatives of a union spell, after a text of some other
+-- language. A text read so far is a list of bytes with the last byte first, so that one more byte is one more element.
 use mathlib.Core.Logic.{_⊎_, inl, inr}
 use mathlib.Core.List.{List, [], _∷_}
 use Prim.Native.Nat.{ℕ, suc, _≤_, _<_}
@@ -14,7 +14,11 @@ use Rattle.model.proofs.Laws.Bool.{and-split, or-split}
 abbrev pub Language : Type 1
 Language = List ℕ → Type 0
 
--- a text of P, and then one byte of c; one or more
+-- every text: a stretch may start at any place
+abbrev pub Any : Language
+Any w = Unit
+
+-- a text of P, and then one byte of the class c; one or more
 abbrev pub One : ℕ → Language → Language
 One c P [] = ⊥
 One c P (b ∷ w) = T (bit c b) × P w
@@ -40,7 +44,7 @@ abbrev mutual
   afterAlts (last s) P = after s P
   afterAlts (more s a) P = λ w. after s P w ⊎ afterAlts a P w
 
--- the end lies past the start
+-- ---- the end of a sequence lies at or past its start, that of alternatives past the state before them
 mutual
   pub seqEnd-le : (s : Seq) (t : ℕ) → t ≤ seqEnd s t
   seqEnd-le end t = le-refl t
@@ -51,7 +55,7 @@ mutual
   altsEnd-lt (last s) p = seqEnd-le s (suc p)
   altsEnd-lt (more s a) p = omega (arith, seqEnd-le s (suc p), altsEnd-lt a (seqEnd s (suc p)))
 
--- what can spell the empty text keeps a text
+-- ---- what can spell the empty text keeps a text; a byte of the class goes through a letter, and more go round its loop
 pub skip-letter : (c : ℕ) (r : Repeat) (P : Language) (w : List ℕ) → T (canSkip r) → P w → afterLetter c r P w
 skip-letter c once P w n h = absurd n
 skip-letter c option P w n h = inl h
@@ -59,18 +63,14 @@ skip-letter c star P w n h = inl h
 skip-letter c plus P w n h = absurd n
 
 mutual
-  pub empty-in : (s : Seq) (P : Language) (w : List ℕ) → T (seqEmpty s) → P w → after s P w
+  empty-in : (s : Seq) (P : Language) (w : List ℕ) → T (seqEmpty s) → P w → after s P w
   empty-in end P w n h = h
-  empty-in (letter c r s) P w n h = empty-in s (afterLetter c r P) w (and-split (canSkip r) (seqEmpty s) n .1) (skip-letter c r P w (and-split (canSkip r) (seqEmpty s) n .0) h)
-  empty-in (union a s) P w n h = empty-in s (afterAlts a P) w (and-split (altsEmpty a) (seqEmpty s) n .1) (altsEmpty-in a P w (and-split (altsEmpty a) (seqEmpty s) n .0) h)
+  empty-in (letter c r s) P w n h = let b = and-split (canSkip r) (seqEmpty s) n in empty-in s (afterLetter c r P) w (b .1) (skip-letter c r P w (b .0) h)
+  empty-in (union a s) P w n h = let b = and-split (altsEmpty a) (seqEmpty s) n in empty-in s (afterAlts a P) w (b .1) (altsEmpty-in a P w (b .0) h)
 
   pub altsEmpty-in : (a : Alts) (P : Language) (w : List ℕ) → T (altsEmpty a) → P w → afterAlts a P w
   altsEmpty-in (last s) P w n h = empty-in s P w n h
-  altsEmpty-in (more s a) P w n h = ⊎-elim′ (or-split (seqEmpty s) (altsEmpty a) n) (λ x. inl (empty-in s P w x h)) (λ x. inr (altsEmpty-in a P w x h))
-    where
-      ⊎-elim′ : {A B C : Type 0} → A ⊎ B → (A → C) → (B → C) → C
-      ⊎-elim′ (inl x) f g = f x
-      ⊎-elim′ (inr x) f g = g x
+  altsEmpty-in (more s a) P w n h = elim (or-split (seqEmpty s) (altsEmpty a) n) [ inl x ↦ inl (empty-in s P w x h) | inr x ↦ inr (altsEmpty-in a P w x h) ]
 
 pub take-in : (c : ℕ) (r : Repeat) (P : Language) (b : ℕ) (w : List ℕ) → T (bit c b) → P w → afterLetter c r P (b ∷ w)
 take-in c once P b w x h = (x, h)
@@ -83,7 +83,3 @@ loop-in c once P b w n x h = absurd n
 loop-in c option P b w n x h = absurd n
 loop-in c star P b w n x h = inr (x, h)
 loop-in c plus P b w n x h = (x, inr h)
-
--- every text: a stretch may start at any place
-abbrev pub Any : Language
-Any w = Unit

@@ -1,4 +1,5 @@
--- What a tree spells, and the stretches of a text.
+-- STRETCHES: a text read so far is in a tree's language exactly if it ends with a stretch that the tree spells. Item by item a text of the language
+-- after P is one of P and then one that the item spells.
 use mathlib.Core.Path.{_≡_, refl, sym, ap, _∙_, subst}
 use mathlib.Core.Logic.{_⊎_, inl, inr, _↔_}
 use mathlib.Core.List.{List, [], _∷_, _++_, reverseAux}
@@ -9,12 +10,13 @@ use Rattle.model.specs.Bits.{bit}
 use Rattle.model.specs.Tree.{Alts, Repeat, Seq, end, last, letter, more, once, option, plus, star, union}
 use Rattle.model.specs.Ends.{AltsSpell, LetterSpells, Spells}
 use Rattle.model.proofs.Language.Languages.{Any, Language, Many, One, after, afterAlts, afterLetter}
+use Rattle.model.proofs.Laws.Lists.{all-app}
 
--- every byte of a text is in the class
+-- every byte is in the class
 abbrev AllIn : ℕ → List ℕ → Type 0
 AllIn c v = All (λ b. T (bit c b)) v
 
--- v read after u, the last byte first
+-- the bytes v read after those of u
 abbrev pub feed : List ℕ → List ℕ → List ℕ
 feed u v = reverseAux v u
 
@@ -26,24 +28,19 @@ feed-app u (b ∷ x) y = feed-app (b ∷ u) x y
 abbrev Then : Language → (List ℕ → Type 0) → Language
 Then P Q w = (u : List ℕ) × (v : List ℕ) × (w ≡ feed u v) × P u × Q v
 
-all-snoc : (c : ℕ) (x : List ℕ) (b : ℕ) → AllIn c x → T (bit c b) → AllIn c (x ++ (b ∷ []))
-all-snoc c [] b h k = (k, tt)
-all-snoc c (d ∷ x) b h k = (h .0, all-snoc c x b (h .1) k)
-
+-- ---- a letter
 many-out : (c : ℕ) (P : Language) (w : List ℕ) → Many c P w → Then P (LetterSpells c plus) w
 many-out c P [] h = absurd h
-many-out c P (b ∷ w) h = go (h .1) (λ m. many-out c P w m)
+many-out c P (b ∷ w) h = elim (h .1) [ inl p ↦ (w, b ∷ [], refl, p, (b, [], refl, h .0, tt)) | inr m ↦ onto (many-out c P w m) ]
   where
-    go : P w ⊎ Many c P w → (Many c P w → Then P (LetterSpells c plus) w) → Then P (LetterSpells c plus) (b ∷ w)
-    go (inl p) ih = (w, b ∷ [], refl, p, (b, [], refl, h .0, tt))
-    go (inr m) ih =
-        let r = ih m in
+    onto : Then P (LetterSpells c plus) w → Then P (LetterSpells c plus) (b ∷ w)
+    onto r =
         let l = r .4 in (
           r .0,
           r .1 ++ (b ∷ []),
           ap {B = List ℕ} (λ x. b ∷ x) (r .2) ∙ sym (feed-app (r .0) (r .1) (b ∷ [])),
           r .3,
-          (l .0, l .1 ++ (b ∷ []), ap (λ (x : List ℕ). x ++ (b ∷ [])) (l .2), l .3, all-snoc c (l .1) b (l .4) (h .0)),
+          (l .0, l .1 ++ (b ∷ []), ap (λ (x : List ℕ). x ++ (b ∷ [])) (l .2), l .3, all-app (λ b. T (bit c b)) (l .1) (b ∷ []) (l .4) (h .0, tt)),
         )
 
 many-in : (c : ℕ) (P : Language) (u x : List ℕ) → Many c P u → AllIn c x → Many c P (feed u x)
@@ -71,40 +68,43 @@ letter-in c option P u x p (inr h) = inr (subst (λ (v : List ℕ). One c P (fee
 letter-in c star P u x p h = star-in c P u x p h
 letter-in c plus P u x p h = subst (λ (v : List ℕ). Many c P (feed u v)) (sym (h .2)) (many-in c P (h .0 ∷ u) (h .1) (h .3, inl p) (h .4))
 
+-- ---- a sequence and alternatives
 join : (P : Language) (Q R : List ℕ → Type 0) (w : List ℕ) → Then (Then P Q) R w → Then P (λ v. (x : List ℕ) × (y : List ℕ) × (v ≡ x ++ y) × Q x × R y) w
 join P Q R w h =
     let m = h .3 in
     (m .0, m .1 ++ h .1, h .2 ∙ ap (λ (z : List ℕ). feed z (h .1)) (m .2) ∙ sym (feed-app (m .0) (m .1) (h .1)), m .3, (m .1, h .1, refl, m .4, h .4))
 
 mutual
-  pub after-out : (s : Seq) (P : Language) (w : List ℕ) → after s P w → Then P (Spells s) w
+  after-out : (s : Seq) (P : Language) (w : List ℕ) → after s P w → Then P (Spells s) w
   after-out end P w h = (w, [], refl, h, refl)
   after-out (letter c r s) P w h =
       let m = after-out s (afterLetter c r P) w h in
       join P (LetterSpells c r) (Spells s) w (m .0, m .1, m .2, letter-out c r P (m .0) (m .3), m .4)
   after-out (union a s) P w h =
       let m = after-out s (afterAlts a P) w h in
-      join P (AltsSpell a) (Spells s) w (m .0, m .1, m .2, afterA-out a P (m .0) (m .3), m .4)
+      join P (AltsSpell a) (Spells s) w (m .0, m .1, m .2, alts-out a P (m .0) (m .3), m .4)
 
-  pub afterA-out : (a : Alts) (P : Language) (w : List ℕ) → afterAlts a P w → Then P (AltsSpell a) w
-  afterA-out (last s) P w h = after-out s P w h
-  afterA-out (more s a) P w (inl h) = let m = after-out s P w h in (m .0, m .1, m .2, m .3, inl (m .4))
-  afterA-out (more s a) P w (inr h) = let m = afterA-out a P w h in (m .0, m .1, m .2, m .3, inr (m .4))
+  alts-out : (a : Alts) (P : Language) (w : List ℕ) → afterAlts a P w → Then P (AltsSpell a) w
+  alts-out (last s) P w h = after-out s P w h
+  alts-out (more s a) P w (inl h) = let m = after-out s P w h in (m .0, m .1, m .2, m .3, inl (m .4))
+  alts-out (more s a) P w (inr h) = let m = alts-out a P w h in (m .0, m .1, m .2, m .3, inr (m .4))
 
 mutual
-  pub after-in : (s : Seq) (P : Language) (u v : List ℕ) → P u → Spells s v → after s P (feed u v)
+  after-in : (s : Seq) (P : Language) (u v : List ℕ) → P u → Spells s v → after s P (feed u v)
   after-in end P u v p h = subst (λ (x : List ℕ). P (feed u x)) (sym h) p
   after-in (letter c r s) P u v p h =
-      subst (after s (afterLetter c r P)) (sym (ap (feed u) (h .2) ∙ feed-app u (h .0) (h .1))) (after-in s (afterLetter c r P) (feed u (h .0)) (h .1) (letter-in c r P u (h .0) p (h .3)) (h .4))
+      subst (after s (afterLetter c r P)) (sym (ap (feed u) (h .2) ∙ feed-app u (h .0) (h .1)))
+      (after-in s (afterLetter c r P) (feed u (h .0)) (h .1) (letter-in c r P u (h .0) p (h .3)) (h .4))
   after-in (union a s) P u v p h =
-      subst (after s (afterAlts a P)) (sym (ap (feed u) (h .2) ∙ feed-app u (h .0) (h .1))) (after-in s (afterAlts a P) (feed u (h .0)) (h .1) (afterA-in a P u (h .0) p (h .3)) (h .4))
+      subst (after s (afterAlts a P)) (sym (ap (feed u) (h .2) ∙ feed-app u (h .0) (h .1)))
+      (after-in s (afterAlts a P) (feed u (h .0)) (h .1) (alts-in a P u (h .0) p (h .3)) (h .4))
 
-  pub afterA-in : (a : Alts) (P : Language) (u v : List ℕ) → P u → AltsSpell a v → afterAlts a P (feed u v)
-  afterA-in (last s) P u v p h = after-in s P u v p h
-  afterA-in (more s a) P u v p (inl h) = inl (after-in s P u v p h)
-  afterA-in (more s a) P u v p (inr h) = inr (afterA-in a P u v p h)
+  alts-in : (a : Alts) (P : Language) (u v : List ℕ) → P u → AltsSpell a v → afterAlts a P (feed u v)
+  alts-in (last s) P u v p h = after-in s P u v p h
+  alts-in (more s a) P u v p (inl h) = inl (after-in s P u v p h)
+  alts-in (more s a) P u v p (inr h) = inr (alts-in a P u v p h)
 
--- a text ends with a stretch that the tree spells
+-- THE THEOREM: a text is in the tree's language exactly if it ends with a stretch that the tree spells
 pub stretch : (s : Seq) (w : List ℕ) → after s Any w ↔ ((u : List ℕ) × (v : List ℕ) × (w ≡ feed u v) × Spells s v)
 stretch s w = (
   λ h. let m = after-out s Any w h in (m .0, m .1, m .2, m .4),

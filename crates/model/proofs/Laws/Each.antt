@@ -4,21 +4,7 @@ use mathlib.Core.Logic.{_⊎_, inl, inr}
 use mathlib.Core.Bool.{Bool, false, _||_}
 use mathlib.Core.List.{List, [], _∷_, _++_, map, append-assoc}
 use Rattle.model.specs.Lists.{any, each}
-use Rattle.model.proofs.Laws.Lists.{In, later, any-app}
-
-pub in-left : {A : Type 0} (xs ys : List A) (u : A) → In xs u → In (xs ++ ys) u
-in-left [] ys u h = absurd h
-in-left (x ∷ xs) ys u (inl e) = inl e
-in-left (x ∷ xs) ys u (inr h) = inr (in-left xs ys u h)
-
-pub in-split : {A : Type 0} (xs ys : List A) (u : A) → In (xs ++ ys) u → In xs u ⊎ In ys u
-in-split [] ys u h = inr h
-in-split (x ∷ xs) ys u (inl e) = inl (inl e)
-in-split {A} (x ∷ xs) ys u (inr h) = go (in-split xs ys u h)
-  where
-    go : In xs u ⊎ In ys u → In (x ∷ xs) u ⊎ In ys u
-    go (inl k) = inl (inr k)
-    go (inr k) = inr k
+use Rattle.model.proofs.Laws.Lists.{In, later, sooner, in-split, any-app}
 
 module _ {A B : Type 0} (f : A → B) where
   pub in-map : (xs : List A) (x : A) → In xs x → In (map f xs) (f x)
@@ -38,7 +24,7 @@ module _ {A B : Type 0} (f : A → B) where
 module _ {A B : Type 0} (f : A → List B) where
   pub in-each : (xs : List A) (x : A) (u : B) → In xs x → In (f x) u → In (each f xs) u
   in-each [] x u h k = absurd h
-  in-each (y ∷ xs) x u (inl e) k = in-left (f y) (each f xs) u (subst (λ (z : A). In (f z) u) e k)
+  in-each (y ∷ xs) x u (inl e) k = sooner (f y) (each f xs) u (subst (λ (z : A). In (f z) u) e k)
   in-each (y ∷ xs) x u (inr h) k = later (f y) (each f xs) u (in-each xs x u h k)
 
   pub each-in : (xs : List A) (u : B) → In (each f xs) u → (x : A) × In xs x × In (f x) u

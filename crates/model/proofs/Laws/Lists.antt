@@ -1,10 +1,11 @@
 -- Lists: what stands in one, what holds for all of it, and tests of some element.
 use mathlib.Core.Path.{_≡_, refl, sym, ap, _∙_, subst}
 use mathlib.Core.Logic.{_⊎_, inl, inr}
-use mathlib.Core.Bool.{Bool, true, false, _||_, or-assoc}
+use mathlib.Core.Bool.{Bool, _||_, or-assoc}
 use mathlib.Core.List.{List, [], _∷_, _++_}
-use lib.Dec.{T}
-use Rattle.model.specs.Lists.{_∈_, All, any}
+use Prim.Native.Nat.{ℕ}
+use lib.Dec.{T, eqb, eqb→eq, eqb-refl}
+use Rattle.model.specs.Lists.{_∈_, All, any, within}
 use Rattle.model.proofs.Laws.Bool.{or-left, or-right, or-split}
 
 -- the elements of a list, as a property
@@ -14,6 +15,16 @@ In xs x = x ∈ xs
 pub later : {A : Type 0} (xs ys : List A) (u : A) → In ys u → In (xs ++ ys) u
 later [] ys u h = h
 later (x ∷ xs) ys u h = inr (later xs ys u h)
+
+pub sooner : {A : Type 0} (xs ys : List A) (u : A) → In xs u → In (xs ++ ys) u
+sooner [] ys u h = absurd h
+sooner (x ∷ xs) ys u (inl e) = inl e
+sooner (x ∷ xs) ys u (inr h) = inr (sooner xs ys u h)
+
+pub in-split : {A : Type 0} (xs ys : List A) (u : A) → In (xs ++ ys) u → In xs u ⊎ In ys u
+in-split [] ys u h = inr h
+in-split (x ∷ xs) ys u (inl e) = inl (inl e)
+in-split (x ∷ xs) ys u (inr h) = elim (in-split xs ys u h) [ inl i ↦ inl (inr i) | inr i ↦ inr i ]
 
 -- ---- all
 module _ {A : Type 0} (Q : A → Type 0) where
@@ -60,3 +71,10 @@ module _ {A : Type 0} (p : A → Bool) where
   pub any-app : (xs ys : List A) → any p (xs ++ ys) ≡ (any p xs || any p ys)
   any-app [] ys = refl
   any-app (x ∷ xs) ys = ap (λ (b : Bool). p x || b) (any-app xs ys) ∙ sym (or-assoc (p x) (any p xs) (any p ys))
+
+-- a number is within a list exactly if it stands in it
+pub within-in : (ns : List ℕ) (n : ℕ) → n ∈ ns → T (within n ns)
+within-in ns n i = any-in (eqb n) ns n i (eqb-refl n)
+
+pub in-within : (ns : List ℕ) (n : ℕ) → T (within n ns) → n ∈ ns
+in-within ns n h = let r = any-out (eqb n) ns h in subst (In ns) (sym (eqb→eq n (r .0) (r .2))) (r .1)

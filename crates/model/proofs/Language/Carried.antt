@@ -1,0 +1,84 @@
+-- WHAT LEADS TO A STATE IS A TEXT OF ITS LANGUAGE: every arc of a tree carries the languages of its states along, and `LeadsTo` is the least that does.
+use mathlib.Core.Path.{_≡_, sym, subst}
+use mathlib.Core.Logic.{inl, inr}
+use mathlib.Core.List.{List, _∷_}
+use Prim.Native.Nat.{ℕ, suc}
+use lib.Dec.{T}
+use Rattle.model.specs.Lists.{_∈_, All}
+use Rattle.model.specs.Bits.{bit}
+use Rattle.model.specs.Tree.{Alts, Seq, end, last, letter, more, union}
+use Rattle.model.specs.Edges.{altsEnd, endsOf, seqEnd, startsOf, ways}
+use Rattle.model.proofs.Language.Arcs.{Arc, Byte, Still, altsArcs, arc, arcs, branch-whole, forkArc, letter-whole, propagateArc}
+use Rattle.model.proofs.Language.Languages.{Language, afterAlts, afterLetter, altsEmpty-in, loop-in, skip-letter, take-in}
+use Rattle.model.proofs.Language.Texts.{Has-alts, Has-texts, LeadsTo, at, byte, end-of, start, start-of, still, to}
+use Rattle.model.proofs.Laws.Lists.{all-app}
+
+-- an arc carries a family of languages along
+pub record Carries (L : ℕ → Language) (e : Arc) : Type 0 where
+  pub still : (q r : ℕ) → Still (e .kind) (e .from) (e .to) q r → (w : List ℕ) → L q w → L r w
+  pub byte : (b q r : ℕ) → Byte b (e .kind) (e .from) (e .to) q r → (w : List ℕ) → L q w → L r (b ∷ w)
+
+pub leads-out : (E : Arc → Type 0) (L : ℕ → Language) → ((e : Arc) → E e → Carries L e) → ((w : List ℕ) → L 0 w) → {w : List ℕ} {q : ℕ} → LeadsTo E w q → L q w
+leads-out E L c z (start {w = w}) = z w
+leads-out E L c z (still {w = w} {q = q} {r = r} e i m h) = c e i .still q r m w (leads-out E L c z h)
+leads-out E L c z (byte {b = b} {w = w} {q = q} {r = r} e i m h) = c e i .byte b q r m w (leads-out E L c z h)
+
+-- ---- the languages W of a tree's states
+module _ (W : ℕ → Language) where
+  at-state : {i j : ℕ} {w : List ℕ} → i ≡ j → W i w → W j w
+  at-state {w = w} e h = subst (λ (x : ℕ). W x w) e h
+
+  skip-carries : (k i j : ℕ) → ((w : List ℕ) → W i w → W j w) → Carries W (arc propagateArc k i j)
+  skip-carries k i j f = record { still = λ q r m w h. at-state (sym (m .1)) (f w (at-state (m .0) h)); byte = λ b q r m. absurd m }
+
+  by-byte : (c i j : ℕ) → ((b : ℕ) (w : List ℕ) → T (bit c b) → W i w → W j (b ∷ w))
+      → (b q r : ℕ) → T (bit c b) × (q ≡ i) × (r ≡ j) → (w : List ℕ) → W q w → W r (b ∷ w)
+  by-byte c i j f b q r m w h = at-state (sym (m .2)) (f b w (m .0) (at-state (m .1) h))
+
+  starts-in : (a : Alts) (t p : ℕ) (P : Language) → Has-alts W a t p P → (r : ℕ) → r ∈ startsOf (ways a p) → (w : List ℕ) → P w → W r w
+  starts-in (last s) t p P K r (inl e) w h = at-state (sym e) (to (start-of W s (suc p) P K) h)
+  starts-in (last s) t p P K r (inr x) w h = absurd x
+  starts-in (more s a) t p P K r (inl e) w h = at-state (sym e) (to (start-of W s (suc p) P (K .0)) h)
+  starts-in (more s a) t p P K r (inr x) w h = starts-in a t (seqEnd s (suc p)) P (K .1) r x w h
+
+  ends-in : (a : Alts) (t p : ℕ) (P : Language) → Has-alts W a t p P → (q : ℕ) → q ∈ endsOf (ways a p) → (w : List ℕ) → W q w → afterAlts a P w
+  ends-in (last s) t p P K q (inl e) w h = at (end-of W s (suc p) P K) (at-state e h)
+  ends-in (last s) t p P K q (inr x) w h = absurd x
+  ends-in (more s a) t p P K q (inl e) w h = inl (at (end-of W s (suc p) P (K .0)) (at-state e h))
+  ends-in (more s a) t p P K q (inr x) w h = inr (ends-in a t (seqEnd s (suc p)) P (K .1) q x w h)
+
+  -- THE THEOREM: every arc carries them along
+  mutual
+    pub carried : (s : Seq) (t k : ℕ) (P : Language) → Has-texts W s t P → All (Carries W) (arcs s t k)
+    carried end t k P K = tt
+    carried (letter c r s) t k P K =
+        let n = start-of W s (suc t) (afterLetter c r P) (K .1) in
+        letter-whole (Carries W) c r s t k (record {
+          takes = record { still = λ q r m. absurd m; byte = by-byte c t (suc t) (λ b w x h. to n (take-in c r P b w x (at (K .0) h))) };
+          loops = λ l. record { still = λ q r m. absurd m; byte = by-byte c (suc t) (suc t) (λ b w x h. to n (loop-in c r P b w l x (at n h))) };
+          skips = λ z. skip-carries k t (suc t) (λ w h. to n (skip-letter c r P w z (at (K .0) h)));
+          rest = carried s (suc t) k (afterLetter c r P) (K .1);
+        })
+    carried (union a s) t k P K =
+        branch-whole (Carries W) a s t k (record {
+          skips = λ z. skip-carries k t u (λ w h. to n (altsEmpty-in a P w z (at (K .0) h)));
+          forks = record { still = fork; byte = λ b q r m. absurd m };
+          alts = alts-carried a t t k P (K .1);
+          rest = carried s (suc (altsEnd a t)) k (afterAlts a P) (K .2);
+        })
+      where
+        u : ℕ
+        u = suc (altsEnd a t)
+
+        n : W u ≡ afterAlts a P
+        n = start-of W s u (afterAlts a P) (K .2)
+
+        fork : (q r : ℕ) → Still (forkArc (ways a t)) t u q r → (w : List ℕ) → W q w → W r w
+        fork q r (inl m) w h = starts-in a t t P (K .1) r (m .1) w (at (K .0) (at-state (m .0) h))
+        fork q r (inr m) w h = at-state (sym (m .1)) (to n (ends-in a t t P (K .1) q (m .0) w h))
+
+    alts-carried : (a : Alts) (t p k : ℕ) (P : Language) → Has-alts W a t p P → All (Carries W) (altsArcs a p k)
+    alts-carried (last s) t p k P K = carried s (suc p) (suc k) P K
+    alts-carried (more s a) t p k P K =
+        let z = seqEnd s (suc p) in
+        all-app (Carries W) (arcs s (suc p) (suc k)) (altsArcs a z k) (carried s (suc p) (suc k) P (K .0)) (alts-carried a t z k P (K .1))

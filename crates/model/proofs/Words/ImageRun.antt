@@ -1,0 +1,144 @@
+-- THE RUN ON AN IMAGE'S OWN WORDS: the masks of a tree hold its sets, both as they are made and as they stand in the words of its image, so the run on
+-- those words gives the ends of a text.
+use mathlib.Core.Path.{_≡_, sym, ap, _∙_, subst}
+use mathlib.Core.Logic.{_↔_}
+use mathlib.Core.Bool.{Bool}
+use mathlib.Core.List.{List, []}
+use Prim.Native.Nat.{ℕ, zero, suc, _*_, _≤_, _<_}
+use native.Mathlib.Nat.{le-refl}
+use native.Mathlib.Omega.{arith}
+use lib.Dec.{T}
+use lib.ListN.{take, getD}
+use Rattle.model.specs.Bits.{bit}
+use Rattle.model.specs.Tree.{Seq}
+use Rattle.model.specs.Edges.{depth, seqEnd}
+use Rattle.model.specs.Image.{width}
+use Rattle.model.specs.Models.Run.{Masks, runWords}
+use Rattle.model.specs.Models.Words.{value}
+use Rattle.model.proofs.Ends.Run.{letterSet, loopSet, startSet}
+use Rattle.model.proofs.Ends.Stops.{StopsAt}
+use Rattle.model.proofs.Image.Apart.{chunk, gatherIn, lettersIn, part-G, part-P, part-S, part-let, part-rep, propagateIn, repeatsIn, room, scatterIn, three-0, three-1, three-2, wide, widthWord}
+use Rattle.model.proofs.Image.Laid.{blockOf, set, sourceOf, targetOf, three, treeSet}
+use Rattle.model.proofs.Image.LayOut.{gather-block, gather-source, gather-target, scatter-block, scatter-source, scatter-target}
+use Rattle.model.proofs.Image.Sets.{arcImage}
+use Rattle.model.proofs.Language.Arcs.{arcs}
+use Rattle.model.proofs.Language.Stretches.{feed}
+use Rattle.model.proofs.Words.Full.{Full}
+use Rattle.model.proofs.Words.Holds.{Holds, set-holds}
+use Rattle.model.proofs.Words.Run.{Bytes, Carry, end-words}
+
+-- ---- a tree's three sets of a depth for scatter, gather and propagate: block (0), source (1) and target (2)
+abbrev pub scatterSets : Seq → ℕ → ℕ → ℕ → Bool
+scatterSets s k zero = treeSet s scatter-block k
+scatterSets s k (suc zero) = treeSet s scatter-source k
+scatterSets s k (suc (suc j)) = treeSet s scatter-target k
+
+abbrev pub gatherSets : Seq → ℕ → ℕ → ℕ → Bool
+gatherSets s k zero = treeSet s gather-block k
+gatherSets s k (suc zero) = treeSet s gather-source k
+gatherSets s k (suc (suc j)) = treeSet s gather-target k
+
+abbrev pub propagateSets : Seq → ℕ → ℕ → ℕ → Bool
+propagateSets s k zero = blockOf (treeSet s) k
+propagateSets s k (suc zero) = sourceOf (treeSet s) k
+propagateSets s k (suc (suc j)) = targetOf (treeSet s) k
+
+-- ---- the masks of the tree itself, in any number of words that has room
+abbrev pub treeMasks : ℕ → ℕ → Seq → Masks
+treeMasks m W s = record {
+  letterMask = λ b. set m W (letterSet (arcs s 0 0) b);
+  loopMask = λ b. set m W (loopSet (arcs s 0 0) b);
+  scatterMask = λ k j. set m W (scatterSets s k j);
+  gatherMask = λ k j. set m W (gatherSets s k j);
+  propagateMask = λ k j. set m W (propagateSets s k j);
+  startMask = set m W startSet;
+}
+
+pub tree-carry : (m W : ℕ) (s : Seq) → m ≤ wide W → Carry m W s (treeMasks m W s)
+tree-carry m W s r = record {
+  room = r;
+  letters = λ b l. set-holds m W (letterSet (arcs s 0 0) b) r;
+  loops = λ b l. set-holds m W (loopSet (arcs s 0 0) b) r;
+  scatter-block = λ k l. set-holds m W (scatterSets s k 0) r;
+  scatter-source = λ k l. set-holds m W (scatterSets s k 1) r;
+  scatter-target = λ k l. set-holds m W (scatterSets s k 2) r;
+  gather-block = λ k l. set-holds m W (gatherSets s k 0) r;
+  gather-source = λ k l. set-holds m W (gatherSets s k 1) r;
+  gather-target = λ k l. set-holds m W (gatherSets s k 2) r;
+  propagate-block = λ k l. set-holds m W (propagateSets s k 0) r;
+  propagate-source = λ k l. set-holds m W (propagateSets s k 1) r;
+  propagate-target = λ k l. set-holds m W (propagateSets s k 2) r;
+  start = set-holds m W startSet r;
+}
+
+-- ---- the masks as they stand in the words of an image
+abbrev pub imageMasks : List ℕ → Masks
+imageMasks ws =
+    let W = widthWord ws in
+    record {
+      letterMask = λ b. chunk W b (lettersIn ws);
+      loopMask = λ b. chunk W b (repeatsIn ws);
+      scatterMask = λ k j. chunk W j (chunk (3 * W) k (scatterIn ws));
+      gatherMask = λ k j. chunk W j (chunk (3 * W) k (gatherIn ws));
+      propagateMask = λ k j. chunk W j (chunk (3 * W) k (propagateIn ws));
+      startMask = set (getD ws 1 0) W startSet;
+    }
+
+module _ (s : Seq) where
+  abbrev m : ℕ
+  m = suc (seqEnd s 0)
+
+  abbrev W : ℕ
+  W = width m
+
+  at-set : (xs : List ℕ) (f : ℕ → Bool) → xs ≡ set m W f → Holds m W xs f
+  at-set xs f e = subst (λ (l : List ℕ). Holds m W l f) (sym e) (set-holds m W f (room m))
+
+  -- of the three masks f 0, f 1 and f 2 of one depth, each
+  module _ (f : ℕ → ℕ → Bool) (part : List ℕ) (e : part ≡ three m W (f 0) (f 1) (f 2)) where
+    first : Holds m W (chunk W 0 part) (f 0)
+    first = at-set (chunk W 0 part) (f 0) (ap (chunk W 0) e ∙ three-0 m W (f 0) (f 1) (f 2))
+
+    second : Holds m W (chunk W 1 part) (f 1)
+    second = at-set (chunk W 1 part) (f 1) (ap (chunk W 1) e ∙ three-1 m W (f 0) (f 1) (f 2))
+
+    third : Holds m W (chunk W 2 part) (f 2)
+    third = at-set (chunk W 2 part) (f 2) (ap (chunk W 2) e ∙ three-2 m W (f 0) (f 1) (f 2))
+
+  abbrev L : ℕ → ℕ → Bool
+  L = letterSet (arcs s 0 0)
+
+  abbrev R : ℕ → ℕ → Bool
+  R = loopSet (arcs s 0 0)
+
+  scatter-part : (k : ℕ) → k < depth s → chunk (3 * W) k (scatterIn (arcImage s)) ≡ three m W (scatterSets s k 0) (scatterSets s k 1) (scatterSets s k 2)
+  scatter-part k l = part-S m W (depth s) L R (treeSet s) k l
+
+  gather-part : (k : ℕ) → k < depth s → chunk (3 * W) k (gatherIn (arcImage s)) ≡ three m W (gatherSets s k 0) (gatherSets s k 1) (gatherSets s k 2)
+  gather-part k l = part-G m W (depth s) L R (treeSet s) k l
+
+  propagate-part : (k : ℕ) → k ≤ depth s → chunk (3 * W) k (propagateIn (arcImage s)) ≡ three m W (propagateSets s k 0) (propagateSets s k 1) (propagateSets s k 2)
+  propagate-part k l = part-P m W (depth s) L R (treeSet s) k (omega arith)
+
+  -- THE IMAGE'S OWN WORDS HOLD THE TREE'S SETS
+  pub image-carry : Carry m W s (imageMasks (arcImage s))
+  image-carry = record {
+    room = room m;
+    letters = λ b l. at-set (chunk W b (lettersIn (arcImage s))) (L b) (part-let m W (depth s) L R (treeSet s) b l);
+    loops = λ b l. at-set (chunk W b (repeatsIn (arcImage s))) (R b) (part-rep m W (depth s) L R (treeSet s) b l);
+    scatter-block = λ k l. first (scatterSets s k) (chunk (3 * W) k (scatterIn (arcImage s))) (scatter-part k l);
+    scatter-source = λ k l. second (scatterSets s k) (chunk (3 * W) k (scatterIn (arcImage s))) (scatter-part k l);
+    scatter-target = λ k l. third (scatterSets s k) (chunk (3 * W) k (scatterIn (arcImage s))) (scatter-part k l);
+    gather-block = λ k l. first (gatherSets s k) (chunk (3 * W) k (gatherIn (arcImage s))) (gather-part k l);
+    gather-source = λ k l. second (gatherSets s k) (chunk (3 * W) k (gatherIn (arcImage s))) (gather-part k l);
+    gather-target = λ k l. third (gatherSets s k) (chunk (3 * W) k (gatherIn (arcImage s))) (gather-part k l);
+    propagate-block = λ k l. first (propagateSets s k) (chunk (3 * W) k (propagateIn (arcImage s))) (propagate-part k l);
+    propagate-source = λ k l. second (propagateSets s k) (chunk (3 * W) k (propagateIn (arcImage s))) (propagate-part k l);
+    propagate-target = λ k l. third (propagateSets s k) (chunk (3 * W) k (propagateIn (arcImage s))) (propagate-part k l);
+    start = set-holds m W startSet (room m);
+  }
+
+  -- THE RUN ON THE IMAGE'S WORDS gives the ends of the text
+  pub image-ends : (F : Full s) (text : List ℕ) (p : ℕ) → Bytes (feed [] (take p text))
+      → T (bit (value (runWords (imageMasks (arcImage s)) (depth s) (feed [] (take p text)))) (seqEnd s 0)) ↔ StopsAt s text p
+  image-ends F text p h = end-words m W s F (imageMasks (arcImage s)) image-carry (le-refl m) text p h

@@ -1,3 +1,4 @@
 -- Laws
 pub mod Bool
 pub mod Lists
+pub mod Bits

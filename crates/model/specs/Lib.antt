@@ -10,3 +10,5 @@ pub mod Live
 pub mod Ends
 pub mod Image
 pub mod Answers
+-- Models: what the code computes. Nothing below this line is believed.
+pub mod Models

@@ -29,6 +29,11 @@ pub or-split : (a b : Bool) → T (a || b) → T a ⊎ T b
 or-split true b h = inl tt
 or-split false b h = inr h
 
+pub or-left-comm : (a b c : Bool) → (a || (b || c)) ≡ (b || (a || c))
+or-left-comm true true c = refl
+or-left-comm true false c = refl
+or-left-comm false b c = refl
+
 -- ---- a test that passes, and one that does not
 pub is-true : (b : Bool) → T b → b ≡ true
 is-true true h = refl

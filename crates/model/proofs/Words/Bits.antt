@@ -8,6 +8,7 @@ use native.Mathlib.Omega.{arith}
 use lib.Bits.{bitAnd, bitOr, bitXor, and-step, or-step, xor-step, differ}
 use lib.Pow.{pow-add}
 use Rattle.model.specs.Bits.{bit, digit, mask}
+pub use Rattle.model.specs.Models.Apart.{value}
 use Rattle.model.proofs.Words.Ripple.{over, odd, par-is, par-of}
 
 small : (b : Bool) → digit b < 2
@@ -84,11 +85,6 @@ bit-ext (suc m) a b ha hb h =
       ap digit (h zero (zero-lt-suc m)),
       bit-ext m (a / 2) (b / 2) (omega (arith, pow-suc 2 m)) (omega (arith, pow-suc 2 m)) (λ i k. h (suc i) (omega arith)),
     )
-
--- a number of several words
-abbrev pub value : List ℕ → ℕ
-value [] = 0
-value (w ∷ ws) = w + 2 ^ 64 * value ws
 
 -- words after words, with the borrow out of each into the next: zs = xs - ys - b
 abbrev pub SubWords : List ℕ → List ℕ → List ℕ → Bool → Bool → Type 0

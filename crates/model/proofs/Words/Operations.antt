@@ -12,8 +12,8 @@ use lib.Pow.{pow-add, pow-pos}
 use lib.Pow.{pow-mono}
 use Rattle.model.specs.Bits.{bit, digit, mask}
 use Rattle.model.specs.Image.{words}
-use Rattle.model.proofs.Image.Apart.{length-words, set-bit, val-words, wide}
-use Rattle.model.proofs.Image.Laid.{set}
+use Rattle.model.specs.Models.LayOut.{set}
+use Rattle.model.proofs.Image.Rows.{length-words, set-bit, val-words, wide}
 use Rattle.model.proofs.Words.Bits.{SubWords, bit-and, bit-or, bit-xor, bitsOf, mask-lt, odd2, value}
 use Rattle.model.proofs.Words.Borrows.{AddWords, Fit, bit-not, each, word-sub, words-diff, words-sum, wrapSub}
 use Rattle.model.proofs.Words.Ripple.{borrow, carry, into, odd3}

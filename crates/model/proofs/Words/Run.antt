@@ -12,12 +12,13 @@ use Rattle.model.specs.Bits.{bit}
 use Rattle.model.specs.Tree.{Seq}
 use Rattle.model.specs.Edges.{depth, seqEnd}
 use Rattle.model.specs.Image.{width}
+use Rattle.model.specs.Models.Apart.{chunk, gatherIn, lettersIn, propagateIn, repeatsIn, scatterIn, widthWord}
+use Rattle.model.specs.Models.LayOut.{blockOf, gather-block, gather-source, gather-target, scatter-block, scatter-source, scatter-target, set, sourceOf, targetOf, three}
 use Rattle.model.proofs.Ends.Run.{letterSet, moved, loopSet, liveSet}
 use Rattle.model.proofs.Ends.Stops.{StopsAt, end-is}
-use Rattle.model.proofs.Image.Apart.{chunk, gatherIn, lettersIn, part-G, part-P, part-S, part-let, part-rep, propagateIn, repeatsIn, room, scatterIn, three-0, three-1, three-2, wide, widthWord}
-use Rattle.model.proofs.Image.Laid.{blockOf, set, sourceOf, targetOf, three, treeSet}
-use Rattle.model.proofs.Image.LayOut.{gather-block, gather-source, gather-target, scatter-block, scatter-source, scatter-target}
-use Rattle.model.proofs.Image.Sets.{arcImage}
+use Rattle.model.proofs.Image.Rows.{room, three-0, three-1, three-2, wide}
+use Rattle.model.proofs.Image.Sections.{part-gather as part-G, part-letters as part-let, part-propagate as part-P, part-repeats as part-rep, part-scatter as part-S}
+use Rattle.model.proofs.Image.Sets.{arcImage, treeSet}
 use Rattle.model.proofs.Language.Arcs.{Arc, arcs}
 use Rattle.model.proofs.Language.Stretches.{feed}
 use Rattle.model.proofs.Words.Bits.{odd2, value}

@@ -1,0 +1,53 @@
+-- Whether words are an image, and of which tree, is decided; the image determines the tree; and the run on words that are an image gives the
+-- ends of that tree. All of it follows from the verdict's theorem, `is-image`.
+use mathlib.Core.Path.{_≡_, refl, sym, ap, _∙_, subst}
+use mathlib.Core.Logic.{_↔_}
+use mathlib.Core.List.{List, []}
+use mathlib.Core.Option.{Option, none, some}
+use Prim.Native.Nat.{ℕ}
+use native.Mathlib.Omega.{arith}
+use lib.Dec.{T}
+use lib.ListN.{take}
+use Rattle.model.specs.Bits.{bit}
+use Rattle.model.specs.Tree.{Seq}
+use Rattle.model.specs.Edges.{seqEnd}
+use Rattle.model.specs.Models.Tokens.{tokens}
+use Rattle.model.specs.Models.Apart.{depthWord, tape, value}
+use Rattle.model.specs.Models.Verdict.{verdict}
+use Rattle.model.proofs.Ends.Stops.{StopsAt}
+use Rattle.model.proofs.Image.Classes.{AllFine}
+use Rattle.model.proofs.Image.Sets.{arcImage}
+use Rattle.model.proofs.Image.Tape.{tape-is}
+use Rattle.model.proofs.Image.Tokens.{tokens-inj}
+use Rattle.model.proofs.Image.Valid.{good-full}
+use Rattle.model.proofs.Image.Verdict.{IsImage, is-image}
+use Rattle.model.proofs.Image.WellFormed.{well-fine, well-formed}
+use Rattle.model.proofs.Language.Stretches.{feed}
+use Rattle.model.proofs.Words.Run.{Bytes, image-ends, imageMasks, runWords}
+
+-- TREES WITH EQUAL IMAGES ARE EQUAL
+pub image-inj : (s s′ : Seq) → AllFine (tokens s []) → AllFine (tokens s′ []) → arcImage s ≡ arcImage s′ → s ≡ s′
+image-inj s s′ F F′ e = tokens-inj s s′ (sym (tape-is s F) ∙ ap tape e ∙ tape-is s′ F′)
+
+-- WORDS ARE THE IMAGE OF AT MOST ONE TREE
+pub one-image : (ws : List ℕ) (s s′ : Seq) → IsImage ws s → IsImage ws s′ → s ≡ s′
+one-image ws s s′ I J = image-inj s s′ (well-fine s (I .well)) (well-fine s′ (J .well)) (sym (I .words) ∙ J .words)
+
+-- THE VERDICT IS NONE, and number 6 is given, exactly if the words are the image of no tree
+pub no-image : (ws : List ℕ) → (verdict ws ≡ none) ↔ ((s : Seq) → IsImage ws s → ⊥)
+no-image ws = (λ e s I. not-both s e (is-image ws s .1 I), λ f. go (verdict ws) refl f)
+  where
+    not-both : (s : Seq) → verdict ws ≡ none → verdict ws ≡ some s → ⊥
+    not-both s e g = let z : _≡_ {A = ℕ} 0 1 = cc in omega arith
+
+    go : (o : Option Seq) → verdict ws ≡ o → ((s : Seq) → IsImage ws s → ⊥) → verdict ws ≡ none
+    go none e f = e
+    go (some s) e f = absurd (f s (is-image ws s .0 e))
+
+-- THE RUN ON WORDS THAT ARE AN IMAGE GIVES THE ENDS OF THE TREE
+pub words-ends : (ws : List ℕ) (s : Seq) → verdict ws ≡ some s → (text : List ℕ) (p : ℕ) → Bytes (feed [] (take p text))
+    → T (bit (value (runWords (imageMasks ws) (depthWord ws) (feed [] (take p text)))) (seqEnd s 0)) ↔ StopsAt s text p
+words-ends ws s e text p h =
+    let I = is-image ws s .0 e in
+    subst (λ (z : List ℕ). T (bit (value (runWords (imageMasks z) (depthWord z) (feed [] (take p text)))) (seqEnd s 0)) ↔ StopsAt s text p) (sym (I .words))
+    (image-ends s (good-full s (well-formed s .0 (I .well) .1)) text p h)

@@ -6,6 +6,7 @@ pub mod Between
 pub mod Shown
 pub mod Classes
 -- lay out marks for a tree's tokens the sets of the tree's masks, so what is laid out is the tree's image
+pub mod Scan
 pub mod Marks
 pub mod LayOut
 pub mod Sets

@@ -1,16 +1,15 @@
 -- The depth that the scan of a tree's tokens reaches is the tree's depth; the scan of a valid row reaches at most 8.
-use mathlib.Core.Path.{_≡_, refl, sym, ap, _∙_}
-use mathlib.Core.Bool.{Bool, true, false, _&&_, _||_, cond, and-false, and-true, and-assoc, or-assoc}
+use mathlib.Core.Path.{_≡_, sym, ap, _∙_}
 use mathlib.Core.List.{List, [], _∷_}
 use Prim.Native.Nat.{ℕ, suc, _+_, _≤_, max}
 use native.Mathlib.Omega.{arith}
 use lib.Dec.{T, ltb, ltb→lt}
 use lib.ListN.{length}
-use Rattle.model.specs.Tree.{Alts, Seq, canSkip, end, last, letter, more, union}
-use Rattle.model.specs.Edges.{altsDepth, altsEmpty, altsEnd, depth, seqEmpty, seqEnd}
+use Rattle.model.specs.Tree.{Alts, Seq, end, last, letter, more, union}
+use Rattle.model.specs.Edges.{altsDepth, depth, seqEmpty, seqEnd}
 use Rattle.model.specs.Models.Tokens.{Token, aBar, aClose, aLetter, altsTokens, anOpen, tokens}
-use Rattle.model.specs.Models.LayOut.{Frame, Scan, begin, check, frame, reach, scan, step, valid}
-use Rattle.model.proofs.Image.LayOut.{isEnd}
+use Rattle.model.specs.Models.LayOut.{Frame, Scan, begin, check, nextAlternative, opened, reach, step, valid}
+use Rattle.model.proofs.Image.Scan.{after, after-bar, after-end, after-letter, after-union, afterUnion, alternativeAt}
 use Rattle.model.proofs.Laws.Bool.{and-split}
 
 -- the largest number of unions around a place of a sequence that has n around it
@@ -28,30 +27,28 @@ max-assoc : (a b c : ℕ) → max (max a b) c ≡ max a (max b c)
 max-assoc a b c = omega arith
 
 mutual
-  reaches : (s : Seq) (r : List Token) (t : ℕ) (e c : Bool) (st : List Frame) → reach (tokens s r) (scan t e c st) ≡ max (top s (length st)) (reach r (scan (seqEnd s t) (e && isEnd s) (c && seqEmpty s) st))
-  reaches end r t e c st = (λ i. reach r (scan t (sym (and-true e) i) (sym (and-true c) i) st)) ∙ zero-max (reach r (scan t (e && true) (c && true) st))
+  reaches : (s : Seq) (rest : List Token) (q : Scan) → reach (tokens s rest) q ≡ max (top s (length (q .stack))) (reach rest (after s q))
+  reaches end rest q = let r = ap (reach rest) (sym (after-end q)) in omega arith
+  reaches (letter c r s) rest q = reaches s rest (step (aLetter c r) q) ∙ ap (λ (z : Scan). max (top s (length (q .stack))) (reach rest z)) (after-letter c r s q)
+  reaches (union a s) rest q =
+      ap (max (suc n)) (reaches-alts a (tokens s rest) (q .position) (opened q) (q .stack) ∙ ap (max (topAlts a (suc n))) (reaches s rest (afterUnion a (q .position) (opened q) (q .stack))))
+      ∙ ap (λ (z : Scan). max (suc n) (max (topAlts a (suc n)) (max (top s n) (reach rest z)))) (after-union a s q)
+      ∙ shuffle (suc n) (topAlts a (suc n)) (top s n) (reach rest (after (union a s) q))
     where
-      zero-max : (n : ℕ) → n ≡ max 0 n
-      zero-max n = omega arith
-  reaches (letter c′ p s) r t e c st =
-      reaches s r (suc t) false (c && canSkip p) st
-      ∙ (λ i. max (top s (length st)) (reach r (scan (seqEnd s (suc t)) (sym (and-false e) i) (and-assoc c (canSkip p) (seqEmpty s) i) st)))
-  reaches (union a s) r t e c st =
-      ap (max (suc (length st))) (reaches-alts a (tokens s r) t t false 0 false c st ∙ ap (max (topAlts a (suc (length st)))) (reaches s r (suc (altsEnd a t)) false (c && altsEmpty a) st))
-      ∙ shuffle (suc (length st)) (topAlts a (suc (length st))) (top s (length st)) (reach r (scan (seqEnd s (suc (altsEnd a t))) false ((c && altsEmpty a) && seqEmpty s) st))
-      ∙ (λ i. max (top (union a s) (length st)) (reach r (scan (seqEnd s (suc (altsEnd a t))) (sym (and-false e) i) (and-assoc c (altsEmpty a) (seqEmpty s) i) st)))
-    where
+      n : ℕ
+      n = length (q .stack)
+
       shuffle : (a b c d : ℕ) → max a (max b (max c d)) ≡ max (max a (max b c)) d
       shuffle a b c d = sym (max-assoc a (max b c) d ∙ ap (max a) (max-assoc b c d))
 
-  reaches-alts : (a : Alts) (r : List Token) (p t : ℕ) (b : Bool) (f : ℕ) (y o : Bool) (st : List Frame)
-      → reach (altsTokens a r) (scan (suc p) true true (frame t b f (suc p) y o ∷ st)) ≡ max (topAlts a (suc (length st))) (reach r (scan (suc (altsEnd a p)) false (o && (y || altsEmpty a)) st))
-  reaches-alts (last s) r p t b f y o st = reaches s (aClose ∷ r) (suc p) true true (frame t b f (suc p) y o ∷ st)
-  reaches-alts (more s a) r p t b f y o st =
-      reaches s (aBar ∷ altsTokens a r) (suc p) true true (frame t b f (suc p) y o ∷ st)
-      ∙ ap (max (top s (suc (length st)))) (reaches-alts a r (seqEnd s (suc p)) t true (cond b f (seqEnd s (suc p))) (y || seqEmpty s) o st)
-      ∙ sym (max-assoc (top s (suc (length st))) (topAlts a (suc (length st))) (reach r (scan (suc (altsEnd a (seqEnd s (suc p)))) false (o && ((y || seqEmpty s) || altsEmpty a)) st)))
-      ∙ (λ i. max (topAlts (more s a) (suc (length st))) (reach r (scan (suc (altsEnd a (seqEnd s (suc p)))) false (o && or-assoc y (seqEmpty s) (altsEmpty a) i) st)))
+  reaches-alts : (a : Alts) (rest : List Token) (p : ℕ) (f : Frame) (st : List Frame)
+      → reach (altsTokens a rest) (alternativeAt p f st) ≡ max (topAlts a (suc (length st))) (reach rest (afterUnion a p f st))
+  reaches-alts (last s) rest p f st = reaches s (aClose ∷ rest) (alternativeAt p f st)
+  reaches-alts (more s a) rest p f st =
+      reaches s (aBar ∷ altsTokens a rest) (alternativeAt p f st)
+      ∙ ap (max (top s (suc (length st)))) (reaches-alts a rest (seqEnd s (suc p)) (nextAlternative f (seqEnd s (suc p)) (seqEmpty s)) st)
+      ∙ ap (λ (z : Scan). max (top s (suc (length st))) (max (topAlts a (suc (length st))) (reach rest z))) (after-bar s a p f st)
+      ∙ sym (max-assoc (top s (suc (length st))) (topAlts a (suc (length st))) (reach rest (afterUnion (more s a) p f st)))
 
 mutual
   top-is : (s : Seq) (n : ℕ) → max n (top s n) ≡ n + depth s
@@ -71,7 +68,7 @@ mutual
 
 -- THE DEPTH REACHED IS THE TREE'S
 pub reach-is : (s : Seq) → reach (tokens s []) begin ≡ depth s
-reach-is s = reaches s [] 0 true true [] ∙ (let h : max 0 (top s 0) ≡ 0 + depth s = top-is s 0 in omega arith)
+reach-is s = reaches s [] begin ∙ (let h : max 0 (top s 0) ≡ 0 + depth s = top-is s 0 in omega arith)
 
 -- a valid row stays within depth 8
 pub valid-reach : (l : List Token) (q : Scan) → T (valid l q) → reach l q ≤ 8

@@ -1,7 +1,7 @@
 -- What is laid out for a tree's tokens is the tree's image: states, depth, letters, loops and marks of the tokens are those of the tree.
 use mathlib.Core.Path.{_≡_, _∙_}
 use mathlib.Core.Bool.{Bool}
-use mathlib.Core.List.{List, [], _∷_, _++_}
+use mathlib.Core.List.{[], _∷_, _++_}
 use Prim.Native.Nat.{ℕ, suc, _<_}
 use Rattle.model.specs.Tree.{Seq}
 use Rattle.model.specs.Edges.{depth, seqEnd}

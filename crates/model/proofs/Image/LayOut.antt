@@ -1,24 +1,19 @@
--- What lay out marks for the tokens of a tree is what some arc of the tree marks: by induction on the tree, with the scan carried along, since
--- the scan after a tree's tokens is known from the tree.
-use mathlib.Core.Path.{_≡_, refl, sym, ap, ap₂, _∙_}
-use mathlib.Core.Bool.{Bool, true, false, _&&_, _||_, cond, or-false, and-false, and-true, or-assoc, and-assoc}
+-- What lay out marks for the tokens of a tree is what some arc of the tree marks: by induction on the tree, with the scan carried along.
+use mathlib.Core.Path.{_≡_, refl, sym, ap, _∙_}
+use mathlib.Core.Bool.{Bool, true, false, _&&_, _||_, or-false, or-assoc}
 use mathlib.Core.List.{List, [], _∷_, _++_}
 use Prim.Native.Nat.{ℕ, suc}
 use lib.ListN.{length}
 use Rattle.model.specs.Lists.{any}
-use Rattle.model.specs.Tree.{Alts, Repeat, Seq, canLoop, canSkip, end, last, letter, more, union}
+use Rattle.model.specs.Tree.{Alts, Seq, canLoop, canSkip, end, last, letter, more, union}
 use Rattle.model.specs.Edges.{altsEmpty, altsEnd, seqEmpty, seqEnd, ways}
-use Rattle.model.specs.Models.Tokens.{Token, aBar, aClose, altsTokens, tokens}
-use Rattle.model.specs.Models.LayOut.{Frame, Which, barMarks, begin, bridgeMarks, closeMarksIn, frame, layOut, letterMarks, openMarks, scan}
+use Rattle.model.specs.Models.Tokens.{Token, aBar, aClose, aLetter, altsTokens, tokens}
+use Rattle.model.specs.Models.LayOut.{Frame, Scan, Which, barMarks, begin, bridgeMarks, closeMarksIn, layOut, letterMarks, nextAlternative, opened, openMarks, step}
 use Rattle.model.proofs.Image.Marks.{bridge-marks, letter-marks, on, tailMarks, union-marks}
+use Rattle.model.proofs.Image.Scan.{after, after-bar, after-end, after-letter, after-union, afterUnion, alternativeAt}
 use Rattle.model.proofs.Language.Arcs.{Arc, arc, arcs, forkArc, altsArcs, letterArc, loopArc, propagateArc, when}
 use Rattle.model.proofs.Laws.Bool.{or-left-comm}
 use Rattle.model.proofs.Laws.Lists.{any-app}
-
-abbrev pub isEnd : Seq → Bool
-isEnd end = true
-isEnd (letter c r s) = false
-isEnd (union a s) = false
 
 any-when : (p : Arc → Bool) (b : Bool) (e : Arc) (es : List Arc) → any p (when b e es) ≡ ((b && p e) || any p es)
 any-when p true e es = refl
@@ -29,57 +24,73 @@ module _ (w : Which) (k x : ℕ) where
   abbrev marked : List Arc → Bool
   marked es = any (on w k x) es
 
-  letter-is : (c t d : ℕ) (r : Repeat) (es : List Arc) (R : Bool)
-      → (letterMarks r t d w k x || (marked es || R)) ≡ (marked (arc (letterArc c) d t (suc t) ∷ when (canLoop r) (arc (loopArc c) d (suc t) (suc t)) (when (canSkip r) (arc propagateArc d t (suc t)) es)) || R)
-  letter-is c t d r es R =
-      ap (λ (b : Bool). b || (marked es || R)) (letter-marks w k x d t c r)
-      ∙ go A (canLoop r && L) (canSkip r && P) (marked es)
-      ∙ ap (λ (b : Bool). (A || b) || R)
-      (sym (any-when (on w k x) (canLoop r) (arc (loopArc c) d (suc t) (suc t)) (when (canSkip r) (arc propagateArc d t (suc t)) es)
-      ∙ ap (λ (b : Bool). (canLoop r && L) || b) (any-when (on w k x) (canSkip r) (arc propagateArc d t (suc t)) es)))
-    where
-      A : Bool
-      A = on w k x (arc (letterArc c) d t (suc t))
-
-      L : Bool
-      L = on w k x (arc (loopArc c) d (suc t) (suc t))
-
-      P : Bool
-      P = on w k x (arc propagateArc d t (suc t))
-
-      go : (a b c e : Bool) → ((a || (b || c)) || (e || R)) ≡ ((a || (b || (c || e))) || R)
-      go a b c e = simp or-assoc
+  abbrev laidFrom : List Token → Scan → Bool
+  laidFrom l q = layOut l q w k x
 
   mutual
-    sets : (s : Seq) (rest : List Token) (t : ℕ) (e c : Bool) (st : List Frame)
-        → layOut (tokens s rest) (scan t e c st) w k x ≡ (marked (arcs s t (length st)) || layOut rest (scan (seqEnd s t) (e && isEnd s) (c && seqEmpty s) st) w k x)
-    sets end rest t e c st = λ i. layOut rest (scan t (sym (and-true e) i) (sym (and-true c) i) st) w k x
-    sets (letter c′ r s) rest t e c st =
-        ap (λ (v : Bool). letterMarks r t (length st) w k x || v) (sets s rest (suc t) false (c && canSkip r) st)
-        ∙ letter-is c′ t (length st) r (arcs s (suc t) (length st)) (layOut rest (scan (seqEnd s (suc t)) false ((c && canSkip r) && seqEmpty s) st) w k x)
-        ∙ (λ i. marked (arcs (letter c′ r s) t (length st)) || layOut rest (scan (seqEnd s (suc t)) (sym (and-false e) i) (and-assoc c (canSkip r) (seqEmpty s) i) st) w k x)
-    sets (union a s) rest t e c st =
-        ap (λ (v : Bool). openMarks t d w k x || v)
-        (sets-alts a (tokens s rest) t t false 0 false c st ∙ ap (λ (v : Bool). (I || (M || (altsEmpty a && bridgeMarks t u d w k x))) || v) (sets s rest u false (c && altsEmpty a) st))
-        ∙ ap (λ (v : Bool). openMarks t d w k x || ((I || (M || (altsEmpty a && v))) || (F || R))) (bridge-marks w k x d t u)
-        ∙ go (openMarks t d w k x) I M P F R
-        ∙ ap (λ (v : Bool). (P || (v || (I || F))) || R) (union-marks w k x d a t)
+    sets : (s : Seq) (rest : List Token) (q : Scan) → laidFrom (tokens s rest) q ≡ (marked (arcs s (q .position) (length (q .stack))) || laidFrom rest (after s q))
+    sets end rest q = ap (laidFrom rest) (sym (after-end q))
+    sets (letter c r s) rest q =
+        ap (λ (v : Bool). letterMarks r t d w k x || v) (sets s rest (step (aLetter c r) q))
+        ∙ ap (λ (v : Bool). v || (F || R)) (letter-marks w k x d t c r)
+        ∙ go A (canLoop r && L) (canSkip r && P) F R
+        ∙ ap (λ (v : Bool). (A || v) || R)
+        (sym (any-when (on w k x) (canLoop r) (arc (loopArc c) d (suc t) (suc t)) (when (canSkip r) (arc propagateArc d t (suc t)) (arcs s (suc t) d))
+        ∙ ap (λ (v : Bool). (canLoop r && L) || v) (any-when (on w k x) (canSkip r) (arc propagateArc d t (suc t)) (arcs s (suc t) d))))
+        ∙ ap (λ (z : Scan). marked (arcs (letter c r s) t d) || laidFrom rest z) (after-letter c r s q)
+      where
+        t : ℕ
+        t = q .position
+
+        d : ℕ
+        d = length (q .stack)
+
+        A : Bool
+        A = on w k x (arc (letterArc c) d t (suc t))
+
+        L : Bool
+        L = on w k x (arc (loopArc c) d (suc t) (suc t))
+
+        P : Bool
+        P = on w k x (arc propagateArc d t (suc t))
+
+        F : Bool
+        F = marked (arcs s (suc t) d)
+
+        R : Bool
+        R = laidFrom rest (after s (step (aLetter c r) q))
+
+        go : (a l p f r : Bool) → ((a || (l || p)) || (f || r)) ≡ ((a || (l || (p || f))) || r)
+        go a l p f r = simp or-assoc
+    sets (union a s) rest q =
+        ap (λ (v : Bool). O || v)
+        (sets-alts a (tokens s rest) t (opened q) (q .stack)
+        ∙ ap (λ (v : Bool). (I || (M || (altsEmpty a && bridgeMarks t u d w k x))) || v) (sets s rest (afterUnion a t (opened q) (q .stack))))
+        ∙ ap (λ (v : Bool). O || ((I || (M || (altsEmpty a && v))) || (F || R))) (bridge-marks w k x d t u)
+        ∙ go O I M P F R
+        ∙ ap (λ (v : Bool). (P || (v || (I || F))) || R) (union-marks w k x d a q)
         ∙ ap (λ (v : Bool). v || R)
         (sym (any-when (on w k x) (altsEmpty a) (arc propagateArc d t u) (arc (forkArc (ways a t)) d t u ∷ (altsArcs a t d ++ arcs s u d))
         ∙ ap (λ (v : Bool). P || (on w k x (arc (forkArc (ways a t)) d t u) || v)) (any-app (on w k x) (altsArcs a t d) (arcs s u d))))
-        ∙ (λ i. marked (arcs (union a s) t d) || layOut rest (scan (seqEnd s u) (sym (and-false e) i) (and-assoc c (altsEmpty a) (seqEmpty s) i) st) w k x)
+        ∙ ap (λ (z : Scan). marked (arcs (union a s) t d) || laidFrom rest z) (after-union a s q)
       where
+        t : ℕ
+        t = q .position
+
         d : ℕ
-        d = length st
+        d = length (q .stack)
 
         u : ℕ
         u = suc (altsEnd a t)
+
+        O : Bool
+        O = openMarks t d w k x
 
         I : Bool
         I = marked (altsArcs a t d)
 
         M : Bool
-        M = tailMarks a t d false 0 w k x
+        M = tailMarks a t d (opened q) w k x
 
         P : Bool
         P = altsEmpty a && on w k x (arc propagateArc d t u)
@@ -88,23 +99,23 @@ module _ (w : Which) (k x : ℕ) where
         F = marked (arcs s u d)
 
         R : Bool
-        R = layOut rest (scan (seqEnd s u) false ((c && altsEmpty a) && seqEmpty s) st) w k x
+        R = laidFrom rest (after s (afterUnion a t (opened q) (q .stack)))
 
         go : (o i m p f r : Bool) → (o || ((i || (m || p)) || (f || r))) ≡ ((p || ((o || m) || (i || f))) || r)
         go o i m p f r = simp (or-assoc, or-left-comm)
 
-    -- the alternatives after state p of a union that starts in t
-    sets-alts : (a : Alts) (rest : List Token) (p t : ℕ) (b : Bool) (f : ℕ) (y o : Bool) (st : List Frame)
-        → layOut (altsTokens a rest) (scan (suc p) true true (frame t b f (suc p) y o ∷ st)) w k x
-        ≡ ((marked (altsArcs a p (length st)) || (tailMarks a p (length st) b f w k x || ((y || altsEmpty a) && bridgeMarks t (suc (altsEnd a p)) (length st) w k x)))
-        || layOut rest (scan (suc (altsEnd a p)) false (o && (y || altsEmpty a)) st) w k x)
-    sets-alts (last s) rest p t b f y o st =
-        sets s (aClose ∷ rest) (suc p) true true (frame t b f (suc p) y o ∷ st)
-        ∙ sym (or-assoc (marked (arcs s (suc p) (suc (length st)))) (closeMarksIn (seqEnd s (suc p)) (seqEmpty s) (frame t b f (suc p) y o ∷ st) w k x) (layOut rest (scan (suc (seqEnd s (suc p))) false (o && (y || seqEmpty s)) st) w k x))
-    sets-alts (more s a) rest p t b f y o st =
-        sets s (aBar ∷ altsTokens a rest) (suc p) true true (frame t b f (suc p) y o ∷ st)
-        ∙ ap (λ (v : Bool). H || (B || v)) (sets-alts a rest z t true (cond b f z) (y || seqEmpty s) o st)
-        ∙ (λ i. H || (B || ((I || (M || (or-assoc y (seqEmpty s) (altsEmpty a) i && P))) || layOut rest (scan u false (o && or-assoc y (seqEmpty s) (altsEmpty a) i) st) w k x)))
+    -- the alternatives after state p of an open union: their arcs, the union's bars and close, its propagate edge
+    sets-alts : (a : Alts) (rest : List Token) (p : ℕ) (f : Frame) (st : List Frame) → laidFrom (altsTokens a rest) (alternativeAt p f st)
+        ≡ ((marked (altsArcs a p (length st))
+        || (tailMarks a p (length st) f w k x || ((f .emptyBefore || altsEmpty a) && bridgeMarks (f .start) (suc (altsEnd a p)) (length st) w k x)))
+        || laidFrom rest (afterUnion a p f st))
+    sets-alts (last s) rest p f st =
+        sets s (aClose ∷ rest) (alternativeAt p f st)
+        ∙ sym (or-assoc (marked (arcs s (suc p) (suc (length st)))) (closeMarksIn (seqEnd s (suc p)) (seqEmpty s) (f ∷ st) w k x) (laidFrom rest (afterUnion (last s) p f st)))
+    sets-alts (more s a) rest p f st =
+        sets s (aBar ∷ altsTokens a rest) (alternativeAt p f st)
+        ∙ ap (λ (v : Bool). H || (B || v)) (sets-alts a rest z g st)
+        ∙ (λ i. H || (B || ((I || (M || (or-assoc (f .emptyBefore) (seqEmpty s) (altsEmpty a) i && P))) || laidFrom rest (after-bar s a p f st i))))
         ∙ go H B I M (Y && P) R
         ∙ ap (λ (v : Bool). (v || ((B || M) || (Y && P))) || R) (sym (any-app (on w k x) (arcs s (suc p) (suc d)) (altsArcs a z d)))
       where
@@ -114,8 +125,8 @@ module _ (w : Which) (k x : ℕ) where
         z : ℕ
         z = seqEnd s (suc p)
 
-        u : ℕ
-        u = suc (altsEnd a z)
+        g : Frame
+        g = nextAlternative f z (seqEmpty s)
 
         H : Bool
         H = marked (arcs s (suc p) (suc d))
@@ -127,20 +138,20 @@ module _ (w : Which) (k x : ℕ) where
         I = marked (altsArcs a z d)
 
         M : Bool
-        M = tailMarks a z d true (cond b f z) w k x
+        M = tailMarks a z d g w k x
 
         Y : Bool
-        Y = y || (seqEmpty s || altsEmpty a)
+        Y = f .emptyBefore || (seqEmpty s || altsEmpty a)
 
         P : Bool
-        P = bridgeMarks t u d w k x
+        P = bridgeMarks (f .start) (suc (altsEnd a z)) d w k x
 
         R : Bool
-        R = layOut rest (scan u false (o && Y) st) w k x
+        R = laidFrom rest (afterUnion (more s a) p f st)
 
         go : (h b i m p r : Bool) → (h || (b || ((i || (m || p)) || r))) ≡ (((h || i) || ((b || m) || p)) || r)
         go h b i m p r = simp (or-assoc, or-left-comm)
 
 -- THE THEOREM
 pub lay-out-is : (w : Which) (k x : ℕ) (s : Seq) → layOut (tokens s []) begin w k x ≡ any (on w k x) (arcs s 0 0)
-lay-out-is w k x s = sets w k x s [] 0 true true [] ∙ or-false (any (on w k x) (arcs s 0 0))
+lay-out-is w k x s = sets w k x s [] begin ∙ or-false (any (on w k x) (arcs s 0 0))

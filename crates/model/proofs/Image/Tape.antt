@@ -2,8 +2,8 @@
 use mathlib.Core.Path.{_≡_, refl, sym, ap, ap₂, _∙_}
 use mathlib.Core.Bool.{Bool, true, false, not, _&&_, _||_, cond}
 use mathlib.Core.List.{List, [], _∷_}
-use Prim.Native.Nat.{ℕ, zero, suc, _+_, _<_}
-use native.Mathlib.Nat.{zero-lt-suc, zero-add, le-of-suc-le-suc, not-suc-le-zero}
+use Prim.Native.Nat.{ℕ, suc, _+_, _<_}
+use native.Mathlib.Nat.{zero-lt-suc, zero-add}
 use native.Mathlib.Omega.{arith}
 use lib.ListN.{length, getD}
 use Rattle.model.specs.Bits.{bit, mask}
@@ -22,7 +22,7 @@ use Rattle.model.proofs.Image.Sections.{read-gather-target, read-letter
 use Rattle.model.proofs.Image.Sets.{arcImage, treeSet}
 use Rattle.model.proofs.Image.Shown.{closes-show, isClose, isOpen, letters-show, loops-show, opens-show, skips, skips-show, tokenSkips}
 use Rattle.model.proofs.Image.Tokens.{length-tokens}
-use Rattle.model.proofs.Language.Arcs.{Arc, arcs}
+use Rattle.model.proofs.Language.Arcs.{arcs}
 use Rattle.model.proofs.Laws.Bits.{below-same, mask-same}
 use Rattle.model.proofs.Reading.WellFormed.{Class}
 

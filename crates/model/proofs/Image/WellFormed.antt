@@ -1,7 +1,6 @@
 -- A tree is well formed, that is the tree of some rule, exactly if it has an item, its unions are good and its tokens' classes are fine.
 use mathlib.Core.Logic.{_↔_}
 use mathlib.Core.List.{List, [], _∷_}
-use Rattle.model.specs.Lists.{All}
 use Rattle.model.specs.Tree.{Alts, Seq, end, last, letter, more, union}
 use Rattle.model.specs.Models.Tokens.{Token, aBar, aClose, altsTokens, tokens}
 use Rattle.model.proofs.Image.Classes.{AllFine}

@@ -1,6 +1,6 @@
 -- Lay out marks no state past the accepting one, where no alternative is empty: each arc's places lie within the tree's states.
-use mathlib.Core.Path.{_≡_, subst}
-use mathlib.Core.List.{List, []}
+use mathlib.Core.Path.{subst}
+use mathlib.Core.List.{[]}
 use Prim.Native.Nat.{ℕ, suc, _≤_}
 use native.Mathlib.Nat.{le-refl}
 use native.Mathlib.Omega.{arith}

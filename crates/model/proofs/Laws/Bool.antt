@@ -5,7 +5,7 @@ use mathlib.Core.Bool.{Bool, true, false, not, _&&_, _||_, cond}
 use Prim.Native.Nat.{ℕ, _≤_, _<_}
 use native.Mathlib.Decide.{decLe}
 use native.Mathlib.Omega.{arith}
-use lib.Dec.{T, eqb, leb, eqb→eq, leb→le, le→leb}
+use lib.Dec.{T, eqb, leb, eqb→eq, le→leb}
 use lib.Arith.{lt→nleb}
 
 -- ---- and, or

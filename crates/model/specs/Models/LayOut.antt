@@ -21,9 +21,6 @@ pub record Frame : Type 0 where
   pub emptyBefore : Bool
   pub emptyOutside : Bool
 
-abbrev pub frame : ℕ → Bool → ℕ → ℕ → Bool → Bool → Frame
-frame t b f a y o = record { start = t; barred = b; firstEnd = f; alternative = a; emptyBefore = y; emptyOutside = o }
-
 -- the state reached; of the sequence at hand, whether it has no item yet and whether it can be empty so far; the open unions, innermost first
 pub record Scan : Type 0 where
   pub position : ℕ
@@ -37,11 +34,24 @@ scan t e c st = record { position = t; noItem = e; canBeEmpty = c; stack = st }
 abbrev pub begin : Scan
 begin = scan 0 true true []
 
--- after a bar or a close that stands in state z, where c says whether the alternative before it can be empty
+-- the frame of a union that opens here; the frame after a bar in state z, where c says whether the alternative before it can be empty
+abbrev pub opened : Scan → Frame
+opened q = record { start = q .position; barred = false; firstEnd = 0; alternative = suc (q .position); emptyBefore = false; emptyOutside = q .canBeEmpty }
+
+abbrev pub nextAlternative : Frame → ℕ → Bool → Frame
+nextAlternative f z c = record {
+  start = f .start;
+  barred = true;
+  firstEnd = cond (f .barred) (f .firstEnd) z;
+  alternative = suc z;
+  emptyBefore = f .emptyBefore || c;
+  emptyOutside = f .emptyOutside;
+}
+
+-- the scan after a bar or a close in state z
 abbrev pub afterBar : ℕ → Bool → List Frame → Scan
 afterBar z c [] = scan (suc z) false c []
-afterBar z c (f ∷ st) =
-    scan (suc z) true true (frame (f .start) true (cond (f .barred) (f .firstEnd) z) (suc z) (f .emptyBefore || c) (f .emptyOutside) ∷ st)
+afterBar z c (f ∷ st) = scan (suc z) true true (nextAlternative f z c ∷ st)
 
 abbrev pub afterClose : ℕ → Bool → List Frame → Scan
 afterClose z c [] = scan (suc z) false c []
@@ -49,7 +59,7 @@ afterClose z c (f ∷ st) = scan (suc z) false (f .emptyOutside && (f .emptyBefo
 
 abbrev pub step : Token → Scan → Scan
 step (aLetter c r) q = scan (suc (q .position)) false (q .canBeEmpty && canSkip r) (q .stack)
-step anOpen q = scan (suc (q .position)) true true (frame (q .position) false 0 (suc (q .position)) false (q .canBeEmpty) ∷ q .stack)
+step anOpen q = scan (suc (q .position)) true true (opened q ∷ q .stack)
 step aBar q = afterBar (q .position) (q .canBeEmpty) (q .stack)
 step aClose q = afterClose (q .position) (q .canBeEmpty) (q .stack)
 

@@ -14,7 +14,8 @@ use Rattle.model.specs.Bits.{bit, mask}
 use Rattle.model.specs.Image.{width}
 use Rattle.model.specs.Models.Tokens.{Token, aClose, classOf}
 use Rattle.model.specs.Models.LayOut.{Which, assemble, begin, blockOf, gather-block, gather-source, gather-target, laid, layOut, loop-place, reach, scatter-block, scatter-source, scatter-target, set, sourceOf, targetOf, three, tokenLetters, tokenLoops, valid}
-use Rattle.model.specs.Models.Apart.{anyBelow, bitOf, chunk, depthWord, gatherIn, lettersIn, propagateIn, repeatsIn, scatterIn, stateWord, tape, tokenAt, tokenOf, tokensBetween, tokensFrom, value, widthWord}
+use Rattle.model.specs.Models.Apart.{anyBelow, bitOf, chunk, depthWord, gatherIn, lettersIn, propagateIn, repeatsIn, scatterIn, stateWord, tape, tokenAt, tokenOf, tokensBetween, tokensFrom, widthWord}
+use Rattle.model.specs.Models.Words.{value}
 use Rattle.model.specs.Models.Verdict.{accepts}
 use Rattle.model.proofs.Image.LetterPlaces.{repeats-by-letters}
 use Rattle.model.proofs.Image.Rebuild.{rebuild}

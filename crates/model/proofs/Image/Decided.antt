@@ -12,7 +12,8 @@ use Rattle.model.specs.Bits.{bit}
 use Rattle.model.specs.Tree.{Seq}
 use Rattle.model.specs.Edges.{seqEnd}
 use Rattle.model.specs.Models.Tokens.{tokens}
-use Rattle.model.specs.Models.Apart.{depthWord, tape, value}
+use Rattle.model.specs.Models.Apart.{depthWord, tape}
+use Rattle.model.specs.Models.Words.{value}
 use Rattle.model.specs.Models.Verdict.{verdict}
 use Rattle.model.proofs.Ends.Stops.{StopsAt}
 use Rattle.model.proofs.Image.Classes.{AllFine}

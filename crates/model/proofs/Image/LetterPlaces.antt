@@ -13,7 +13,8 @@ use Rattle.model.specs.Bits.{bit}
 use Rattle.model.specs.Tree.{canLoop, once, option, plus, star}
 use Rattle.model.specs.Models.Tokens.{Token, aBar, aClose, aLetter, anOpen, classOf, loopClassOf}
 use Rattle.model.specs.Models.LayOut.{Frame, Scan, Which, afterBar, afterClose, barMarksIn, begin, closeMarksIn, layOut, letter-place, loop-place, mark, set, step, tokenLetters, tokenLoops}
-use Rattle.model.specs.Models.Apart.{anyBelow, bitOf, lettersIn, stateWord, value, widthWord}
+use Rattle.model.specs.Models.Apart.{anyBelow, bitOf, lettersIn, stateWord, widthWord}
+use Rattle.model.specs.Models.Words.{value}
 use Rattle.model.proofs.Image.Classes.{AllFine, Fine, fine-at, no-bits, some-bit}
 use Rattle.model.proofs.Image.Rows.{wide}
 use Rattle.model.proofs.Laws.Bits.{below-in, bit-zero}

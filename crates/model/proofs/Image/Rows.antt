@@ -11,7 +11,8 @@ use lib.Pow.{pow-add, pow-mono}
 use Rattle.model.specs.Bits.{bit, mask}
 use Rattle.model.specs.Image.{join, width, words}
 use Rattle.model.specs.Models.LayOut.{set, three}
-use Rattle.model.specs.Models.Apart.{chunk, value}
+use Rattle.model.specs.Models.Apart.{chunk}
+use Rattle.model.specs.Models.Words.{value}
 use Rattle.model.proofs.Laws.Bits.{mask-same}
 use Rattle.model.proofs.Words.Bits.{bit-mask, mask-lt}
 

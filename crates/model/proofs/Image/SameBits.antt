@@ -7,7 +7,7 @@ use Prim.Native.Nat.{ℕ, zero, suc, _^_, _≤_, _<_}
 use native.Mathlib.Omega.{arith}
 use lib.ListN.{length, take, drop}
 use Rattle.model.specs.Bits.{bit}
-use Rattle.model.specs.Models.Apart.{value}
+use Rattle.model.specs.Models.Words.{value}
 use Rattle.model.proofs.Image.Rows.{wide}
 use Rattle.model.proofs.Laws.Bool.{le-or-lt}
 use Rattle.model.proofs.Words.Bits.{bit-ext, bitsOf}

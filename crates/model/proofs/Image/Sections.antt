@@ -9,7 +9,8 @@ use lib.ListN.{length, drop, length-append}
 use Rattle.model.specs.Bits.{bit}
 use Rattle.model.specs.Image.{join, section}
 use Rattle.model.specs.Models.LayOut.{Which, assemble, blockOf, gather-block, gather-source, gather-target, scatter-block, scatter-source, scatter-target, set, sourceOf, targetOf, three}
-use Rattle.model.specs.Models.Apart.{bitOf, bitOfThree, chunk, gatherIn, lettersIn, propagateIn, repeatsIn, scatterIn, value}
+use Rattle.model.specs.Models.Apart.{bitOf, bitOfThree, chunk, gatherIn, lettersIn, propagateIn, repeatsIn, scatterIn}
+use Rattle.model.specs.Models.Words.{value}
 use Rattle.model.proofs.Image.Rows.{chunk-join, chunk-join-end, length-join, length-set, length-three, past-join, set-bit, three-0, three-1, three-2, wide}
 
 module _ (m W d : ℕ) (L R : ℕ → ℕ → Bool) (B : Which → ℕ → ℕ → Bool) where

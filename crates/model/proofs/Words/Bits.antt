@@ -8,7 +8,7 @@ use native.Mathlib.Omega.{arith}
 use lib.Bits.{bitAnd, bitOr, bitXor, and-step, or-step, xor-step, differ}
 use lib.Pow.{pow-add}
 use Rattle.model.specs.Bits.{bit, digit, mask}
-pub use Rattle.model.specs.Models.Apart.{value}
+pub use Rattle.model.specs.Models.Words.{value}
 use Rattle.model.proofs.Words.Ripple.{over, odd, par-is, par-of}
 
 small : (b : Bool) → digit b < 2

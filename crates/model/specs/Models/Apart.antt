@@ -1,10 +1,11 @@
 -- TAKE APART: from any words to a row of tokens, by the sets that the words hold where an image would have them.
 use mathlib.Core.Bool.{Bool, true, false, not, _&&_, _||_}
 use mathlib.Core.List.{List, [], _∷_}
-use Prim.Native.Nat.{ℕ, zero, suc, _+_, _*_, _^_}
+use Prim.Native.Nat.{ℕ, zero, suc, _*_}
 use lib.ListN.{getD, take, drop}
 use Rattle.model.specs.Bits.{bit, mask}
 use Rattle.model.specs.Tree.{Repeat, once, option, plus, star}
+use Rattle.model.specs.Models.Words.{value}
 use Rattle.model.specs.Models.Tokens.{Token, aLetter, anOpen, aBar, aClose}
 
 -- ---- the sets that words hold
@@ -36,11 +37,6 @@ propagateIn ws = drop 1 (drop (3 * widthWord ws * depthWord ws) (gatherIn ws))
 -- part k of words that are cut into parts of w words
 abbrev pub chunk : ℕ → ℕ → List ℕ → List ℕ
 chunk w k ws = take w (drop (w * k) ws)
-
--- the number that words stand for, low word first
-abbrev pub value : List ℕ → ℕ
-value [] = 0
-value (w ∷ ws) = w + 2 ^ 64 * value ws
 
 -- bit x of mask k of a section, where each mask has W words; of mask j of the three of depth k
 abbrev pub bitOf : ℕ → List ℕ → ℕ → ℕ → Bool

@@ -88,11 +88,20 @@ module _ (K : ℕ → Token) where
     told : (s : Seq) (t k : ℕ) → Shows s t → All Told (arcs s t k)
     told end t k S = tt
     told (letter c r s) t k S =
-        letter-whole Told c r s t k (record { takes = (refl, r, S .0); loops = λ x. (refl, t, r, refl, S .0, x); skips = λ x. over-letter c r refl (S .0) x; rest = told s (suc t) k (S .1) })
+        letter-whole Told c r s t k (record {
+          takes = (refl, r, S .0);
+          loops = λ x. (refl, t, r, refl, S .0, x);
+          skips = λ x. over-letter c r refl (S .0) x;
+          rest = told s (suc t) k (S .1);
+        })
     told (union a s) t k S =
         let closed = close-at-end a t (S .1) in
-        branch-whole Told a s t k (record
-        { skips = λ x. over-union (altsEnd a t) refl closed; forks = (S .0, altsEnd a t, refl, closed); alts = told-alts a t k (S .1); rest = told s (suc (altsEnd a t)) k (S .2) })
+        branch-whole Told a s t k (record {
+          skips = λ x. over-union (altsEnd a t) refl closed;
+          forks = (S .0, altsEnd a t, refl, closed);
+          alts = told-alts a t k (S .1);
+          rest = told s (suc (altsEnd a t)) k (S .2);
+        })
 
     told-alts : (a : Alts) (p k : ℕ) → ShowsAlts a p → All Told (altsArcs a p k)
     told-alts (last s) p k S = told s (suc p) (suc k) (S .0)

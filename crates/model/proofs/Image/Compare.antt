@@ -3,7 +3,7 @@
 use mathlib.Core.Path.{_≡_, refl, sym, ap, _∙_, subst}
 use mathlib.Core.Logic.{_⊎_, inl, inr, _↔_}
 use mathlib.Core.Bool.{Bool, true, false, _&&_}
-use mathlib.Core.List.{List, _∷_, _++_}
+use mathlib.Core.List.{List, [], _++_, append-nil}
 use Prim.Native.Nat.{ℕ, zero, suc, _+_, _*_, _≤_, _<_}
 use native.Mathlib.Nat.{le-of-suc-le-suc, not-suc-le-zero, zero-lt-suc, zero-add, mul-suc, mul-le-mul-left}
 use native.Mathlib.Omega.{arith}
@@ -11,7 +11,7 @@ use lib.Dec.{T}
 use lib.ListN.{length, getD, drop, length-drop}
 use lib.Seq.{drop-at, length-take-le}
 use Rattle.model.specs.Bits.{bit, mask}
-use Rattle.model.specs.Image.{width}
+use Rattle.model.specs.Image.{section, width}
 use Rattle.model.specs.Models.Tokens.{Token, aClose, classOf}
 use Rattle.model.specs.Models.LayOut.{Which, assemble, begin, blockOf, gather-block, gather-source, gather-target, laid, layOut, loop-place, reach, scatter-block, scatter-source, scatter-target, set, sourceOf, targetOf, three, tokenLetters, tokenLoops, valid}
 use Rattle.model.specs.Models.Apart.{anyBelow, bitOf, chunk, depthWord, gatherIn, lettersIn, propagateIn, repeatsIn, scatterIn, stateWord, tape, tokenAt, tokenOf, tokensBetween, tokensFrom, widthWord}
@@ -43,7 +43,8 @@ pub record Compared (ws : List ℕ) (l : List Token) : Type 0 where
   pub propagate-count : getD (drop (3 * widthWord ws * depthWord ws) (gatherIn ws)) 0 0 ≡ 3 * widthWord ws * suc (depthWord ws)
   -- no letter mask has state 0 or a state at or past m
   pub letters : (b x : ℕ) → b < 256 → (x ≡ 0) ⊎ (stateWord ws ≤ x) → bitOf (widthWord ws) (lettersIn ws) b x ≡ false
-  pub repeats : (b : ℕ) → b < 256 → chunk (widthWord ws) b (repeatsIn ws) ≡ andWords (chunk (widthWord ws) b (lettersIn ws)) (set (stateWord ws) (widthWord ws) (layOut l begin loop-place 0))
+  pub repeats : (b : ℕ) → b < 256 → chunk (widthWord ws) b (repeatsIn ws)
+      ≡ andWords (chunk (widthWord ws) b (lettersIn ws)) (set (stateWord ws) (widthWord ws) (layOut l begin loop-place 0))
   pub scatter : (k : ℕ) → k < depthWord ws → chunk (3 * widthWord ws) k (scatterIn ws)
       ≡ three (stateWord ws) (widthWord ws) (layOut l begin scatter-block k) (layOut l begin scatter-source k) (layOut l begin scatter-target k)
   pub gather : (k : ℕ) → k < depthWord ws → chunk (3 * widthWord ws) k (gatherIn ws)
@@ -98,7 +99,7 @@ compared-laid ws fit C =
       scatter-count = C .scatter-count;
       gather-count = C .gather-count;
       propagate-count = C .propagate-count;
-      letters = λ b h. holds-one m W (chunk W b (lettersIn ws)) (set m W (tokenLetters l b)) (tokenLetters l b) (tokenLetters l b) (letters-hold b h) (set-holds m W (tokenLetters l b) fits) (λ x k. refl);
+      letters = letters-same;
       repeats = λ b h. C .repeats b h ∙ repeat-words l b m W (chunk W b (lettersIn ws)) (C .states) fits (letters-hold b h);
       scatter = C .scatter;
       gather = C .gather;
@@ -137,6 +138,11 @@ compared-laid ws fit C =
       none = λ x k. C .letters b x h (inr k);
     }
 
+    letters-same : (b : ℕ) → b < 256 → chunk W b (lettersIn ws) ≡ set m W (tokenLetters l b)
+    letters-same b h =
+        holds-one m W (chunk W b (lettersIn ws)) (set m W (tokenLetters l b)) (tokenLetters l b) (tokenLetters l b) (letters-hold b h)
+        (set-holds m W (tokenLetters l b) fits) (λ x k. refl)
+
 -- COMPLETE: what is laid out for a row of tokens compares equal
 module _ (l : List Token) where
   abbrev m : ℕ
@@ -157,9 +163,9 @@ module _ (l : List Token) where
   abbrev B : Which → ℕ → ℕ → Bool
   B = layOut l begin
 
-  -- the count that follows words of a section
-  count-after : (xs r : List ℕ) (c n : ℕ) → length xs ≡ n → getD (drop n (xs ++ (c ∷ r))) 0 0 ≡ c
-  count-after xs r c n e = ap (λ (z : List ℕ). getD z 0 0) (drop-at xs (c ∷ r) n e)
+  -- the count after the n words xs of a section, where the next section has j words
+  count-after : (S xs ys r : List ℕ) (n j : ℕ) → S ≡ xs ++ (section ys ++ r) → length xs ≡ n → length ys ≡ j → getD (drop n S) 0 0 ≡ j
+  count-after S xs ys r n j e x y = ap (λ (z : List ℕ). getD (drop n z) 0 0) e ∙ ap (λ (z : List ℕ). getD z 0 0) (drop-at xs (section ys ++ r) n x) ∙ y
 
   set-clear : (f : ℕ → Bool) (x : ℕ) → f 0 ≡ false → (x ≡ 0) ⊎ (m ≤ x) → bit (value (set m W f)) x ≡ false
   set-clear f x h (inl e) = ap (λ (y : ℕ). bit (value (set m W f)) y) e ∙ set-holds m W f (room m) .near .bits 0 (zero-lt-suc (length l)) ∙ h
@@ -173,16 +179,19 @@ module _ (l : List Token) where
     width-word = refl;
     level = refl;
     letters-count = letters-length m W d L R B;
-    repeats-count = count-after (letterRows m W d L R B) (loopRows m W d L R B ++ after-repeats m W d L R B) (length (loopRows m W d L R B)) (W * 256) (letters-length m W d L R B) ∙ loops-length m W d L R B;
-    scatter-count = ap (λ (z : List ℕ). getD (drop (W * 256) z) 0 0) (repeats-found m W d L R B)
-        ∙ count-after (loopRows m W d L R B) (scatterRows m W d L R B ++ after-scatter m W d L R B) (length (scatterRows m W d L R B)) (W * 256) (loops-length m W d L R B) ∙ scatters-length m W d L R B;
-    gather-count = ap (λ (z : List ℕ). getD (drop (3 * W * d) z) 0 0) (scatter-found m W d L R B)
-        ∙ count-after (scatterRows m W d L R B) (gatherRows m W d L R B ++ after-gather m W d L R B) (length (gatherRows m W d L R B)) (3 * W * d) (scatters-length m W d L R B) ∙ gathers-length m W d L R B;
-    propagate-count = ap (λ (z : List ℕ). getD (drop (3 * W * d) z) 0 0) (gather-found m W d L R B)
-        ∙ count-after (gatherRows m W d L R B) (propagateRows m W d L R B) (length (propagateRows m W d L R B)) (3 * W * d) (gathers-length m W d L R B) ∙ propagates-length m W d L R B;
+    repeats-count = count-after (lettersIn (laid l)) (letterRows m W d L R B) (loopRows m W d L R B) (after-repeats m W d L R B) (W * 256) (W * 256)
+        refl (letters-length m W d L R B) (loops-length m W d L R B);
+    scatter-count = count-after (repeatsIn (laid l)) (loopRows m W d L R B) (scatterRows m W d L R B) (after-scatter m W d L R B) (W * 256) (3 * W * d)
+        (repeats-found m W d L R B) (loops-length m W d L R B) (scatters-length m W d L R B);
+    gather-count = count-after (scatterIn (laid l)) (scatterRows m W d L R B) (gatherRows m W d L R B) (after-gather m W d L R B) (3 * W * d) (3 * W * d)
+        (scatter-found m W d L R B) (scatters-length m W d L R B) (gathers-length m W d L R B);
+    propagate-count = count-after (gatherIn (laid l)) (gatherRows m W d L R B) (propagateRows m W d L R B) [] (3 * W * d) (3 * W * suc d)
+        (gather-found m W d L R B ∙ ap (λ (z : List ℕ). gatherRows m W d L R B ++ z) (sym (append-nil (after-gather m W d L R B))))
+        (gathers-length m W d L R B) (propagates-length m W d L R B);
     letters = λ b x h o. ap (λ (z : List ℕ). bit (value z) x) (part-letters m W d L R B b h) ∙ set-clear (L b) x refl o;
     repeats = λ b h. part-repeats m W d L R B b h
-        ∙ sym (ap (λ (z : List ℕ). andWords z (set m W (B loop-place 0))) (part-letters m W d L R B b h) ∙ repeat-words l b m W (set m W (L b)) refl (room m) (set-holds m W (L b) (room m)));
+        ∙ sym (ap (λ (z : List ℕ). andWords z (set m W (B loop-place 0))) (part-letters m W d L R B b h)
+        ∙ repeat-words l b m W (set m W (L b)) refl (room m) (set-holds m W (L b) (room m)));
     scatter = part-scatter m W d L R B;
     gather = part-gather m W d L R B;
     propagate = part-propagate m W d L R B;

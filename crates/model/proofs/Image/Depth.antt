@@ -31,7 +31,9 @@ mutual
   reaches end rest q = let r = ap (reach rest) (sym (after-end q)) in omega arith
   reaches (letter c r s) rest q = reaches s rest (step (aLetter c r) q) ∙ ap (λ (z : Scan). max (top s (length (q .stack))) (reach rest z)) (after-letter c r s q)
   reaches (union a s) rest q =
-      ap (max (suc n)) (reaches-alts a (tokens s rest) (q .position) (opened q) (q .stack) ∙ ap (max (topAlts a (suc n))) (reaches s rest (afterUnion a (q .position) (opened q) (q .stack))))
+      ap (max (suc n))
+      (reaches-alts a (tokens s rest) (q .position) (opened q) (q .stack)
+      ∙ ap (max (topAlts a (suc n))) (reaches s rest (afterUnion a (q .position) (opened q) (q .stack))))
       ∙ ap (λ (z : Scan). max (suc n) (max (topAlts a (suc n)) (max (top s n) (reach rest z)))) (after-union a s q)
       ∙ shuffle (suc n) (topAlts a (suc n)) (top s n) (reach rest (after (union a s) q))
     where

@@ -1,12 +1,12 @@
 -- What is laid out for a tree's tokens is the tree's image: states, depth, letters, loops and marks of the tokens are those of the tree.
 use mathlib.Core.Path.{_≡_, _∙_}
 use mathlib.Core.Bool.{Bool}
-use mathlib.Core.List.{[], _∷_, _++_}
+use mathlib.Core.List.{List, [], _∷_, _++_}
 use Prim.Native.Nat.{ℕ, suc, _<_}
 use Rattle.model.specs.Tree.{Seq}
 use Rattle.model.specs.Edges.{depth, seqEnd}
 use Rattle.model.specs.Image.{join, section, width}
-use Rattle.model.specs.Models.Tokens.{tokens}
+use Rattle.model.specs.Models.Tokens.{Token, tokens}
 use Rattle.model.specs.Models.LayOut.{Which, assemble, begin, blockOf, gather-block, gather-source, gather-target, laid, layOut, scatter-block, scatter-source, scatter-target, set, sourceOf, targetOf, three, tokenLetters, tokenLoops}
 use Rattle.model.proofs.Ends.Run.{letterSet, loopSet}
 use Rattle.model.proofs.Image.Depth.{reach-is}
@@ -18,8 +18,10 @@ use Rattle.model.proofs.Image.Tokens.{length-tokens}
 use Rattle.model.proofs.Language.Arcs.{arcs}
 
 -- images of sets that agree below m
-assemble-same : (m W d : ℕ) (L R L′ R′ : ℕ → ℕ → Bool) (B B′ : Which → ℕ → ℕ → Bool) → ((b x : ℕ) → x < m → L b x ≡ L′ b x) → ((b x : ℕ) → x < m → R b x ≡ R′ b x)
-    → ((w : Which) (k x : ℕ) → B w k x ≡ B′ w k x) → assemble m W d L R B ≡ assemble m W d L′ R′ B′
+assemble-same : (m W d : ℕ) (L R L′ R′ : ℕ → ℕ → Bool) (B B′ : Which → ℕ → ℕ → Bool)
+    → ((b x : ℕ) → x < m → L b x ≡ L′ b x) → ((b x : ℕ) → x < m → R b x ≡ R′ b x)
+    → ((w : Which) (k x : ℕ) → B w k x ≡ B′ w k x)
+    → assemble m W d L R B ≡ assemble m W d L′ R′ B′
 assemble-same m W d L R L′ R′ B B′ hl hr hb =
     λ i. section (m ∷ W ∷ d ∷ [])
     ++ (section (join-same 256 0 (λ b. set m W (L b)) (λ b. set m W (L′ b)) (λ b. set-same m W (L b) (L′ b) (hl b)) i)
@@ -31,6 +33,9 @@ assemble-same m W d L R L′ R′ B B′ hl hr hb =
 -- THE THEOREM
 pub laid-is : (s : Seq) → laid (tokens s []) ≡ arcImage s
 laid-is s =
-    (λ i. assemble (suc (length-tokens s i)) (width (suc (length-tokens s i))) (reach-is s i) (tokenLetters (tokens s [])) (tokenLoops (tokens s [])) (layOut (tokens s []) begin))
-    ∙ assemble-same (suc (seqEnd s 0)) (width (suc (seqEnd s 0))) (depth s) (tokenLetters (tokens s [])) (tokenLoops (tokens s [])) (letterSet (arcs s 0 0)) (loopSet (arcs s 0 0)) (layOut (tokens s []) begin) (treeSet s)
-    (letters-are s) (loops-are s) (tree-sets s)
+    (λ i. assemble (suc (length-tokens s i)) (width (suc (length-tokens s i))) (reach-is s i) (tokenLetters l) (tokenLoops l) (layOut l begin))
+    ∙ assemble-same (suc (seqEnd s 0)) (width (suc (seqEnd s 0))) (depth s) (tokenLetters l) (tokenLoops l) (letterSet (arcs s 0 0)) (loopSet (arcs s 0 0))
+    (layOut l begin) (treeSet s) (letters-are s) (loops-are s) (tree-sets s)
+  where
+    l : List Token
+    l = tokens s []

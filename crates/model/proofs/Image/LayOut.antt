@@ -111,7 +111,8 @@ module _ (w : Which) (k x : ℕ) where
         || laidFrom rest (afterUnion a p f st))
     sets-alts (last s) rest p f st =
         sets s (aClose ∷ rest) (alternativeAt p f st)
-        ∙ sym (or-assoc (marked (arcs s (suc p) (suc (length st)))) (closeMarksIn (seqEnd s (suc p)) (seqEmpty s) (f ∷ st) w k x) (laidFrom rest (afterUnion (last s) p f st)))
+        ∙ sym (or-assoc (marked (arcs s (suc p) (suc (length st)))) (closeMarksIn (seqEnd s (suc p)) (seqEmpty s) (f ∷ st) w k x)
+        (laidFrom rest (afterUnion (last s) p f st)))
     sets-alts (more s a) rest p f st =
         sets s (aBar ∷ altsTokens a rest) (alternativeAt p f st)
         ∙ ap (λ (v : Bool). H || (B || v)) (sets-alts a rest z g st)

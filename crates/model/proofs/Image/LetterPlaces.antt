@@ -61,7 +61,8 @@ module _ (w : Which) (test : Token → Bool) (marks : (y : Token) (q : Scan) (x 
   at-token [] q i h = absurd (not-suc-le-zero h)
   at-token (y ∷ ys) q zero h =
       (let e : suc (q .position + 0) ≡ suc (q .position) = omega arith in ap (λ (x : ℕ). layOut (y ∷ ys) q w 0 x) e)
-      ∙ ap₂ _||_ (marks y q z ∙ ap (λ (b : Bool). test y && b) (is-true (eqb z z) (eqb-refl z)) ∙ and-true (test y)) (none-before ys (step y q) z (omega (arith, position-step y q)))
+      ∙ ap₂ _||_ (marks y q z ∙ ap (λ (b : Bool). test y && b) (is-true (eqb z z) (eqb-refl z)) ∙ and-true (test y))
+      (none-before ys (step y q) z (omega (arith, position-step y q)))
       ∙ or-false (test y)
     where
       z : ℕ
@@ -139,16 +140,20 @@ or-is-places l F (suc i) h = some-byte (getD l i aClose) (fine-at l i F) ∙ sym
     some-byte aBar C = no-bits 256
     some-byte aClose C = no-bits 256
 
+-- the letter places of a row of tokens, in words of the width that ws say
+abbrev pub letterPlaces : List ℕ → List Token → List ℕ
+letterPlaces ws l = set (stateWord ws) (widthWord ws) (layOut l begin letter-place 0)
+
 -- and where words' letter masks together are the letter places, no letter mask has state 0 or a state at or past m
 pub letters-by-or : (ws : List ℕ) (l : List Token) → stateWord ws ≤ wide (widthWord ws) → 0 < stateWord ws
-    → ((x : ℕ) → anyBelow 256 (λ b. bitOf (widthWord ws) (lettersIn ws) b x) ≡ bit (value (set (stateWord ws) (widthWord ws) (layOut l begin letter-place 0))) x)
+    → ((x : ℕ) → anyBelow 256 (λ b. bitOf (widthWord ws) (lettersIn ws) b x) ≡ bit (value (letterPlaces ws l)) x)
     → (b x : ℕ) → b < 256 → (x ≡ 0) ⊎ (stateWord ws ≤ x) → bitOf (widthWord ws) (lettersIn ws) b x ≡ false
 letters-by-or ws l room some same b x h o =
     is-not (bitOf (widthWord ws) (lettersIn ws) b x) (λ t. subst T (same x ∙ none o) (below-in 256 (λ b. bitOf (widthWord ws) (lettersIn ws) b x) b h t))
   where
-    H : Holds (stateWord ws) (widthWord ws) (set (stateWord ws) (widthWord ws) (layOut l begin letter-place 0)) (layOut l begin letter-place 0)
+    H : Holds (stateWord ws) (widthWord ws) (letterPlaces ws l) (layOut l begin letter-place 0)
     H = set-holds (stateWord ws) (widthWord ws) (layOut l begin letter-place 0) room
 
-    none : (x ≡ 0) ⊎ (stateWord ws ≤ x) → bit (value (set (stateWord ws) (widthWord ws) (layOut l begin letter-place 0))) x ≡ false
-    none (inl e) = ap (λ (y : ℕ). bit (value (set (stateWord ws) (widthWord ws) (layOut l begin letter-place 0))) y) e ∙ H .near .bits 0 some ∙ no-letter-at-zero l
+    none : (x ≡ 0) ⊎ (stateWord ws ≤ x) → bit (value (letterPlaces ws l)) x ≡ false
+    none (inl e) = ap (λ (y : ℕ). bit (value (letterPlaces ws l)) y) e ∙ H .near .bits 0 some ∙ no-letter-at-zero l
     none (inr k) = H .none x k

@@ -87,8 +87,10 @@ nothing : (l s : Bool) → false ≡ ((l && false) || (s && false))
 nothing l s = ap₂ _||_ (sym (and-false l)) (sym (and-false s))
 
 pub letter-marks : (w : Which) (k x d t c : ℕ) (r : Repeat) → letterMarks r t d w k x
-    ≡ (on w k x (arc (letterArc c) d t (suc t)) || ((canLoop r && on w k x (arc (loopArc c) d (suc t) (suc t))) || (canSkip r && on w k x (arc propagateArc d t (suc t)))))
-letter-marks letter-place k x d t c r = sym (ap (λ (b : Bool). (eqb x (suc t) && eqb 0 k) || b) (sym (nothing (canLoop r) (canSkip r))) ∙ or-false (eqb x (suc t) && eqb 0 k))
+    ≡ (on w k x (arc (letterArc c) d t (suc t))
+    || ((canLoop r && on w k x (arc (loopArc c) d (suc t) (suc t))) || (canSkip r && on w k x (arc propagateArc d t (suc t)))))
+letter-marks letter-place k x d t c r =
+    sym (ap (λ (b : Bool). (eqb x (suc t) && eqb 0 k) || b) (sym (nothing (canLoop r) (canSkip r))) ∙ or-false (eqb x (suc t) && eqb 0 k))
 letter-marks loop-place k x d t c r =
     sym (ap (λ (b : Bool). (canLoop r && (eqb x (suc t) && eqb 0 k)) || b) (and-false (canSkip r)) ∙ or-false (canLoop r && (eqb x (suc t) && eqb 0 k)))
 letter-marks scatter-block k x d t c r = nothing (canLoop r) (canSkip r)
@@ -113,7 +115,8 @@ module _ (k x d : ℕ) where
   tail-none w close bar (more s a) p f =
       ap₂ _||_ (bar (seqEnd s (suc p))) (tail-none w close bar a (seqEnd s (suc p)) (nextAlternative f (seqEnd s (suc p)) (seqEmpty s)))
 
-  tail-scatter-block : (a : Alts) (p : ℕ) (f : Frame) → f .alternative ≡ suc p → tailMarks a p d f scatter-block k x ≡ (eqb x (suc (lastStart (ways a p))) && eqb d k)
+  tail-scatter-block : (a : Alts) (p : ℕ) (f : Frame) → f .alternative ≡ suc p
+      → tailMarks a p d f scatter-block k x ≡ (eqb x (suc (lastStart (ways a p))) && eqb d k)
   tail-scatter-block (last s) p f e = ap (λ (y : ℕ). eqb x (suc y) && eqb d k) e
   tail-scatter-block (more s (last s′)) p f e = tail-scatter-block (last s′) (seqEnd s (suc p)) (nextAlternative f (seqEnd s (suc p)) (seqEmpty s)) refl
   tail-scatter-block (more s (more s′ a)) p f e = tail-scatter-block (more s′ a) (seqEnd s (suc p)) (nextAlternative f (seqEnd s (suc p)) (seqEmpty s)) refl
@@ -142,12 +145,14 @@ module _ (k x d : ℕ) where
 
 -- a union's open, bars and close mark the places of its fork
 pub union-marks : (w : Which) (k x d : ℕ) (a : Alts) (q : Scan)
-    → (openMarks (q .position) d w k x || tailMarks a (q .position) d (opened q) w k x) ≡ on w k x (arc (forkArc (ways a (q .position))) d (q .position) (suc (altsEnd a (q .position))))
+    → (openMarks (q .position) d w k x || tailMarks a (q .position) d (opened q) w k x)
+    ≡ on w k x (arc (forkArc (ways a (q .position))) d (q .position) (suc (altsEnd a (q .position))))
 union-marks letter-place k x d a q = tail-none k x d letter-place (λ z f a. refl) (λ z. refl) a (q .position) (opened q)
 union-marks loop-place k x d a q = tail-none k x d loop-place (λ z f a. refl) (λ z. refl) a (q .position) (opened q)
 union-marks scatter-block k x d a q = tail-scatter-block k x d a (q .position) (opened q) refl
 union-marks scatter-source k x d a q =
-    ap (λ (y : Bool). (eqb x (q .position) && eqb d k) || y) (tail-none k x d scatter-source (λ z f a. refl) (λ z. refl) a (q .position) (opened q)) ∙ or-false (eqb x (q .position) && eqb d k)
+    ap (λ (y : Bool). (eqb x (q .position) && eqb d k) || y) (tail-none k x d scatter-source (λ z f a. refl) (λ z. refl) a (q .position) (opened q))
+    ∙ or-false (eqb x (q .position) && eqb d k)
 union-marks scatter-target k x d a q = tail-scatter-target k x d a (q .position) (opened q)
 union-marks gather-block k x d a q = tail-gather-block k x d a (q .position) (opened q)
 union-marks gather-source k x d a q = tail-gather-source k x d a (q .position) (opened q)

@@ -26,15 +26,17 @@ module _ (X : Type 0) (fromPropagate : ℕ → ℕ → List X) (fromFork : List 
   items-any k [] = refl
   items-any k (e ∷ es) =
       ap₂ _||_ (kept (eqb (e .level) k)) (items-any k es)
-      ∙ sym (any-app p (keep X fromPropagate fromFork (eqb (e .level) k) (pick X fromPropagate fromFork (e .kind) (e .from) (e .to))) (itemsOf X fromPropagate fromFork k es))
+      ∙ sym (any-app p (keep X fromPropagate fromFork (eqb (e .level) k) (pick X fromPropagate fromFork (e .kind) (e .from) (e .to)))
+      (itemsOf X fromPropagate fromFork k es))
     where
       kept : (b : Bool) → (h (e .kind) (e .from) (e .to) && b) ≡ any p (keep X fromPropagate fromFork b (pick X fromPropagate fromFork (e .kind) (e .from) (e .to)))
       kept true = and-true (h (e .kind) (e .from) (e .to)) ∙ same (e .kind) (e .from) (e .to)
       kept false = and-false (h (e .kind) (e .from) (e .to))
 
 -- for a mask of unions: only forks pass, and a fork passes as its union does
-forks-any : (p : Union → Bool) (h : ArcKind → ℕ → ℕ → Bool) → ((c i j : ℕ) → h (letterArc c) i j ≡ false) → ((c i j : ℕ) → h (loopArc c) i j ≡ false) → ((i j : ℕ) → h propagateArc i j ≡ false)
-    → ((xs : List Way) (i j : ℕ) → (h (forkArc xs) i j || false) ≡ any p (ofFork xs i j)) → (k : ℕ) (es : List Arc) → any (λ e. h (e .kind) (e .from) (e .to) && eqb (e .level) k) es ≡ any p (forksOf k es)
+forks-any : (p : Union → Bool) (h : ArcKind → ℕ → ℕ → Bool) → ((c i j : ℕ) → h (letterArc c) i j ≡ false) → ((c i j : ℕ) → h (loopArc c) i j ≡ false)
+    → ((i j : ℕ) → h propagateArc i j ≡ false) → ((xs : List Way) (i j : ℕ) → (h (forkArc xs) i j || false) ≡ any p (ofFork xs i j))
+    → (k : ℕ) (es : List Arc) → any (λ e. h (e .kind) (e .from) (e .to) && eqb (e .level) k) es ≡ any p (forksOf k es)
 forks-any p h at-letter at-loop at-propagate at-fork = items-any Union noPropagate ofFork p h same
   where
     same : (w : ArcKind) (i j : ℕ) → h w i j ≡ any p (pick Union noPropagate ofFork w i j)
@@ -44,8 +46,9 @@ forks-any p h at-letter at-loop at-propagate at-fork = items-any Union noPropaga
     same (forkArc xs) i j = sym (or-false (h (forkArc xs) i j)) ∙ at-fork xs i j
 
 -- for the propagate edges: only they pass
-propagates-any : (p : Way → Bool) (h : ArcKind → ℕ → ℕ → Bool) → ((c i j : ℕ) → h (letterArc c) i j ≡ false) → ((c i j : ℕ) → h (loopArc c) i j ≡ false) → ((xs : List Way) (i j : ℕ) → h (forkArc xs) i j ≡ false)
-    → ((i j : ℕ) → h propagateArc i j ≡ p (i, j)) → (k : ℕ) (es : List Arc) → any (λ e. h (e .kind) (e .from) (e .to) && eqb (e .level) k) es ≡ any p (propagatesOf k es)
+propagates-any : (p : Way → Bool) (h : ArcKind → ℕ → ℕ → Bool) → ((c i j : ℕ) → h (letterArc c) i j ≡ false) → ((c i j : ℕ) → h (loopArc c) i j ≡ false)
+    → ((xs : List Way) (i j : ℕ) → h (forkArc xs) i j ≡ false) → ((i j : ℕ) → h propagateArc i j ≡ p (i, j))
+    → (k : ℕ) (es : List Arc) → any (λ e. h (e .kind) (e .from) (e .to) && eqb (e .level) k) es ≡ any p (propagatesOf k es)
 propagates-any p h at-letter at-loop at-fork at-propagate = items-any Way ofPropagate noFork p h same
   where
     same : (w : ArcKind) (i j : ℕ) → h w i j ≡ any p (pick Way ofPropagate noFork w i j)
@@ -66,16 +69,24 @@ enters-any x (p ∷ ps) = ap (λ (b : Bool). eqb x (p .1) || b) (enters-any x ps
 pub arcs-set : (s : Seq) (w : Which) (k x : ℕ) → any (on w k x) (arcs s 0 0) ≡ treeSet s w k x
 arcs-set s letter-place k x = refl
 arcs-set s loop-place k x = refl
-arcs-set s scatter-block k x = forks-any (λ u. eqb x (suc (u .final))) (onKind scatter-block x) (λ c i j. refl) (λ c i j. refl) (λ i j. refl) (λ xs i j. refl) k (arcs s 0 0)
-arcs-set s scatter-source k x = forks-any (λ u. eqb x (u .open′)) (onKind scatter-source x) (λ c i j. refl) (λ c i j. refl) (λ i j. refl) (λ xs i j. refl) k (arcs s 0 0)
-arcs-set s scatter-target k x = forks-any (λ u. within x (u .starts)) (onKind scatter-target x) (λ c i j. refl) (λ c i j. refl) (λ i j. refl) (λ xs i j. refl) k (arcs s 0 0)
-arcs-set s gather-block k x = forks-any (λ u. leb (u .first) x && ltb x (u .close)) (onKind gather-block x) (λ c i j. refl) (λ c i j. refl) (λ i j. refl) (λ xs i j. refl) k (arcs s 0 0)
-arcs-set s gather-source k x = forks-any (λ u. within x (u .ends)) (onKind gather-source x) (λ c i j. refl) (λ c i j. refl) (λ i j. refl) (λ xs i j. refl) k (arcs s 0 0)
-arcs-set s gather-target k x = forks-any (λ u. eqb x (u .close)) (onKind gather-target x) (λ c i j. refl) (λ c i j. refl) (λ i j. refl) (λ xs i j. refl) k (arcs s 0 0)
+arcs-set s scatter-block k x =
+    forks-any (λ u. eqb x (suc (u .final))) (onKind scatter-block x) (λ c i j. refl) (λ c i j. refl) (λ i j. refl) (λ xs i j. refl) k (arcs s 0 0)
+arcs-set s scatter-source k x =
+    forks-any (λ u. eqb x (u .open′)) (onKind scatter-source x) (λ c i j. refl) (λ c i j. refl) (λ i j. refl) (λ xs i j. refl) k (arcs s 0 0)
+arcs-set s scatter-target k x =
+    forks-any (λ u. within x (u .starts)) (onKind scatter-target x) (λ c i j. refl) (λ c i j. refl) (λ i j. refl) (λ xs i j. refl) k (arcs s 0 0)
+arcs-set s gather-block k x =
+    forks-any (λ u. leb (u .first) x && ltb x (u .close)) (onKind gather-block x) (λ c i j. refl) (λ c i j. refl) (λ i j. refl) (λ xs i j. refl) k (arcs s 0 0)
+arcs-set s gather-source k x =
+    forks-any (λ u. within x (u .ends)) (onKind gather-source x) (λ c i j. refl) (λ c i j. refl) (λ i j. refl) (λ xs i j. refl) k (arcs s 0 0)
+arcs-set s gather-target k x =
+    forks-any (λ u. eqb x (u .close)) (onKind gather-target x) (λ c i j. refl) (λ c i j. refl) (λ i j. refl) (λ xs i j. refl) k (arcs s 0 0)
 arcs-set s leaving k x =
-    propagates-any (λ p. eqb x (p .0)) (onKind leaving x) (λ c i j. refl) (λ c i j. refl) (λ xs i j. refl) (λ i j. refl) k (arcs s 0 0) ∙ leaves-any x (propagatesOf k (arcs s 0 0))
+    propagates-any (λ p. eqb x (p .0)) (onKind leaving x) (λ c i j. refl) (λ c i j. refl) (λ xs i j. refl) (λ i j. refl) k (arcs s 0 0)
+    ∙ leaves-any x (propagatesOf k (arcs s 0 0))
 arcs-set s entering k x =
-    propagates-any (λ p. eqb x (p .1)) (onKind entering x) (λ c i j. refl) (λ c i j. refl) (λ xs i j. refl) (λ i j. refl) k (arcs s 0 0) ∙ enters-any x (propagatesOf k (arcs s 0 0))
+    propagates-any (λ p. eqb x (p .1)) (onKind entering x) (λ c i j. refl) (λ c i j. refl) (λ xs i j. refl) (λ i j. refl) k (arcs s 0 0)
+    ∙ enters-any x (propagatesOf k (arcs s 0 0))
 
 -- LAY OUT MARKS THE TREE'S SETS
 pub tree-sets : (s : Seq) (w : Which) (k x : ℕ) → layOut (tokens s []) begin w k x ≡ treeSet s w k x

@@ -88,20 +88,25 @@ module _ (ws : List ℕ) (L R : ℕ → ℕ → Bool) (B : Which → ℕ → ℕ
 
       from-gather : gatherIn ws ≡ gatherRows m W d L R B ++ after-gather m W d L R B
       from-gather =
-          section-on (3 * W) d (gatherWordsAt m W d L R B) (gatherIn ws) (P .gather) (length (propagateRows m W d L R B)) (omega (arith, gather-long)) (P .propagate-count ∙ sym (propagates-length m W d L R B))
-          ∙ ap (λ (r : List ℕ). gatherRows m W d L R B ++ (length (propagateRows m W d L R B) ∷ r)) (section-end (3 * W) (suc d) (propagateWordsAt m W d L R B) (propagateIn ws) (P .propagate) propagate-long)
+          section-on (3 * W) d (gatherWordsAt m W d L R B) (gatherIn ws) (P .gather) (length (propagateRows m W d L R B))
+          (omega (arith, gather-long)) (P .propagate-count ∙ sym (propagates-length m W d L R B))
+          ∙ ap (λ (r : List ℕ). gatherRows m W d L R B ++ (length (propagateRows m W d L R B) ∷ r))
+          (section-end (3 * W) (suc d) (propagateWordsAt m W d L R B) (propagateIn ws) (P .propagate) propagate-long)
 
       from-scatter : scatterIn ws ≡ scatterRows m W d L R B ++ after-scatter m W d L R B
       from-scatter =
-          section-on (3 * W) d (scatterWordsAt m W d L R B) (scatterIn ws) (P .scatter) (length (gatherRows m W d L R B)) (omega (arith, scatter-long)) (P .gather-count ∙ sym (gathers-length m W d L R B))
+          section-on (3 * W) d (scatterWordsAt m W d L R B) (scatterIn ws) (P .scatter) (length (gatherRows m W d L R B))
+          (omega (arith, scatter-long)) (P .gather-count ∙ sym (gathers-length m W d L R B))
           ∙ ap (λ (r : List ℕ). scatterRows m W d L R B ++ (length (gatherRows m W d L R B) ∷ r)) from-gather
 
       from-repeats : repeatsIn ws ≡ loopRows m W d L R B ++ after-repeats m W d L R B
       from-repeats =
-          section-on W 256 (loopWordsAt m W d L R B) (repeatsIn ws) (P .repeats) (length (scatterRows m W d L R B)) (omega (arith, repeats-long)) (P .scatter-count ∙ sym (scatters-length m W d L R B))
+          section-on W 256 (loopWordsAt m W d L R B) (repeatsIn ws) (P .repeats) (length (scatterRows m W d L R B))
+          (omega (arith, repeats-long)) (P .scatter-count ∙ sym (scatters-length m W d L R B))
           ∙ ap (λ (r : List ℕ). loopRows m W d L R B ++ (length (scatterRows m W d L R B) ∷ r)) from-scatter
 
       from-letters : lettersIn ws ≡ letterRows m W d L R B ++ after-letters m W d L R B
       from-letters =
-          section-on W 256 (letterWordsAt m W d L R B) (lettersIn ws) (P .letters) (length (loopRows m W d L R B)) (omega (arith, letters-long)) (P .repeats-count ∙ sym (loops-length m W d L R B))
+          section-on W 256 (letterWordsAt m W d L R B) (lettersIn ws) (P .letters) (length (loopRows m W d L R B))
+          (omega (arith, letters-long)) (P .repeats-count ∙ sym (loops-length m W d L R B))
           ∙ ap (λ (r : List ℕ). letterRows m W d L R B ++ (length (loopRows m W d L R B) ∷ r)) from-repeats

@@ -51,7 +51,14 @@ set-same m W f g h = ap (words W) (mask-same m f g h)
 module _ (m W : ℕ) (f g h : ℕ → Bool) where
   pub length-three : length (three m W f g h) ≡ 3 * W
   length-three =
-      omega (arith, length-append (set m W f) (set m W g ++ set m W h), length-append (set m W g) (set m W h), length-set m W f, length-set m W g, length-set m W h)
+      omega (
+        arith,
+        length-append (set m W f) (set m W g ++ set m W h),
+        length-append (set m W g) (set m W h),
+        length-set m W f,
+        length-set m W g,
+        length-set m W h,
+      )
 
   pub three-0 : chunk W 0 (three m W f g h) ≡ set m W f
   three-0 = ap (λ (j : ℕ). take W (drop j (three m W f g h))) (mul-zero W) ∙ take-at (set m W f) (set m W g ++ set m W h) W (length-set m W f)
@@ -84,7 +91,8 @@ module _ (w : ℕ) (f : ℕ → List ℕ) (same : (k : ℕ) → length (f k) ≡
       ∙ take-at (f a) (join n (suc a) f ++ r) w (same a)
       ∙ (let e : a ≡ a + 0 = omega arith in ap f e)
   chunk-from (suc n) a (suc k) r h =
-      ap₂ (λ (j : ℕ) (l : List ℕ). take w (drop j l)) (let e : w * suc k ≡ length (f a) + w * k = omega (arith, same a, mul-suc w k) in e) (append-assoc (f a) (join n (suc a) f) r)
+      ap₂ (λ (j : ℕ) (l : List ℕ). take w (drop j l)) (let e : w * suc k ≡ length (f a) + w * k = omega (arith, same a, mul-suc w k) in e)
+      (append-assoc (f a) (join n (suc a) f) r)
       ∙ ap (take w) (drop-append-add (f a) (join n (suc a) f ++ r) (w * k))
       ∙ chunk-from n (suc a) k r (le-of-suc-le-suc h)
       ∙ (let e : suc a + k ≡ a + suc k = omega arith in ap f e)

@@ -97,13 +97,19 @@ module _ (m W d : ℕ) (L R : ℕ → ℕ → Bool) (B : Which → ℕ → ℕ �
   repeats-found = past-join W letterWordsAt letter-length 256 (length loopRows) (loopRows ++ after-repeats)
 
   pub scatter-found : scatterIn all ≡ scatterRows ++ after-scatter
-  scatter-found = ap (λ (l : List ℕ). drop 1 (drop (W * 256) l)) repeats-found ∙ past-join W loopWordsAt loop-length 256 (length scatterRows) (scatterRows ++ after-scatter)
+  scatter-found =
+      ap (λ (l : List ℕ). drop 1 (drop (W * 256) l)) repeats-found
+      ∙ past-join W loopWordsAt loop-length 256 (length scatterRows) (scatterRows ++ after-scatter)
 
   pub gather-found : gatherIn all ≡ gatherRows ++ after-gather
-  gather-found = ap (λ (l : List ℕ). drop 1 (drop (3 * W * d) l)) scatter-found ∙ past-join (3 * W) scatterWordsAt scatter-length d (length gatherRows) (gatherRows ++ after-gather)
+  gather-found =
+      ap (λ (l : List ℕ). drop 1 (drop (3 * W * d) l)) scatter-found
+      ∙ past-join (3 * W) scatterWordsAt scatter-length d (length gatherRows) (gatherRows ++ after-gather)
 
   pub propagate-found : propagateIn all ≡ propagateRows
-  propagate-found = ap (λ (l : List ℕ). drop 1 (drop (3 * W * d) l)) gather-found ∙ past-join (3 * W) gatherWordsAt gather-length d (length propagateRows) propagateRows
+  propagate-found =
+      ap (λ (l : List ℕ). drop 1 (drop (3 * W * d) l)) gather-found
+      ∙ past-join (3 * W) gatherWordsAt gather-length d (length propagateRows) propagateRows
 
   -- ---- and in it each part
   pub part-letters : (b : ℕ) → b < 256 → chunk W b (lettersIn all) ≡ letterWordsAt b
@@ -141,11 +147,13 @@ module _ (m W d : ℕ) (L R : ℕ → ℕ → Bool) (B : Which → ℕ → ℕ �
 
     pub read-propagate-block : (k x : ℕ) → k < suc d → x < m → bitOfThree W (propagateIn all) 0 k x ≡ blockOf B k x
     read-propagate-block k x h l =
-        ap (λ (ws : List ℕ). bit (value ws) x) (ap (chunk W 0) (part-propagate k h) ∙ three-0 m W (blockOf B k) (sourceOf B k) (targetOf B k)) ∙ set-bit m W (blockOf B k) room x l
+        ap (λ (ws : List ℕ). bit (value ws) x) (ap (chunk W 0) (part-propagate k h) ∙ three-0 m W (blockOf B k) (sourceOf B k) (targetOf B k))
+        ∙ set-bit m W (blockOf B k) room x l
 
     pub read-propagate-source : (k x : ℕ) → k < suc d → x < m → bitOfThree W (propagateIn all) 1 k x ≡ sourceOf B k x
     read-propagate-source k x h l =
-        ap (λ (ws : List ℕ). bit (value ws) x) (ap (chunk W 1) (part-propagate k h) ∙ three-1 m W (blockOf B k) (sourceOf B k) (targetOf B k)) ∙ set-bit m W (sourceOf B k) room x l
+        ap (λ (ws : List ℕ). bit (value ws) x) (ap (chunk W 1) (part-propagate k h) ∙ three-1 m W (blockOf B k) (sourceOf B k) (targetOf B k))
+        ∙ set-bit m W (sourceOf B k) room x l
 
   -- "The length is 9 + W(515 + 9d) words."
   pub length-assembled : length all ≡ 9 + W * (515 + 9 * d)

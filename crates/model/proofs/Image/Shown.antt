@@ -76,7 +76,8 @@ module _ (s : Seq) (i : ℕ) (l : i < seqEnd s 0) where
 
   -- a test p of the arcs is the test q of the token after state i
   shown : (p : ArcKind → ℕ → ℕ → Bool) (q : Token → Bool) → ((w : ArcKind) (a z : ℕ) → Says (token s) w a z → T (p w a z) → T (q (token s i)))
-      → ((x : Token) → Owns (In es) x i → T (q x) → (e : Arc) × In es e × T (p (e .kind) (e .from) (e .to))) → any (λ e. p (e .kind) (e .from) (e .to)) es ≡ q (token s i)
+      → ((x : Token) → Owns (In es) x i → T (q x) → (e : Arc) × In es e × T (p (e .kind) (e .from) (e .to)))
+      → any (λ e. p (e .kind) (e .from) (e .to)) es ≡ q (token s i)
   shown p q out own = same-truth (any (λ e. p (e .kind) (e .from) (e .to)) es) (q (token s i)) there back
     where
       there : T (any (λ e. p (e .kind) (e .from) (e .to)) es) → T (q (token s i))
@@ -113,7 +114,8 @@ module _ (s : Seq) (i : ℕ) (l : i < seqEnd s 0) where
       out (letterArc c) a z m h = absurd h
       out (loopArc c) a z m h =
           let k = and-split (bit c b) (eqb (suc i) z) h in
-          known (λ x. bit (loopClassOf x) b) (m .1) (aLetter c (m .2)) (omega (arith, m .0, m .3, eqb→eq (suc i) z (k .1))) (m .4) (loop-bit (canLoop (m .2)) c b (m .5) (k .0))
+          known (λ x. bit (loopClassOf x) b) (m .1) (aLetter c (m .2)) (omega (arith, m .0, m .3, eqb→eq (suc i) z (k .1))) (m .4)
+          (loop-bit (canLoop (m .2)) c b (m .5) (k .0))
       out propagateArc a z m h = absurd h
       out (forkArc xs) a z m h = absurd h
 
@@ -178,7 +180,8 @@ module _ (s : Seq) (i : ℕ) (l : i < seqEnd s 0) where
 -- ---- the letters' and the loops' sets are those of the tokens
 module _ (s : Seq) (b : ℕ) where
   -- no letter and no loop leads to state 0
-  none-at-zero : (test : ArcKind → Bool) → ((w : ArcKind) (a z : ℕ) → Says (token s) w a z → T (test w) → 0 ≡ z → ⊥) → any (λ e. test (e .kind) && eqb 0 (e .to)) (arcs s 0 0) ≡ false
+  none-at-zero : (test : ArcKind → Bool) → ((w : ArcKind) (a z : ℕ) → Says (token s) w a z → T (test w) → 0 ≡ z → ⊥)
+      → any (λ e. test (e .kind) && eqb 0 (e .to)) (arcs s 0 0) ≡ false
   none-at-zero test never = is-not (any (λ e. test (e .kind) && eqb 0 (e .to)) (arcs s 0 0)) no
     where
       no : T (any (λ e. test (e .kind) && eqb 0 (e .to)) (arcs s 0 0)) → ⊥

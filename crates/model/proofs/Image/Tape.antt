@@ -29,7 +29,8 @@ use Rattle.model.proofs.Reading.WellFormed.{Class}
 -- ---- a token by what shows it
 -- the token made of x's own tests, where n says whether it may be skipped
 abbrev remade : Token → Bool → Token
-remade x n = tokenOf (anyBelow 256 (λ b. bit (classOf x) b)) (mask 256 (λ b. bit (classOf x) b)) n (anyBelow 256 (λ b. bit (loopClassOf x) b)) (isClose x) (isOpen x)
+remade x n =
+    tokenOf (anyBelow 256 (λ b. bit (classOf x) b)) (mask 256 (λ b. bit (classOf x) b)) n (anyBelow 256 (λ b. bit (loopClassOf x) b)) (isClose x) (isOpen x)
 
 repeat-is : (r : Repeat) → repeatOf (canSkip r) (canLoop r) ≡ r
 repeat-is once = refl
@@ -109,7 +110,8 @@ module _ (s : Seq) (fine : AllFine (tokens s [])) where
       may-skip : anyBelow (suc d) (λ k. bitOfThree W (propagateIn ws) 0 k (suc i) && not (bitOfThree W (propagateIn ws) 1 k (suc i))) ≡ skips (arcs s 0 0) i
       may-skip =
           below-same (suc d) (λ k. bitOfThree W (propagateIn ws) 0 k (suc i) && not (bitOfThree W (propagateIn ws) 1 k (suc i))) (λ k. B entering k (suc i))
-          (λ k h. ap₂ (λ (a b : Bool). a && not b) (read-propagate-block m W d L R B (room m) k (suc i) h next) (read-propagate-source m W d L R B (room m) k (suc i) h next)
+          (λ k h. ap₂ (λ (a b : Bool). a && not b) (read-propagate-block m W d L R B (room m) k (suc i) h next)
+          (read-propagate-source m W d L R B (room m) k (suc i) h next)
           ∙ entered (B leaving k (suc i)) (B entering k (suc i)))
           ∙ skip-is s i
 
@@ -120,7 +122,8 @@ module _ (s : Seq) (fine : AllFine (tokens s [])) where
 
       is-close : anyBelow d (λ k. bitOfThree W (gatherIn ws) 2 k (suc i)) ≡ isClose (token s i)
       is-close =
-          below-same d (λ k. bitOfThree W (gatherIn ws) 2 k (suc i)) (λ k. B gather-target k (suc i)) (λ k h. read-gather-target m W d L R B (room m) k (suc i) h next)
+          below-same d (λ k. bitOfThree W (gatherIn ws) 2 k (suc i)) (λ k. B gather-target k (suc i))
+          (λ k h. read-gather-target m W d L R B (room m) k (suc i) h next)
           ∙ close-is s i ∙ closes-show s i l
 
       is-open : anyBelow d (λ k. bitOfThree W (scatterIn ws) 1 k i) ≡ isOpen (token s i)

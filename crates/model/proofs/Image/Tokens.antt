@@ -38,13 +38,16 @@ mutual
   parse-tokens end rest h bs e = e
   parse-tokens (letter c r s) rest h bs e = ap (before (aLetter c r)) (parse-tokens s rest h bs e)
   parse-tokens (union a s) rest h bs e =
-      ap (before anOpen) (parse-alts a (tokens s rest) (glue s h) bs (parse-tokens s rest h bs e)) ∙ ap (λ (b : Alts). parsed (union b (glue s h)) bs) (put-back a)
+      ap (before anOpen) (parse-alts a (tokens s rest) (glue s h) bs (parse-tokens s rest h bs e))
+      ∙ ap (λ (b : Alts). parsed (union b (glue s h)) bs) (put-back a)
 
-  parse-alts : (a : Alts) (rest : List Token) (h : Seq) (bs : List Begun) → parse rest ≡ parsed h bs → parse (altsTokens a rest) ≡ parsed (first a) ((others a, h) ∷ bs)
+  parse-alts : (a : Alts) (rest : List Token) (h : Seq) (bs : List Begun) → parse rest ≡ parsed h bs
+      → parse (altsTokens a rest) ≡ parsed (first a) ((others a, h) ∷ bs)
   parse-alts (last s) rest h bs e =
       parse-tokens s (aClose ∷ rest) end ((none, h) ∷ bs) (ap (before aClose) e) ∙ ap (λ (x : Seq). parsed x ((none, h) ∷ bs)) (glue-end s)
   parse-alts (more s a) rest h bs e =
-      parse-tokens s (aBar ∷ altsTokens a rest) end ((some a, h) ∷ bs) (ap (before aBar) (parse-alts a rest h bs e) ∙ ap (λ (b : Alts). parsed end ((some b, h) ∷ bs)) (put-back a))
+      parse-tokens s (aBar ∷ altsTokens a rest) end ((some a, h) ∷ bs)
+      (ap (before aBar) (parse-alts a rest h bs e) ∙ ap (λ (b : Alts). parsed end ((some b, h) ∷ bs)) (put-back a))
       ∙ ap (λ (x : Seq). parsed x ((some a, h) ∷ bs)) (glue-end s)
 
 -- THE TREE IS READ BACK FROM ITS TOKENS

@@ -61,7 +61,8 @@ mutual
       → suc (length st) + altsDepth a ≤ 8 → T (valid rest (afterUnion a p f st)) → T (valid (altsTokens a rest) (alternativeAt p f st))
   passes-alts (last s) rest p f st n g l h =
       passes s (aClose ∷ rest) (alternativeAt p f st) (g .1) l
-      (and-both (f .barred && not (isEnd s)) (valid rest (afterUnion (last s) p f st)) (and-both (f .barred) (not (isEnd s)) (not-not (f .barred) n) (not-end s (g .0))) h)
+      (and-both (f .barred && not (isEnd s)) (valid rest (afterUnion (last s) p f st))
+      (and-both (f .barred) (not (isEnd s)) (not-not (f .barred) n) (not-end s (g .0))) h)
   passes-alts (more s a) rest p f st n g l h =
       passes s (aBar ∷ altsTokens a rest) (alternativeAt p f st) (g .1) (omega arith)
       (and-both (not (isEnd s)) (valid (altsTokens a rest) (alternativeAt z next st)) (not-end s (g .0))

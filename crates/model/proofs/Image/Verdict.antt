@@ -71,7 +71,9 @@ some-class : (f : ℕ → Bool) → T (anyBelow 256 f) → Class (mask 256 f)
 some-class f h = record { some-byte = positive (mask 256 f) refl; bytes-only = mask-lt 256 f }
   where
     positive : (n : ℕ) → mask 256 f ≡ n → 0 < n
-    positive zero e = let r = below-out 256 f h in absurd (no-bit (r .0) (subst (λ (n : ℕ). T (bit n (r .0))) e (subst T (sym (bit-mask 256 (r .0) f (r .1))) (r .2))))
+    positive zero e =
+        let r = below-out 256 f h in
+        absurd (no-bit (r .0) (subst (λ (n : ℕ). T (bit n (r .0))) e (subst T (sym (bit-mask 256 (r .0) f (r .1))) (r .2))))
     positive (suc n) e = zero-lt-suc n
 
 fine-token : (f : ℕ → Bool) (l n p c o : Bool) → anyBelow 256 f ≡ l → Fine (tokenOf l (mask 256 f) n p c o)
@@ -108,7 +110,8 @@ image-sound ws h = subst (IsImage ws) (sym (ap (λ (l : List Token). parse l .he
     is = record {
       well = well-formed (t .tree) .1 (t .begun, t .good, subst AllFine (sym (t .of-tokens)) (tape-fine ws));
       few = subst (λ (l : List ℕ). stateWord l ≤ 512) e (A .few);
-      shallow = subst (λ (n : ℕ). n ≤ 8) (ap (λ (l : List Token). reach l begin) (sym (t .of-tokens)) ∙ reach-is (t .tree)) (valid-reach (tape ws) begin (A .is-valid));
+      shallow = subst (λ (n : ℕ). n ≤ 8) (ap (λ (l : List Token). reach l begin) (sym (t .of-tokens)) ∙ reach-is (t .tree))
+          (valid-reach (tape ws) begin (A .is-valid));
       words = e;
     }
 
@@ -136,4 +139,5 @@ is-image ws s = (there (accepts ws) refl, back)
     back : IsImage ws s → verdict ws ≡ some s
     back I =
         ap (λ (b : Bool). cond b (some (parse (tape ws) .here)) none) (is-true (accepts ws) (image-complete ws s I))
-        ∙ ap some (ap (λ (l : List ℕ). parse (tape l) .here) (I .words) ∙ ap (λ (l : List Token). parse l .here) (tape-is s (well-fine s (I .well))) ∙ tree-of s)
+        ∙ ap some
+        (ap (λ (l : List ℕ). parse (tape l) .here) (I .words) ∙ ap (λ (l : List Token). parse l .here) (tape-is s (well-fine s (I .well))) ∙ tree-of s)

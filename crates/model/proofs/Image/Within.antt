@@ -76,16 +76,26 @@ mutual
   low end t k n F l = tt
   low (letter c r s) t k n F l =
       let h : suc t ≤ n = omega (arith, seqEnd-le s (suc t)) in
-      letter-whole (Low n) c r s t k (record { takes = low-letter c t (suc t) n h; loops = λ x. low-loop c (suc t) (suc t) n h; skips = λ x. low-propagate t (suc t) n (omega arith) h; rest = low s (suc t) k n F l })
+      letter-whole (Low n) c r s t k (record {
+        takes = low-letter c t (suc t) n h;
+        loops = λ x. low-loop c (suc t) (suc t) n h;
+        skips = λ x. low-propagate t (suc t) n (omega arith) h;
+        rest = low s (suc t) k n F l;
+      })
   low (union a s) t k n F l =
       let h : suc (altsEnd a t) ≤ n = omega (arith, seqEnd-le s (suc (altsEnd a t))) in
-      branch-whole (Low n) a s t k (record
-      { skips = λ x. low-propagate t (suc (altsEnd a t)) n (omega (arith, altsEnd-lt a t)) h; forks = low-fork a t n (F .0) h; alts = low-alts a t k n (F .0) (omega arith); rest = low s (suc (altsEnd a t)) k n (F .1) l })
+      branch-whole (Low n) a s t k (record {
+        skips = λ x. low-propagate t (suc (altsEnd a t)) n (omega (arith, altsEnd-lt a t)) h;
+        forks = low-fork a t n (F .0) h;
+        alts = low-alts a t k n (F .0) (omega arith);
+        rest = low s (suc (altsEnd a t)) k n (F .1) l;
+      })
 
   low-alts : (a : Alts) (p k n : ℕ) → FullA a → altsEnd a p ≤ n → All (Low n) (altsArcs a p k)
   low-alts (last s) p k n F l = low s (suc p) (suc k) n (F .1) l
   low-alts (more s a) p k n F l =
-      all-app (Low n) (arcs s (suc p) (suc k)) (altsArcs a (seqEnd s (suc p)) k) (low s (suc p) (suc k) n (F .1) (omega (arith, altsEnd-lt a (seqEnd s (suc p))))) (low-alts a (seqEnd s (suc p)) k n (F .2) l)
+      all-app (Low n) (arcs s (suc p) (suc k)) (altsArcs a (seqEnd s (suc p)) k)
+      (low s (suc p) (suc k) n (F .1) (omega (arith, altsEnd-lt a (seqEnd s (suc p))))) (low-alts a (seqEnd s (suc p)) k n (F .2) l)
 
 -- NO PLACE PAST THE ACCEPTING STATE
 pub lay-low : (s : Seq) → Full s → (w : Which) (k x : ℕ) → T (layOut (tokens s []) begin w k x) → x ≤ seqEnd s 0

@@ -1,11 +1,13 @@
 -- The image. `Decided` has the results: trees with equal images are equal; for any words it is decided whether they are an image, and of which
--- tree; the run on such words gives the tree's ends. `Compare` has the comparison as code makes it. In the order in which they are proved:
--- a tree and its tokens determine each other, and the masks' bits show the tokens
+-- tree; the run on such words gives the tree's ends. `Compare` has the comparison as code makes it. Below, in the order in which they are proved.
+pub mod Decided
+pub mod Compare
+-- A tree and its tokens determine each other, and the masks' bits show the tokens.
 pub mod Tokens
 pub mod Between
 pub mod Shown
 pub mod Classes
--- lay out marks for a tree's tokens the sets of the tree's masks, so what is laid out is the tree's image
+-- Lay out marks for a tree's tokens the sets of the tree's masks, so what is laid out is the tree's image.
 pub mod Scan
 pub mod Marks
 pub mod LayOut
@@ -15,18 +17,16 @@ pub mod Within
 pub mod Depth
 pub mod Rows
 pub mod Laid
--- which rows of tokens are a tree's, and which trees are a rule's
+pub mod OfEdges
+-- Which rows of tokens are a tree's, and which trees are a rule's.
 pub mod Valid
 pub mod WellFormed
--- taking a tree's image apart gives the tree's tokens
+-- Taking a tree's image apart gives the tree's tokens.
 pub mod Sections
 pub mod Depths
 pub mod Tape
--- so the verdict on words is right
+-- So the verdict on words is right, and so is the comparison section by section.
 pub mod Verdict
-pub mod Decided
--- and so is the comparison section by section
 pub mod SameBits
 pub mod LetterPlaces
 pub mod Rebuild
-pub mod Compare

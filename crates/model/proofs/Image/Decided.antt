@@ -1,5 +1,5 @@
--- Whether words are an image, and of which tree, is decided; the image determines the tree; and the run on words that are an image gives the
--- ends of that tree. All of it follows from the verdict's theorem, `is-image`.
+-- For any words it is decided whether they are the image of a rule's tree, and of which; the image determines the tree; and the run on words
+-- that are an image gives the ends of that tree. All of it follows from the verdict's theorem, `is-image`.
 use mathlib.Core.Path.{_≡_, refl, sym, ap, _∙_, subst}
 use mathlib.Core.Logic.{_↔_}
 use mathlib.Core.List.{List, []}
@@ -10,31 +10,40 @@ use lib.Dec.{T}
 use lib.ListN.{take}
 use Rattle.model.specs.Bits.{bit}
 use Rattle.model.specs.Tree.{Seq}
+use Rattle.model.specs.Writing.{writing}
 use Rattle.model.specs.Edges.{seqEnd}
+use Rattle.model.specs.Image.{image}
+use Rattle.model.specs.Answers.{ImageOf, NoImage}
+use Rattle.model.specs.Models.Words.{value}
 use Rattle.model.specs.Models.Tokens.{tokens}
 use Rattle.model.specs.Models.Apart.{depthWord, tape}
-use Rattle.model.specs.Models.Words.{value}
 use Rattle.model.specs.Models.Verdict.{verdict}
 use Rattle.model.proofs.Ends.Stops.{StopsAt}
 use Rattle.model.proofs.Image.Classes.{AllFine}
-use Rattle.model.proofs.Image.Sets.{arcImage}
+use Rattle.model.proofs.Image.OfEdges.{image-is}
 use Rattle.model.proofs.Image.Tape.{tape-is}
 use Rattle.model.proofs.Image.Tokens.{tokens-inj}
 use Rattle.model.proofs.Image.Valid.{good-full}
 use Rattle.model.proofs.Image.Verdict.{IsImage, is-image}
 use Rattle.model.proofs.Image.WellFormed.{well-fine, well-formed}
 use Rattle.model.proofs.Language.Stretches.{feed}
+use Rattle.model.proofs.Reading.WellFormed.{rule-well}
+use Rattle.model.proofs.Reading.Written.{written}
 use Rattle.model.proofs.Words.Run.{Bytes, image-ends, imageMasks, runWords}
 
--- TREES WITH EQUAL IMAGES ARE EQUAL
-pub image-inj : (s s′ : Seq) → AllFine (tokens s []) → AllFine (tokens s′ []) → arcImage s ≡ arcImage s′ → s ≡ s′
-image-inj s s′ F F′ e = tokens-inj s s′ (sym (tape-is s F) ∙ ap tape e ∙ tape-is s′ F′)
+-- ---- TREES WITH EQUAL IMAGES ARE EQUAL
+tape-of : (s : Seq) → AllFine (tokens s []) → tape (image s) ≡ tokens s []
+tape-of s F = ap tape (image-is s) ∙ tape-is s F
 
--- WORDS ARE THE IMAGE OF AT MOST ONE TREE
+pub image-inj : (s s′ : Seq) → AllFine (tokens s []) → AllFine (tokens s′ []) → image s ≡ image s′ → s ≡ s′
+image-inj s s′ F F′ e = tokens-inj s s′ (sym (tape-of s F) ∙ ap tape e ∙ tape-of s′ F′)
+
+-- words are the image of at most one tree
 pub one-image : (ws : List ℕ) (s s′ : Seq) → IsImage ws s → IsImage ws s′ → s ≡ s′
 one-image ws s s′ I J = image-inj s s′ (well-fine s (I .well)) (well-fine s′ (J .well)) (sym (I .words) ∙ J .words)
 
--- THE VERDICT IS NONE, and number 6 is given, exactly if the words are the image of no tree
+-- ---- WHETHER WORDS ARE AN IMAGE IS DECIDED
+-- the verdict is none exactly if the words are the image of no well-formed tree
 pub no-image : (ws : List ℕ) → (verdict ws ≡ none) ↔ ((s : Seq) → IsImage ws s → ⊥)
 no-image ws = (λ e s I. not-both s e (is-image ws s .1 I), λ f. go (verdict ws) refl f)
   where
@@ -45,10 +54,24 @@ no-image ws = (λ e s I. not-both s e (is-image ws s .1 I), λ f. go (verdict ws
     go none e f = e
     go (some s) e f = absurd (f s (is-image ws s .0 e))
 
--- THE RUN ON WORDS THAT ARE AN IMAGE GIVES THE ENDS OF THE TREE
+-- the well-formed trees are those of rules
+image-of : (ws : List ℕ) (s : Seq) → IsImage ws s ↔ ImageOf ws s
+image-of ws s = (
+  λ I. record { rule = writing s; is-rule = written s (I .well); few = I .few; shallow = I .shallow; laid = I .words },
+  λ I. record { well = rule-well (I .is-rule); few = I .few; shallow = I .shallow; words = I .laid },
+)
+
+-- in the words of document 01's table: the tree whose image the words are, and number 6
+pub verdict-some : (ws : List ℕ) (s : Seq) → (verdict ws ≡ some s) ↔ ImageOf ws s
+verdict-some ws s = (λ e. image-of ws s .0 (is-image ws s .0 e), λ I. is-image ws s .1 (image-of ws s .1 I))
+
+pub verdict-none : (ws : List ℕ) → (verdict ws ≡ none) ↔ NoImage ws
+verdict-none ws = (λ e s I. no-image ws .0 e s (image-of ws s .1 I), λ f. no-image ws .1 (λ s I. f s (image-of ws s .0 I)))
+
+-- ---- THE RUN ON WORDS THAT ARE AN IMAGE GIVES THE ENDS OF THE TREE
 pub words-ends : (ws : List ℕ) (s : Seq) → verdict ws ≡ some s → (text : List ℕ) (p : ℕ) → Bytes (feed [] (take p text))
     → T (bit (value (runWords (imageMasks ws) (depthWord ws) (feed [] (take p text)))) (seqEnd s 0)) ↔ StopsAt s text p
 words-ends ws s e text p h =
     let I = is-image ws s .0 e in
-    subst (λ (z : List ℕ). T (bit (value (runWords (imageMasks z) (depthWord z) (feed [] (take p text)))) (seqEnd s 0)) ↔ StopsAt s text p) (sym (I .words))
+    subst (λ (z : List ℕ). T (bit (value (runWords (imageMasks z) (depthWord z) (feed [] (take p text)))) (seqEnd s 0)) ↔ StopsAt s text p) (sym (I .words ∙ image-is s))
     (image-ends s (good-full s (well-formed s .0 (I .well) .1)) text p h)

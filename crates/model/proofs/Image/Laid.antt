@@ -18,7 +18,7 @@ use Rattle.model.proofs.Image.Tokens.{length-tokens}
 use Rattle.model.proofs.Language.Arcs.{arcs}
 
 -- images of sets that agree below m
-assemble-same : (m W d : ℕ) (L R L′ R′ : ℕ → ℕ → Bool) (B B′ : Which → ℕ → ℕ → Bool)
+pub assemble-same : (m W d : ℕ) (L R L′ R′ : ℕ → ℕ → Bool) (B B′ : Which → ℕ → ℕ → Bool)
     → ((b x : ℕ) → x < m → L b x ≡ L′ b x) → ((b x : ℕ) → x < m → R b x ≡ R′ b x)
     → ((w : Which) (k x : ℕ) → B w k x ≡ B′ w k x)
     → assemble m W d L R B ≡ assemble m W d L′ R′ B′

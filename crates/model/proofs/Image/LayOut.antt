@@ -15,7 +15,7 @@ use Rattle.model.proofs.Language.Arcs.{Arc, arc, arcs, forkArc, altsArc
 use Rattle.model.proofs.Laws.Bool.{or-left-comm}
 use Rattle.model.proofs.Laws.Lists.{any-app}
 
-any-when : (p : Arc → Bool) (b : Bool) (e : Arc) (es : List Arc) → any p (when b e es) ≡ ((b && p e) || any p es)
+pub any-when : (p : Arc → Bool) (b : Bool) (e : Arc) (es : List Arc) → any p (when b e es) ≡ ((b && p e) || any p es)
 any-when p true e es = refl
 any-when p false e es = refl
 

@@ -12,6 +12,7 @@ use lib.Dec.{T, eqb, eqb→eq, eqb-refl, leb, leb→le, le→leb}
 use Rattle.model.specs.Bits.{bit, mask}
 use Rattle.model.specs.Tree.{Seq}
 use Rattle.model.specs.Edges.{depth, states}
+use Rattle.model.specs.Image.{image}
 use Rattle.model.specs.Models.Tokens.{Token, parse, tokens}
 use Rattle.model.specs.Models.LayOut.{begin, laid, reach, valid}
 use Rattle.model.specs.Models.Apart.{anyBelow, bitOf, lettersIn, stateWord, tape, tokenAt, tokenOf, tokensBetween, tokensFrom, widthWord}
@@ -19,6 +20,7 @@ use Rattle.model.specs.Models.Verdict.{accepts, sameWords, verdict}
 use Rattle.model.proofs.Image.Classes.{AllFine, Fine}
 use Rattle.model.proofs.Image.Depth.{reach-is, valid-reach}
 use Rattle.model.proofs.Image.Laid.{laid-is}
+use Rattle.model.proofs.Image.OfEdges.{image-is}
 use Rattle.model.proofs.Image.Sets.{arcImage}
 use Rattle.model.proofs.Image.Tape.{tape-is}
 use Rattle.model.proofs.Image.Tokens.{tree-of}
@@ -29,12 +31,12 @@ use Rattle.model.proofs.Laws.Bool.{and-both, and-split, is-true}
 use Rattle.model.proofs.Reading.WellFormed.{Class, WellFormed}
 use Rattle.model.proofs.Words.Bits.{bit-mask, mask-lt}
 
--- the words are the image of the tree of some rule, within 512 states and depth 8
+-- the words are the image of a well-formed tree within 512 states and depth 8
 pub record IsImage (ws : List ℕ) (s : Seq) : Type 0 where
   pub well : WellFormed s
   pub few : states s ≤ 512
   pub shallow : depth s ≤ 8
-  pub words : ws ≡ arcImage s
+  pub words : ws ≡ image s
 
 -- ---- equal words
 pub same-words : (xs ys : List ℕ) → T (sameWords xs ys) → xs ≡ ys
@@ -103,8 +105,8 @@ image-sound ws h = subst (IsImage ws) (sym (ap (λ (l : List Token). parse l .he
     t : TreeOf (tape ws)
     t = valid-tree (tape ws) (A .is-valid)
 
-    e : ws ≡ arcImage (t .tree)
-    e = A .same ∙ ap laid (sym (t .of-tokens)) ∙ laid-is (t .tree)
+    e : ws ≡ image (t .tree)
+    e = A .same ∙ ap laid (sym (t .of-tokens)) ∙ laid-is (t .tree) ∙ sym (image-is (t .tree))
 
     is : IsImage ws (t .tree)
     is = record {
@@ -118,7 +120,7 @@ image-sound ws h = subst (IsImage ws) (sym (ap (λ (l : List Token). parse l .he
 -- ---- COMPLETE
 pub image-complete : (ws : List ℕ) (s : Seq) → IsImage ws s → T (accepts ws)
 image-complete ws s I =
-    subst (λ (l : List ℕ). T (accepts l)) (sym (I .words))
+    subst (λ (l : List ℕ). T (accepts l)) (sym (I .words ∙ image-is s))
     (accept (arcImage s) (record {
       few = I .few;
       is-valid = subst (λ (l : List Token). T (valid l begin)) (sym e) (let w = well-formed s .0 (I .well) in good-valid s (w .0) (w .1) (I .shallow));
@@ -140,4 +142,4 @@ is-image ws s = (there (accepts ws) refl, back)
     back I =
         ap (λ (b : Bool). cond b (some (parse (tape ws) .here)) none) (is-true (accepts ws) (image-complete ws s I))
         ∙ ap some
-        (ap (λ (l : List ℕ). parse (tape l) .here) (I .words) ∙ ap (λ (l : List Token). parse l .here) (tape-is s (well-fine s (I .well))) ∙ tree-of s)
+        (ap (λ (l : List ℕ). parse (tape l) .here) (I .words ∙ image-is s) ∙ ap (λ (l : List Token). parse l .here) (tape-is s (well-fine s (I .well))) ∙ tree-of s)

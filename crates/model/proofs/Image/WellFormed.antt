@@ -5,7 +5,7 @@ use Rattle.model.specs.Tree.{Alts, Seq, end, last, letter, more, union}
 use Rattle.model.specs.Models.Tokens.{Token, aBar, aClose, altsTokens, tokens}
 use Rattle.model.proofs.Image.Classes.{AllFine}
 use Rattle.model.proofs.Image.Valid.{GoodAlts, GoodUnions}
-use Rattle.model.proofs.Reading.WellFormed.{Good, GoodA, Full, WellFormed}
+use Rattle.model.proofs.Reading.WellFormed.{Full, Good, GoodA as WellAlts, WellFormed}
 use Rattle.model.proofs.Words.InOrder.{NonEmpty}
 
 -- ---- the two words for "has an item"
@@ -26,7 +26,7 @@ mutual
   good-unions (letter c r s) g = good-unions s (g .1)
   good-unions (union a s) g = (g .0, good-alts a (g .1), good-unions s (g .2))
 
-  good-alts : (a : Alts) → GoodA a → GoodAlts a
+  good-alts : (a : Alts) → WellAlts a → GoodAlts a
   good-alts (last s) g = (full-nonempty s (g .0), good-unions s (g .1))
   good-alts (more s a) g = (full-nonempty s (g .0), good-unions s (g .1), good-alts a (g .2))
 
@@ -36,7 +36,7 @@ mutual
   good-fine (letter c r s) rest g f = (g .0, good-fine s rest (g .1) f)
   good-fine (union a s) rest g f = (tt, alts-fine a (tokens s rest) (g .1) (good-fine s rest (g .2) f))
 
-  alts-fine : (a : Alts) (rest : List Token) → GoodA a → AllFine rest → AllFine (altsTokens a rest)
+  alts-fine : (a : Alts) (rest : List Token) → WellAlts a → AllFine rest → AllFine (altsTokens a rest)
   alts-fine (last s) rest g f = good-fine s (aClose ∷ rest) (g .1) (tt, f)
   alts-fine (more s a) rest g f = good-fine s (aBar ∷ altsTokens a rest) (g .1) (tt, alts-fine a rest (g .2) f)
 
@@ -50,7 +50,7 @@ mutual
       let n = fine-good s rest (g .2) (k .1) in
       ((g .0, k .0, n .0), n .1)
 
-  fine-alts : (a : Alts) (rest : List Token) → GoodAlts a → AllFine (altsTokens a rest) → GoodA a × AllFine rest
+  fine-alts : (a : Alts) (rest : List Token) → GoodAlts a → AllFine (altsTokens a rest) → WellAlts a × AllFine rest
   fine-alts (last s) rest g f = let k = fine-good s (aClose ∷ rest) (g .1) f in ((nonempty-full s (g .0), k .0), k .1 .1)
   fine-alts (more s a) rest g f =
       let k = fine-good s (aBar ∷ altsTokens a rest) (g .1) f in

@@ -21,55 +21,55 @@ use Rattle.model.proofs.Words.InOrder.{Full, FullA, ends-between, last-
 
 -- an arc marks no state past n
 abbrev Low : ℕ → Arc → Type 0
-Low n e = (w : Which) (k x : ℕ) → T (onKind w x (e .kind) (e .from) (e .to)) → x ≤ n
+Low n e = (w : Which) (x : ℕ) → T (onKind w x (e .kind) (e .from) (e .to)) → x ≤ n
 
-low-fork : (a : Alts) (t n : ℕ) → FullA a → suc (altsEnd a t) ≤ n → (w : Which) (k x : ℕ) → T (onKind w x (forkArc (ways a t)) t (suc (altsEnd a t))) → x ≤ n
-low-fork a t n F l letter-place k x h = absurd h
-low-fork a t n F l loop-place k x h = absurd h
-low-fork a t n F l scatter-block k x h = omega (arith, eqb→eq x (suc (lastStart (ways a t))) h, last-in a t F)
-low-fork a t n F l scatter-source k x h = omega (arith, eqb→eq x t h, altsEnd-lt a t)
-low-fork a t n F l scatter-target k x h = omega (arith, starts-between a t x h, last-in a t F)
-low-fork a t n F l gather-block k x h = omega (arith, ltb→lt x (suc (altsEnd a t)) (and-split (leb (firstEnd (ways a t)) x) (ltb x (suc (altsEnd a t))) h .1))
-low-fork a t n F l gather-source k x h = omega (arith, ends-between a t x h)
-low-fork a t n F l gather-target k x h = omega (arith, eqb→eq x (suc (altsEnd a t)) h)
-low-fork a t n F l leaving k x h = absurd h
-low-fork a t n F l entering k x h = absurd h
+low-fork : (a : Alts) (t n : ℕ) → FullA a → suc (altsEnd a t) ≤ n → (w : Which) (x : ℕ) → T (onKind w x (forkArc (ways a t)) t (suc (altsEnd a t))) → x ≤ n
+low-fork a t n F l letter-place x h = absurd h
+low-fork a t n F l loop-place x h = absurd h
+low-fork a t n F l scatter-block x h = omega (arith, eqb→eq x (suc (lastStart (ways a t))) h, last-in a t F)
+low-fork a t n F l scatter-source x h = omega (arith, eqb→eq x t h, altsEnd-lt a t)
+low-fork a t n F l scatter-target x h = omega (arith, starts-between a t x h, last-in a t F)
+low-fork a t n F l gather-block x h = omega (arith, ltb→lt x (suc (altsEnd a t)) (and-split (leb (firstEnd (ways a t)) x) (ltb x (suc (altsEnd a t))) h .1))
+low-fork a t n F l gather-source x h = omega (arith, ends-between a t x h)
+low-fork a t n F l gather-target x h = omega (arith, eqb→eq x (suc (altsEnd a t)) h)
+low-fork a t n F l leaving x h = absurd h
+low-fork a t n F l entering x h = absurd h
 
-low-propagate : (i j n : ℕ) → i ≤ n → j ≤ n → (w : Which) (k x : ℕ) → T (onKind w x propagateArc i j) → x ≤ n
-low-propagate i j n hi hj letter-place k x h = absurd h
-low-propagate i j n hi hj loop-place k x h = absurd h
-low-propagate i j n hi hj scatter-block k x h = absurd h
-low-propagate i j n hi hj scatter-source k x h = absurd h
-low-propagate i j n hi hj scatter-target k x h = absurd h
-low-propagate i j n hi hj gather-block k x h = absurd h
-low-propagate i j n hi hj gather-source k x h = absurd h
-low-propagate i j n hi hj gather-target k x h = absurd h
-low-propagate i j n hi hj leaving k x h = omega (arith, eqb→eq x i h)
-low-propagate i j n hi hj entering k x h = omega (arith, eqb→eq x j h)
+low-propagate : (i j n : ℕ) → i ≤ n → j ≤ n → (w : Which) (x : ℕ) → T (onKind w x propagateArc i j) → x ≤ n
+low-propagate i j n hi hj letter-place x h = absurd h
+low-propagate i j n hi hj loop-place x h = absurd h
+low-propagate i j n hi hj scatter-block x h = absurd h
+low-propagate i j n hi hj scatter-source x h = absurd h
+low-propagate i j n hi hj scatter-target x h = absurd h
+low-propagate i j n hi hj gather-block x h = absurd h
+low-propagate i j n hi hj gather-source x h = absurd h
+low-propagate i j n hi hj gather-target x h = absurd h
+low-propagate i j n hi hj leaving x h = omega (arith, eqb→eq x i h)
+low-propagate i j n hi hj entering x h = omega (arith, eqb→eq x j h)
 
-low-letter : (c i j n : ℕ) → j ≤ n → (w : Which) (k x : ℕ) → T (onKind w x (letterArc c) i j) → x ≤ n
-low-letter c i j n hj letter-place k x h = omega (arith, eqb→eq x j h)
-low-letter c i j n hj loop-place k x h = absurd h
-low-letter c i j n hj scatter-block k x h = absurd h
-low-letter c i j n hj scatter-source k x h = absurd h
-low-letter c i j n hj scatter-target k x h = absurd h
-low-letter c i j n hj gather-block k x h = absurd h
-low-letter c i j n hj gather-source k x h = absurd h
-low-letter c i j n hj gather-target k x h = absurd h
-low-letter c i j n hj leaving k x h = absurd h
-low-letter c i j n hj entering k x h = absurd h
+low-letter : (c i j n : ℕ) → j ≤ n → (w : Which) (x : ℕ) → T (onKind w x (letterArc c) i j) → x ≤ n
+low-letter c i j n hj letter-place x h = omega (arith, eqb→eq x j h)
+low-letter c i j n hj loop-place x h = absurd h
+low-letter c i j n hj scatter-block x h = absurd h
+low-letter c i j n hj scatter-source x h = absurd h
+low-letter c i j n hj scatter-target x h = absurd h
+low-letter c i j n hj gather-block x h = absurd h
+low-letter c i j n hj gather-source x h = absurd h
+low-letter c i j n hj gather-target x h = absurd h
+low-letter c i j n hj leaving x h = absurd h
+low-letter c i j n hj entering x h = absurd h
 
-low-loop : (c i j n : ℕ) → j ≤ n → (w : Which) (k x : ℕ) → T (onKind w x (loopArc c) i j) → x ≤ n
-low-loop c i j n hj letter-place k x h = absurd h
-low-loop c i j n hj loop-place k x h = omega (arith, eqb→eq x j h)
-low-loop c i j n hj scatter-block k x h = absurd h
-low-loop c i j n hj scatter-source k x h = absurd h
-low-loop c i j n hj scatter-target k x h = absurd h
-low-loop c i j n hj gather-block k x h = absurd h
-low-loop c i j n hj gather-source k x h = absurd h
-low-loop c i j n hj gather-target k x h = absurd h
-low-loop c i j n hj leaving k x h = absurd h
-low-loop c i j n hj entering k x h = absurd h
+low-loop : (c i j n : ℕ) → j ≤ n → (w : Which) (x : ℕ) → T (onKind w x (loopArc c) i j) → x ≤ n
+low-loop c i j n hj letter-place x h = absurd h
+low-loop c i j n hj loop-place x h = omega (arith, eqb→eq x j h)
+low-loop c i j n hj scatter-block x h = absurd h
+low-loop c i j n hj scatter-source x h = absurd h
+low-loop c i j n hj scatter-target x h = absurd h
+low-loop c i j n hj gather-block x h = absurd h
+low-loop c i j n hj gather-source x h = absurd h
+low-loop c i j n hj gather-target x h = absurd h
+low-loop c i j n hj leaving x h = absurd h
+low-loop c i j n hj entering x h = absurd h
 
 mutual
   low : (s : Seq) (t k n : ℕ) → Full s → seqEnd s t ≤ n → All (Low n) (arcs s t k)
@@ -101,5 +101,5 @@ mutual
 pub lay-low : (s : Seq) → Full s → (w : Which) (k x : ℕ) → T (layOut (tokens s []) begin w k x) → x ≤ seqEnd s 0
 lay-low s F w k x h =
     let r = any-out (on w k x) (arcs s 0 0) (subst T (lay-out-is w k x s) h) in
-    all-in (Low (seqEnd s 0)) (arcs s 0 0) (low s 0 0 (seqEnd s 0) F (le-refl (seqEnd s 0))) (r .0) (r .1) w k x
+    all-in (Low (seqEnd s 0)) (arcs s 0 0) (low s 0 0 (seqEnd s 0) F (le-refl (seqEnd s 0))) (r .0) (r .1) w x
     (and-split (onKind w x (r .0 .kind) (r .0 .from) (r .0 .to)) (eqb (levelOf w (r .0 .level)) k) (r .2) .0)

@@ -9,6 +9,7 @@ pub mod Shown
 pub mod Classes
 -- Lay out marks for a tree's tokens the sets of the tree's masks, so what is laid out is the tree's image.
 pub mod Scan
+pub mod ArcTests
 pub mod Marks
 pub mod LayOut
 pub mod Sets

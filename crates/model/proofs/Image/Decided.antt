@@ -73,5 +73,6 @@ pub words-ends : (ws : List ℕ) (s : Seq) → verdict ws ≡ some s → (text :
     → T (bit (value (runWords (imageMasks ws) (depthWord ws) (feed [] (take p text)))) (seqEnd s 0)) ↔ StopsAt s text p
 words-ends ws s e text p h =
     let I = is-image ws s .0 e in
-    subst (λ (z : List ℕ). T (bit (value (runWords (imageMasks z) (depthWord z) (feed [] (take p text)))) (seqEnd s 0)) ↔ StopsAt s text p) (sym (I .words ∙ image-is s))
+    subst (λ (z : List ℕ). T (bit (value (runWords (imageMasks z) (depthWord z) (feed [] (take p text)))) (seqEnd s 0)) ↔ StopsAt s text p)
+    (sym (I .words ∙ image-is s))
     (image-ends s (good-full s (well-formed s .0 (I .well) .1)) text p h)

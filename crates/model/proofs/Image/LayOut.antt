@@ -1,23 +1,19 @@
 -- What lay out marks for the tokens of a tree is what some arc of the tree marks: by induction on the tree, with the scan carried along.
-use mathlib.Core.Path.{_≡_, refl, sym, ap, _∙_}
-use mathlib.Core.Bool.{Bool, true, false, _&&_, _||_, or-false, or-assoc}
-use mathlib.Core.List.{List, [], _∷_, _++_}
+use mathlib.Core.Path.{_≡_, sym, ap, ap₂, _∙_}
+use mathlib.Core.Bool.{Bool, _&&_, _||_, or-false, or-assoc}
+use mathlib.Core.List.{List, [], _∷_}
 use Prim.Native.Nat.{ℕ, suc}
 use lib.ListN.{length}
 use Rattle.model.specs.Lists.{any}
-use Rattle.model.specs.Tree.{Alts, Seq, canLoop, canSkip, end, last, letter, more, union}
-use Rattle.model.specs.Edges.{altsEmpty, altsEnd, seqEmpty, seqEnd, ways}
+use Rattle.model.specs.Tree.{Alts, Seq, end, last, letter, more, union}
+use Rattle.model.specs.Edges.{altsEmpty, altsEnd, seqEmpty, seqEnd}
 use Rattle.model.specs.Models.Tokens.{Token, aBar, aClose, aLetter, altsTokens, tokens}
-use Rattle.model.specs.Models.LayOut.{Frame, Scan, Which, barMarks, begin, bridgeMarks, closeMarksIn, layOut, letterMarks, nextAlternative, opened, openMarks, step}
+use Rattle.model.specs.Models.LayOut.{Frame, Scan, Which, barMarks, begin, bridgeMarks, closeMarksIn, layOut, nextAlternative, opened, openMarks, step}
+use Rattle.model.proofs.Image.ArcTests.{any-letter, any-more, any-union, letterTest}
 use Rattle.model.proofs.Image.Marks.{bridge-marks, letter-marks, on, tailMarks, union-marks}
 use Rattle.model.proofs.Image.Scan.{after, after-bar, after-end, after-letter, after-union, afterUnion, alternativeAt}
-use Rattle.model.proofs.Language.Arcs.{Arc, arc, arcs, forkArc, altsArcs, letterArc, loopArc, propagateArc, when}
+use Rattle.model.proofs.Language.Arcs.{Arc, altsArcs, arc, arcs, propagateArc}
 use Rattle.model.proofs.Laws.Bool.{or-left-comm}
-use Rattle.model.proofs.Laws.Lists.{any-app}
-
-pub any-when : (p : Arc → Bool) (b : Bool) (e : Arc) (es : List Arc) → any p (when b e es) ≡ ((b && p e) || any p es)
-any-when p true e es = refl
-any-when p false e es = refl
 
 module _ (w : Which) (k x : ℕ) where
   -- some arc marks the place
@@ -28,51 +24,26 @@ module _ (w : Which) (k x : ℕ) where
   laidFrom l q = layOut l q w k x
 
   mutual
-    sets : (s : Seq) (rest : List Token) (q : Scan) → laidFrom (tokens s rest) q ≡ (marked (arcs s (q .position) (length (q .stack))) || laidFrom rest (after s q))
+    sets : (s : Seq) (rest : List Token) (q : Scan)
+        → laidFrom (tokens s rest) q ≡ (marked (arcs s (q .position) (length (q .stack))) || laidFrom rest (after s q))
     sets end rest q = ap (laidFrom rest) (sym (after-end q))
     sets (letter c r s) rest q =
-        ap (λ (v : Bool). letterMarks r t d w k x || v) (sets s rest (step (aLetter c r) q))
-        ∙ ap (λ (v : Bool). v || (F || R)) (letter-marks w k x d t c r)
-        ∙ go A (canLoop r && L) (canSkip r && P) F R
-        ∙ ap (λ (v : Bool). (A || v) || R)
-        (sym (any-when (on w k x) (canLoop r) (arc (loopArc c) d (suc t) (suc t)) (when (canSkip r) (arc propagateArc d t (suc t)) (arcs s (suc t) d))
-        ∙ ap (λ (v : Bool). (canLoop r && L) || v) (any-when (on w k x) (canSkip r) (arc propagateArc d t (suc t)) (arcs s (suc t) d))))
-        ∙ ap (λ (z : Scan). marked (arcs (letter c r s) t d) || laidFrom rest z) (after-letter c r s q)
+        ap₂ _||_ (letter-marks w k x d t c r) (sets s rest (step (aLetter c r) q))
+        ∙ sym (or-assoc (letterTest (on w k x) c r d t) (marked (arcs s (suc t) d)) (laidFrom rest (after s (step (aLetter c r) q))))
+        ∙ ap₂ (λ (v : Bool) (z : Scan). v || laidFrom rest z) (sym (any-letter (on w k x) c r s t d)) (after-letter c r s q)
       where
         t : ℕ
         t = q .position
 
         d : ℕ
         d = length (q .stack)
-
-        A : Bool
-        A = on w k x (arc (letterArc c) d t (suc t))
-
-        L : Bool
-        L = on w k x (arc (loopArc c) d (suc t) (suc t))
-
-        P : Bool
-        P = on w k x (arc propagateArc d t (suc t))
-
-        F : Bool
-        F = marked (arcs s (suc t) d)
-
-        R : Bool
-        R = laidFrom rest (after s (step (aLetter c r) q))
-
-        go : (a l p f r : Bool) → ((a || (l || p)) || (f || r)) ≡ ((a || (l || (p || f))) || r)
-        go a l p f r = simp or-assoc
     sets (union a s) rest q =
         ap (λ (v : Bool). O || v)
         (sets-alts a (tokens s rest) t (opened q) (q .stack)
-        ∙ ap (λ (v : Bool). (I || (M || (altsEmpty a && bridgeMarks t u d w k x))) || v) (sets s rest (afterUnion a t (opened q) (q .stack))))
-        ∙ ap (λ (v : Bool). O || ((I || (M || (altsEmpty a && v))) || (F || R))) (bridge-marks w k x d t u)
-        ∙ go O I M P F R
-        ∙ ap (λ (v : Bool). (P || (v || (I || F))) || R) (union-marks w k x d a q)
-        ∙ ap (λ (v : Bool). v || R)
-        (sym (any-when (on w k x) (altsEmpty a) (arc propagateArc d t u) (arc (forkArc (ways a t)) d t u ∷ (altsArcs a t d ++ arcs s u d))
-        ∙ ap (λ (v : Bool). P || (on w k x (arc (forkArc (ways a t)) d t u) || v)) (any-app (on w k x) (altsArcs a t d) (arcs s u d))))
-        ∙ ap (λ (z : Scan). marked (arcs (union a s) t d) || laidFrom rest z) (after-union a s q)
+        ∙ ap₂ (λ (u v : Bool). (I || (M || (altsEmpty a && u))) || v) (bridge-marks w k x d t u) (sets s rest (afterUnion a t (opened q) (q .stack))))
+        ∙ go O I M P F (laidFrom rest (after s (afterUnion a t (opened q) (q .stack))))
+        ∙ ap₂ (λ (v : Bool) (z : Scan). ((P || v) || (I || F)) || laidFrom rest z) (union-marks w k x d a q) (after-union a s q)
+        ∙ ap (λ (v : Bool). v || laidFrom rest (after (union a s) q)) (sym (any-union (on w k x) a s t d))
       where
         t : ℕ
         t = q .position
@@ -98,10 +69,7 @@ module _ (w : Which) (k x : ℕ) where
         F : Bool
         F = marked (arcs s u d)
 
-        R : Bool
-        R = laidFrom rest (after s (afterUnion a t (opened q) (q .stack)))
-
-        go : (o i m p f r : Bool) → (o || ((i || (m || p)) || (f || r))) ≡ ((p || ((o || m) || (i || f))) || r)
+        go : (o i m p f r : Bool) → (o || ((i || (m || p)) || (f || r))) ≡ (((p || (o || m)) || (i || f)) || r)
         go o i m p f r = simp (or-assoc, or-left-comm)
 
     -- the alternatives after state p of an open union: their arcs, the union's bars and close, its propagate edge
@@ -118,7 +86,7 @@ module _ (w : Which) (k x : ℕ) where
         ∙ ap (λ (v : Bool). H || (B || v)) (sets-alts a rest z g st)
         ∙ (λ i. H || (B || ((I || (M || (or-assoc (f .emptyBefore) (seqEmpty s) (altsEmpty a) i && P))) || laidFrom rest (after-bar s a p f st i))))
         ∙ go H B I M (Y && P) R
-        ∙ ap (λ (v : Bool). (v || ((B || M) || (Y && P))) || R) (sym (any-app (on w k x) (arcs s (suc p) (suc d)) (altsArcs a z d)))
+        ∙ ap (λ (v : Bool). (v || ((B || M) || (Y && P))) || R) (sym (any-more (on w k x) s a p d))
       where
         d : ℕ
         d = length st

@@ -8,6 +8,7 @@ use Rattle.model.specs.Tree.{Alts, Repeat, canLoop, canSkip, last, more}
 use Rattle.model.specs.Edges.{altsEnd, endsOf, seqEmpty, seqEnd, startsOf, ways}
 use Rattle.model.specs.Image.{firstEnd, lastStart}
 use Rattle.model.specs.Models.LayOut.{Frame, Scan, Which, barMarks, bridgeMarks, closeMarks, entering, gather-block, gather-source, gather-target, leaving, letter-place, letterMarks, loop-place, nextAlternative, openMarks, opened, scatter-block, scatter-source, scatter-target}
+use Rattle.model.proofs.Image.ArcTests.{letterTest}
 use Rattle.model.proofs.Language.Arcs.{Arc, ArcKind, arc, forkArc, letterArc, loopArc, propagateArc}
 
 -- ---- the places of an arc
@@ -86,9 +87,7 @@ bridge-marks entering k x d i j = refl
 nothing : (l s : Bool) → false ≡ ((l && false) || (s && false))
 nothing l s = ap₂ _||_ (sym (and-false l)) (sym (and-false s))
 
-pub letter-marks : (w : Which) (k x d t c : ℕ) (r : Repeat) → letterMarks r t d w k x
-    ≡ (on w k x (arc (letterArc c) d t (suc t))
-    || ((canLoop r && on w k x (arc (loopArc c) d (suc t) (suc t))) || (canSkip r && on w k x (arc propagateArc d t (suc t)))))
+pub letter-marks : (w : Which) (k x d t c : ℕ) (r : Repeat) → letterMarks r t d w k x ≡ letterTest (on w k x) c r d t
 letter-marks letter-place k x d t c r =
     sym (ap (λ (b : Bool). (eqb x (suc t) && eqb 0 k) || b) (sym (nothing (canLoop r) (canSkip r))) ∙ or-false (eqb x (suc t) && eqb 0 k))
 letter-marks loop-place k x d t c r =

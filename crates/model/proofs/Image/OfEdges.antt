@@ -1,7 +1,7 @@
 -- The image assembled by the arcs is the image of document 01: a test of the parts of a tree, or of its edges, is a test of its arcs, since a
 -- letter's arcs are its edges and a union's fork stands for its scatter and gather edges.
 use mathlib.Core.Path.{_≡_, refl, sym, ap, ap₂, _∙_}
-use mathlib.Core.Bool.{Bool, true, false, _&&_, _||_, and-false, or-assoc, or-false}
+use mathlib.Core.Bool.{Bool, true, false, _&&_, _||_, and-false, or-false}
 use mathlib.Core.List.{List, [], _∷_, _++_, map}
 use Prim.Native.Nat.{ℕ, suc}
 use lib.Dec.{leb, ltb, eqb}
@@ -12,35 +12,24 @@ use Rattle.model.specs.Edges.{when as whenEdge}
 use Rattle.model.specs.Image.{enters, firstEnd, gatherBlock, gatherSource, gatherTarget, image, lastStart, leaves, letters, repeats, scatterBlock, scatterSource, scatterTarget, unionTest, width}
 use Rattle.model.specs.Models.LayOut.{Which, entering, gather-block, gather-source, gather-target, leaving, letter-place, loop-place, scatter-block, scatter-source, scatter-target}
 use Rattle.model.proofs.Ends.Run.{letterSet, loopSet, loopsByte, takesByte}
+use Rattle.model.proofs.Image.ArcTests.{any-letter, any-more, any-union, branchTest, letterTest}
 use Rattle.model.proofs.Image.Laid.{assemble-same}
-use Rattle.model.proofs.Image.LayOut.{any-when}
 use Rattle.model.proofs.Image.Marks.{letter-marks, on}
 use Rattle.model.proofs.Image.Places.{arcs-set}
 use Rattle.model.proofs.Image.Sets.{arcImage, treeSet}
-use Rattle.model.proofs.Language.Arcs.{Arc, altsArcs, arc, arcs, forkArc, letterArc, loopArc, propagateArc, when}
+use Rattle.model.proofs.Language.Arcs.{Arc, altsArcs, arc, arcs, forkArc, letterArc, loopArc, propagateArc}
 use Rattle.model.proofs.Laws.Lists.{any-app}
 
 -- ---- a test p of the parts as a test g of the arcs
-module _ (p : Part → Bool) (g : Arc → Bool)
-    (at-letter : (c : ℕ) (r : Repeat) (k i : ℕ)
-    → p (letterAt c r k i) ≡ (g (arc (letterArc c) k i (suc i)) || ((canLoop r && g (arc (loopArc c) k (suc i) (suc i))) || (canSkip r && g (arc propagateArc k i (suc i))))))
-    (at-union : (b : Bool) (k t : ℕ) (ws : List Way) (u : ℕ) → p (unionAt b k t ws u) ≡ ((b && g (arc propagateArc k t u)) || g (arc (forkArc ws) k t u))) where
+module _ (p : Part → Bool) (g : Arc → Bool) (at-letter : (c : ℕ) (r : Repeat) (k i : ℕ) → p (letterAt c r k i) ≡ letterTest g c r k i)
+    (at-union : (b : Bool) (k t : ℕ) (ws : List Way) (u : ℕ) → p (unionAt b k t ws u) ≡ branchTest g b k t ws u) where
   mutual
     parts-any : (s : Seq) (t k : ℕ) → any p (parts s t k) ≡ any g (arcs s t k)
     parts-any end t k = refl
-    parts-any (letter c r s) t k =
-        ap₂ _||_ (at-letter c r k t) (parts-any s (suc t) k)
-        ∙ go (g (arc (letterArc c) k t (suc t))) (canLoop r && g (arc (loopArc c) k (suc t) (suc t))) (canSkip r && g (arc propagateArc k t (suc t))) (any g (arcs s (suc t) k))
-        ∙ ap (λ (v : Bool). g (arc (letterArc c) k t (suc t)) || v)
-        (sym (any-when g (canLoop r) (arc (loopArc c) k (suc t) (suc t)) (when (canSkip r) (arc propagateArc k t (suc t)) (arcs s (suc t) k))
-        ∙ ap (λ (v : Bool). (canLoop r && g (arc (loopArc c) k (suc t) (suc t))) || v) (any-when g (canSkip r) (arc propagateArc k t (suc t)) (arcs s (suc t) k))))
-      where
-        go : (a l p f : Bool) → ((a || (l || p)) || f) ≡ (a || (l || (p || f)))
-        go a l p f = simp or-assoc
+    parts-any (letter c r s) t k = ap₂ _||_ (at-letter c r k t) (parts-any s (suc t) k) ∙ sym (any-letter g c r s t k)
     parts-any (union a s) t k =
-        ap₂ _||_ (at-union (altsEmpty a) k t (ways a t) u) (any-app p (altsParts a t k) (parts s u k) ∙ ap₂ _||_ (alts-any a t k) (parts-any s u k) ∙ sym (any-app g (altsArcs a t k) (arcs s u k)))
-        ∙ or-assoc (altsEmpty a && g (arc propagateArc k t u)) (g (arc (forkArc (ways a t)) k t u)) (any g (altsArcs a t k ++ arcs s u k))
-        ∙ sym (any-when g (altsEmpty a) (arc propagateArc k t u) (arc (forkArc (ways a t)) k t u ∷ (altsArcs a t k ++ arcs s u k)))
+        ap₂ _||_ (at-union (altsEmpty a) k t (ways a t) u) (any-app p (altsParts a t k) (parts s u k) ∙ ap₂ _||_ (alts-any a t k) (parts-any s u k))
+        ∙ sym (any-union g a s t k)
       where
         u : ℕ
         u = suc (altsEnd a t)
@@ -50,11 +39,12 @@ module _ (p : Part → Bool) (g : Arc → Bool)
     alts-any (more s a) q k =
         any-app p (parts s (suc q) (suc k)) (altsParts a (seqEnd s (suc q)) k)
         ∙ ap₂ _||_ (parts-any s (suc q) (suc k)) (alts-any a (seqEnd s (suc q)) k)
-        ∙ sym (any-app g (arcs s (suc q) (suc k)) (altsArcs a (seqEnd s (suc q)) k))
+        ∙ sym (any-more g s a q k)
 
 -- ---- a test h of the edges as a test g of the arcs: no scatter or gather edge passes, and no fork
 module _ (h : Edge → Bool) (g : Arc → Bool) (at-letter : (c k i j : ℕ) → h (edge (letterEdge c) k i j) ≡ g (arc (letterArc c) k i j))
-    (at-loop : (c k i j : ℕ) → h (edge (loopEdge c) k i j) ≡ g (arc (loopArc c) k i j)) (at-propagate : (k i j : ℕ) → h (edge propagateEdge k i j) ≡ g (arc propagateArc k i j))
+    (at-loop : (c k i j : ℕ) → h (edge (loopEdge c) k i j) ≡ g (arc (loopArc c) k i j))
+    (at-propagate : (k i j : ℕ) → h (edge propagateEdge k i j) ≡ g (arc propagateArc k i j))
     (at-scatter : (k i j : ℕ) → h (edge scatterEdge k i j) ≡ false) (at-gather : (k i j : ℕ) → h (edge gatherEdge k i j) ≡ false)
     (at-fork : (xs : List Way) (k i j : ℕ) → g (arc (forkArc xs) k i j) ≡ false) where
   each-any : (ps : List Part) → any h (each edgesOf ps) ≡ any (λ p. any h (edgesOf p)) ps
@@ -69,20 +59,20 @@ module _ (h : Edge → Bool) (g : Arc → Bool) (at-letter : (c k i j : ℕ) →
   no-edge f none [] = refl
   no-edge f none (a ∷ ws) = ap₂ _||_ (none a) (no-edge f none ws)
 
-  letter-edges : (c : ℕ) (r : Repeat) (k i : ℕ) → any h (edgesOf (letterAt c r k i))
-      ≡ (g (arc (letterArc c) k i (suc i)) || ((canLoop r && g (arc (loopArc c) k (suc i) (suc i))) || (canSkip r && g (arc propagateArc k i (suc i)))))
+  letter-edges : (c : ℕ) (r : Repeat) (k i : ℕ) → any h (edgesOf (letterAt c r k i)) ≡ letterTest g c r k i
   letter-edges c r k i =
       ap₂ _||_ (at-letter c k i (suc i))
       (any-app h (whenEdge (canLoop r) (edge (loopEdge c) k (suc i) (suc i))) (whenEdge (canSkip r) (edge propagateEdge k i (suc i)))
       ∙ ap₂ _||_ (any-edge (canLoop r) (edge (loopEdge c) k (suc i) (suc i)) ∙ ap (λ (v : Bool). canLoop r && v) (at-loop c k (suc i) (suc i)))
       (any-edge (canSkip r) (edge propagateEdge k i (suc i)) ∙ ap (λ (v : Bool). canSkip r && v) (at-propagate k i (suc i))))
 
-  union-edges : (b : Bool) (k t : ℕ) (ws : List Way) (u : ℕ) → any h (edgesOf (unionAt b k t ws u)) ≡ ((b && g (arc propagateArc k t u)) || g (arc (forkArc ws) k t u))
+  union-edges : (b : Bool) (k t : ℕ) (ws : List Way) (u : ℕ) → any h (edgesOf (unionAt b k t ws u)) ≡ branchTest g b k t ws u
   union-edges b k t ws u =
       any-app h (map (λ a. edge scatterEdge k t (a .0)) ws) (map (λ a. edge gatherEdge k (a .1) u) ws ++ whenEdge b (edge propagateEdge k t u))
       ∙ ap₂ _||_ (no-edge (λ a. edge scatterEdge k t (a .0)) (λ a. at-scatter k t (a .0)) ws)
       (any-app h (map (λ a. edge gatherEdge k (a .1) u) ws) (whenEdge b (edge propagateEdge k t u))
-      ∙ ap₂ _||_ (no-edge (λ a. edge gatherEdge k (a .1) u) (λ a. at-gather k (a .1) u) ws) (any-edge b (edge propagateEdge k t u) ∙ ap (λ (v : Bool). b && v) (at-propagate k t u)))
+      ∙ ap₂ _||_ (no-edge (λ a. edge gatherEdge k (a .1) u) (λ a. at-gather k (a .1) u) ws)
+      (any-edge b (edge propagateEdge k t u) ∙ ap (λ (v : Bool). b && v) (at-propagate k t u)))
       ∙ sym (ap (λ (v : Bool). (b && g (arc propagateArc k t u)) || v) (at-fork ws k t u) ∙ or-false (b && g (arc propagateArc k t u)))
 
   edges-any : (s : Seq) → any h (edges s) ≡ any g (arcs s 0 0)
@@ -111,33 +101,45 @@ enters-of s k x =
     (λ k i j. refl) (λ k i j. refl) (λ xs k i j. refl) s
     ∙ arcs-set s entering k x
 
--- a mask of unions: a union passes as its fork does
-unions-of : (w : Which) (f : ℕ → List Way → ℕ → Bool) (s : Seq) (k x : ℕ)
-    → ((c : ℕ) (r : Repeat) (d i : ℕ) → false ≡ (on w k x (arc (letterArc c) d i (suc i)) || ((canLoop r && on w k x (arc (loopArc c) d (suc i) (suc i))) || (canSkip r && on w k x (arc propagateArc d i (suc i))))))
+-- a mask of unions: no letter and no propagate edge marks a place, and a union passes as its fork does
+unions-of : (w : Which) (f : ℕ → List Way → ℕ → Bool) (s : Seq) (k x : ℕ) → ((c : ℕ) (r : Repeat) (d i : ℕ) → false ≡ letterTest (on w k x) c r d i)
     → ((d t u : ℕ) → on w k x (arc propagateArc d t u) ≡ false) → ((d t : ℕ) (ws : List Way) (u : ℕ) → (f t ws u && eqb d k) ≡ on w k x (arc (forkArc ws) d t u))
     → any (unionTest k f) (parts s 0 0) ≡ treeSet s w k x
 unions-of w f s k x at-letter at-propagate at-fork = parts-any (unionTest k f) (on w k x) at-letter at-union s 0 0 ∙ arcs-set s w k x
   where
-    at-union : (b : Bool) (d t : ℕ) (ws : List Way) (u : ℕ) → (f t ws u && eqb d k) ≡ ((b && on w k x (arc propagateArc d t u)) || on w k x (arc (forkArc ws) d t u))
-    at-union b d t ws u = at-fork d t ws u ∙ ap (λ (v : Bool). v || on w k x (arc (forkArc ws) d t u)) (sym (ap (λ (v : Bool). b && v) (at-propagate d t u) ∙ and-false b))
+    at-union : (b : Bool) (d t : ℕ) (ws : List Way) (u : ℕ) → (f t ws u && eqb d k) ≡ branchTest (on w k x) b d t ws u
+    at-union b d t ws u =
+        at-fork d t ws u ∙ ap (λ (v : Bool). v || on w k x (arc (forkArc ws) d t u)) (sym (ap (λ (v : Bool). b && v) (at-propagate d t u) ∙ and-false b))
 
 scatter-block-of : (s : Seq) (k x : ℕ) → scatterBlock s k x ≡ treeSet s scatter-block k x
-scatter-block-of s k x = unions-of scatter-block (λ start ws close. eqb x (suc (lastStart ws))) s k x (λ c r d i. letter-marks scatter-block k x d i c r) (λ d t u. refl) (λ d t ws u. refl)
+scatter-block-of s k x =
+    unions-of scatter-block (λ start ws close. eqb x (suc (lastStart ws))) s k x
+    (λ c r d i. letter-marks scatter-block k x d i c r) (λ d t u. refl) (λ d t ws u. refl)
 
 scatter-source-of : (s : Seq) (k x : ℕ) → scatterSource s k x ≡ treeSet s scatter-source k x
-scatter-source-of s k x = unions-of scatter-source (λ start ws close. eqb x start) s k x (λ c r d i. letter-marks scatter-source k x d i c r) (λ d t u. refl) (λ d t ws u. refl)
+scatter-source-of s k x =
+    unions-of scatter-source (λ start ws close. eqb x start) s k x
+    (λ c r d i. letter-marks scatter-source k x d i c r) (λ d t u. refl) (λ d t ws u. refl)
 
 scatter-target-of : (s : Seq) (k x : ℕ) → scatterTarget s k x ≡ treeSet s scatter-target k x
-scatter-target-of s k x = unions-of scatter-target (λ start ws close. within x (startsOf ws)) s k x (λ c r d i. letter-marks scatter-target k x d i c r) (λ d t u. refl) (λ d t ws u. refl)
+scatter-target-of s k x =
+    unions-of scatter-target (λ start ws close. within x (startsOf ws)) s k x
+    (λ c r d i. letter-marks scatter-target k x d i c r) (λ d t u. refl) (λ d t ws u. refl)
 
 gather-block-of : (s : Seq) (k x : ℕ) → gatherBlock s k x ≡ treeSet s gather-block k x
-gather-block-of s k x = unions-of gather-block (λ start ws close. leb (firstEnd ws) x && ltb x close) s k x (λ c r d i. letter-marks gather-block k x d i c r) (λ d t u. refl) (λ d t ws u. refl)
+gather-block-of s k x =
+    unions-of gather-block (λ start ws close. leb (firstEnd ws) x && ltb x close) s k x
+    (λ c r d i. letter-marks gather-block k x d i c r) (λ d t u. refl) (λ d t ws u. refl)
 
 gather-source-of : (s : Seq) (k x : ℕ) → gatherSource s k x ≡ treeSet s gather-source k x
-gather-source-of s k x = unions-of gather-source (λ start ws close. within x (endsOf ws)) s k x (λ c r d i. letter-marks gather-source k x d i c r) (λ d t u. refl) (λ d t ws u. refl)
+gather-source-of s k x =
+    unions-of gather-source (λ start ws close. within x (endsOf ws)) s k x
+    (λ c r d i. letter-marks gather-source k x d i c r) (λ d t u. refl) (λ d t ws u. refl)
 
 gather-target-of : (s : Seq) (k x : ℕ) → gatherTarget s k x ≡ treeSet s gather-target k x
-gather-target-of s k x = unions-of gather-target (λ start ws close. eqb x close) s k x (λ c r d i. letter-marks gather-target k x d i c r) (λ d t u. refl) (λ d t ws u. refl)
+gather-target-of s k x =
+    unions-of gather-target (λ start ws close. eqb x close) s k x
+    (λ c r d i. letter-marks gather-target k x d i c r) (λ d t u. refl) (λ d t ws u. refl)
 
 -- the sets of the image; letter and loop places have no mask there
 abbrev edgeSet : Seq → Which → ℕ → ℕ → Bool

@@ -13,7 +13,8 @@ use Rattle.model.proofs.Laws.Lists.{any-app}
 module _ (g : Arc → Bool) where
   -- some arc of a letter from state i at depth k passes
   abbrev pub letterTest : ℕ → Repeat → ℕ → ℕ → Bool
-  letterTest c r k i = g (arc (letterArc c) k i (suc i)) || ((canLoop r && g (arc (loopArc c) k (suc i) (suc i))) || (canSkip r && g (arc propagateArc k i (suc i))))
+  letterTest c r k i =
+      g (arc (letterArc c) k i (suc i)) || ((canLoop r && g (arc (loopArc c) k (suc i) (suc i))) || (canSkip r && g (arc propagateArc k i (suc i))))
 
   -- the propagate edge or the fork of a union from t to u at depth k passes, where b says whether the union can be empty
   abbrev pub branchTest : Bool → ℕ → ℕ → List Way → ℕ → Bool

@@ -79,12 +79,21 @@ class-of f false n p c o b h e = go c o ∙ bit-zero b ∙ sym (is-not (f b) (λ
     go false true = refl
     go false false = refl
 
+length-from : (n a : ℕ) (f : ℕ → Token) → length (tokensFrom n a f) ≡ n
+length-from zero a f = refl
+length-from (suc n) a f = ap suc (length-from n (suc a) f)
+
+-- a valid tape has a token less than the words say states
+pub length-between : (m : ℕ) (f : ℕ → Token) → T (valid (tokensBetween m f) begin) → suc (length (tokensBetween m f)) ≡ m
+length-between zero f v = absurd v
+length-between (suc n) f v = ap suc (length-from n 0 f)
+
 getD-from : (n a i : ℕ) (f : ℕ → Token) → i < n → getD (tokensFrom n a f) i aClose ≡ f (a + i)
 getD-from zero a i f h = absurd (not-suc-le-zero h)
 getD-from (suc n) a zero f h = let e : a ≡ a + 0 = omega arith in ap f e
 getD-from (suc n) a (suc i) f h = getD-from n (suc a) i f (le-of-suc-le-suc h) ∙ (let e : suc a + i ≡ a + suc i = omega arith in ap f e)
 
-getD-between : (m i : ℕ) (f : ℕ → Token) → suc i < m → getD (tokensBetween m f) i aClose ≡ f i
+pub getD-between : (m i : ℕ) (f : ℕ → Token) → suc i < m → getD (tokensBetween m f) i aClose ≡ f i
 getD-between zero i f h = absurd (not-suc-le-zero h)
 getD-between (suc n) i f h = getD-from n 0 i f (le-of-suc-le-suc h) ∙ ap f (zero-add i)
 

@@ -29,7 +29,9 @@ max-assoc a b c = omega arith
 mutual
   reaches : (s : Seq) (rest : List Token) (q : Scan) → reach (tokens s rest) q ≡ max (top s (length (q .stack))) (reach rest (after s q))
   reaches end rest q = let r = ap (reach rest) (sym (after-end q)) in omega arith
-  reaches (letter c r s) rest q = reaches s rest (step (aLetter c r) q) ∙ ap (λ (z : Scan). max (top s (length (q .stack))) (reach rest z)) (after-letter c r s q)
+  reaches (letter c r s) rest q =
+      reaches s rest (step (aLetter c r) q)
+      ∙ ap (λ (z : Scan). max (top s (length (q .stack))) (reach rest z)) (after-letter c r s q)
   reaches (union a s) rest q =
       ap (max (suc n))
       (reaches-alts a (tokens s rest) (q .position) (opened q) (q .stack)

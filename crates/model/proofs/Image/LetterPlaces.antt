@@ -57,6 +57,7 @@ module _ (w : Which) (test : Token → Bool) (marks : (y : Token) (q : Scan) (x 
   none-before [] q x h = refl
   none-before (y ∷ ys) q x h = ap₂ _||_ (unmarked y q x (λ e. omega arith)) (none-before ys (step y q) x (omega (arith, position-step y q)))
 
+  -- the state that token i leads to has the mark exactly if the token passes
   at-token : (l : List Token) (q : Scan) (i : ℕ) → i < length l → layOut l q w 0 (suc (q .position + i)) ≡ test (getD l i aClose)
   at-token [] q i h = absurd (not-suc-le-zero h)
   at-token (y ∷ ys) q zero h =
@@ -90,8 +91,8 @@ loop-marks aClose q x = go (q .stack)
     go [] = refl
     go (f ∷ st) = and-false (f .emptyBefore || q .canBeEmpty)
 
-pub lay-loops : (l : List Token) (i : ℕ) → i < length l → layOut l begin loop-place 0 (suc i) ≡ isLooping (getD l i aClose)
-lay-loops = place-at loop-place isLooping loop-marks
+pub lay-loops : (l : List Token) (q : Scan) (i : ℕ) → i < length l → layOut l q loop-place 0 (suc (q .position + i)) ≡ isLooping (getD l i aClose)
+lay-loops = at-token loop-place isLooping loop-marks
 
 loop-class : (y : Token) (b : ℕ) → (bit (classOf y) b && isLooping y) ≡ bit (loopClassOf y) b
 loop-class (aLetter c once) b = and-false (bit c b) ∙ sym (bit-zero b)
@@ -106,7 +107,7 @@ loop-class aClose b = and-false (bit 0 b) ∙ sym (bit-zero b)
 pub repeats-by-letters : (l : List Token) (b x : ℕ) → x < suc (length l) → (tokenLetters l b x && layOut l begin loop-place 0 x) ≡ tokenLoops l b x
 repeats-by-letters l b zero h = refl
 repeats-by-letters l b (suc i) h =
-    ap (λ (a : Bool). bit (classOf (getD l i aClose)) b && a) (lay-loops l i (le-of-suc-le-suc h)) ∙ loop-class (getD l i aClose) b
+    ap (λ (a : Bool). bit (classOf (getD l i aClose)) b && a) (place-at loop-place isLooping loop-marks l i (le-of-suc-le-suc h)) ∙ loop-class (getD l i aClose) b
 
 -- ---- the letter places
 letter-marks : (y : Token) (q : Scan) (x : ℕ) → mark y q letter-place 0 x ≡ (isLetter y && eqb x (suc (q .position)))
@@ -123,8 +124,8 @@ letter-marks aClose q x = go (q .stack)
     go [] = refl
     go (f ∷ st) = and-false (f .emptyBefore || q .canBeEmpty)
 
-pub lay-letters : (l : List Token) (i : ℕ) → i < length l → layOut l begin letter-place 0 (suc i) ≡ isLetter (getD l i aClose)
-lay-letters = place-at letter-place isLetter letter-marks
+pub lay-letters : (l : List Token) (q : Scan) (i : ℕ) → i < length l → layOut l q letter-place 0 (suc (q .position + i)) ≡ isLetter (getD l i aClose)
+lay-letters = at-token letter-place isLetter letter-marks
 
 no-letter-at-zero : (l : List Token) → layOut l begin letter-place 0 0 ≡ false
 no-letter-at-zero l = none-before letter-place isLetter letter-marks l begin 0 (le-refl 0)
@@ -132,7 +133,7 @@ no-letter-at-zero l = none-before letter-place isLetter letter-marks l begin 0 (
 -- THE LETTER MASKS TOGETHER ARE THE LETTER PLACES, for fine tokens
 pub or-is-places : (l : List Token) → AllFine l → (x : ℕ) → x < suc (length l) → anyBelow 256 (λ b. tokenLetters l b x) ≡ layOut l begin letter-place 0 x
 or-is-places l F zero h = sym (no-letter-at-zero l)
-or-is-places l F (suc i) h = some-byte (getD l i aClose) (fine-at l i F) ∙ sym (lay-letters l i (le-of-suc-le-suc h))
+or-is-places l F (suc i) h = some-byte (getD l i aClose) (fine-at l i F) ∙ sym (place-at letter-place isLetter letter-marks l i (le-of-suc-le-suc h))
   where
     some-byte : (y : Token) → Fine y → anyBelow 256 (λ b. bit (classOf y) b) ≡ isLetter y
     some-byte (aLetter c r) C = some-bit c C

@@ -10,7 +10,7 @@ use Rattle.model.specs.Tree.{Alts, Repeat, Seq, canLoop, canSkip, end, l
 use Rattle.model.specs.Edges.{Edge, Part, Way, altsEmpty, altsEnd, altsParts, byLetter, byLoop, depth, edge, edges, edgesOf, endsOf, gatherEdge, isPropagate, letterAt, letterEdge, loopEdge, parts, propagateEdge, scatterEdge, seqEnd, startsOf, states, unionAt, ways}
 use Rattle.model.specs.Edges.{when as whenEdge}
 use Rattle.model.specs.Image.{enters, firstEnd, gatherBlock, gatherSource, gatherTarget, image, lastStart, leaves, letters, repeats, scatterBlock, scatterSource, scatterTarget, unionTest, width}
-use Rattle.model.specs.Models.LayOut.{Which, entering, gather-block, gather-source, gather-target, leaving, letter-place, loop-place, scatter-block, scatter-source, scatter-target}
+use Rattle.model.specs.Models.LayOut.{Which, entering, gather-block, gather-source, gather-target, leaving, letter-place, letterMarks, loop-place, scatter-block, scatter-source, scatter-target}
 use Rattle.model.proofs.Ends.Run.{letterSet, loopSet, loopsByte, takesByte}
 use Rattle.model.proofs.Image.ArcTests.{any-letter, any-more, any-union, branchTest, letterTest}
 use Rattle.model.proofs.Image.Laid.{assemble-same}
@@ -102,44 +102,17 @@ enters-of s k x =
     ∙ arcs-set s entering k x
 
 -- a mask of unions: no letter and no propagate edge marks a place, and a union passes as its fork does
-unions-of : (w : Which) (f : ℕ → List Way → ℕ → Bool) (s : Seq) (k x : ℕ) → ((c : ℕ) (r : Repeat) (d i : ℕ) → false ≡ letterTest (on w k x) c r d i)
-    → ((d t u : ℕ) → on w k x (arc propagateArc d t u) ≡ false) → ((d t : ℕ) (ws : List Way) (u : ℕ) → (f t ws u && eqb d k) ≡ on w k x (arc (forkArc ws) d t u))
+unions-of : (w : Which) (f : ℕ → List Way → ℕ → Bool) (s : Seq) (k x : ℕ) → ((r : Repeat) (d t : ℕ) → letterMarks r t d w k x ≡ false)
+    → ((d i j : ℕ) → on w k x (arc propagateArc d i j) ≡ false) → ((ws : List Way) (d i j : ℕ) → (f i ws j && eqb d k) ≡ on w k x (arc (forkArc ws) d i j))
     → any (unionTest k f) (parts s 0 0) ≡ treeSet s w k x
-unions-of w f s k x at-letter at-propagate at-fork = parts-any (unionTest k f) (on w k x) at-letter at-union s 0 0 ∙ arcs-set s w k x
+unions-of w f s k x no-letter no-propagate at-fork = parts-any (unionTest k f) (on w k x) at-letter at-union s 0 0 ∙ arcs-set s w k x
   where
+    at-letter : (c : ℕ) (r : Repeat) (d i : ℕ) → false ≡ letterTest (on w k x) c r d i
+    at-letter c r d i = sym (no-letter r d i) ∙ letter-marks w k x d i c r
+
     at-union : (b : Bool) (d t : ℕ) (ws : List Way) (u : ℕ) → (f t ws u && eqb d k) ≡ branchTest (on w k x) b d t ws u
     at-union b d t ws u =
-        at-fork d t ws u ∙ ap (λ (v : Bool). v || on w k x (arc (forkArc ws) d t u)) (sym (ap (λ (v : Bool). b && v) (at-propagate d t u) ∙ and-false b))
-
-scatter-block-of : (s : Seq) (k x : ℕ) → scatterBlock s k x ≡ treeSet s scatter-block k x
-scatter-block-of s k x =
-    unions-of scatter-block (λ start ws close. eqb x (suc (lastStart ws))) s k x
-    (λ c r d i. letter-marks scatter-block k x d i c r) (λ d t u. refl) (λ d t ws u. refl)
-
-scatter-source-of : (s : Seq) (k x : ℕ) → scatterSource s k x ≡ treeSet s scatter-source k x
-scatter-source-of s k x =
-    unions-of scatter-source (λ start ws close. eqb x start) s k x
-    (λ c r d i. letter-marks scatter-source k x d i c r) (λ d t u. refl) (λ d t ws u. refl)
-
-scatter-target-of : (s : Seq) (k x : ℕ) → scatterTarget s k x ≡ treeSet s scatter-target k x
-scatter-target-of s k x =
-    unions-of scatter-target (λ start ws close. within x (startsOf ws)) s k x
-    (λ c r d i. letter-marks scatter-target k x d i c r) (λ d t u. refl) (λ d t ws u. refl)
-
-gather-block-of : (s : Seq) (k x : ℕ) → gatherBlock s k x ≡ treeSet s gather-block k x
-gather-block-of s k x =
-    unions-of gather-block (λ start ws close. leb (firstEnd ws) x && ltb x close) s k x
-    (λ c r d i. letter-marks gather-block k x d i c r) (λ d t u. refl) (λ d t ws u. refl)
-
-gather-source-of : (s : Seq) (k x : ℕ) → gatherSource s k x ≡ treeSet s gather-source k x
-gather-source-of s k x =
-    unions-of gather-source (λ start ws close. within x (endsOf ws)) s k x
-    (λ c r d i. letter-marks gather-source k x d i c r) (λ d t u. refl) (λ d t ws u. refl)
-
-gather-target-of : (s : Seq) (k x : ℕ) → gatherTarget s k x ≡ treeSet s gather-target k x
-gather-target-of s k x =
-    unions-of gather-target (λ start ws close. eqb x close) s k x
-    (λ c r d i. letter-marks gather-target k x d i c r) (λ d t u. refl) (λ d t ws u. refl)
+        at-fork ws d t u ∙ ap (λ (v : Bool). v || on w k x (arc (forkArc ws) d t u)) (sym (ap (λ (v : Bool). b && v) (no-propagate d t u) ∙ and-false b))
 
 -- the sets of the image; letter and loop places have no mask there
 abbrev edgeSet : Seq → Which → ℕ → ℕ → Bool
@@ -155,16 +128,18 @@ edgeSet s leaving = leaves s
 edgeSet s entering = enters s
 
 edge-sets : (s : Seq) (w : Which) (k x : ℕ) → edgeSet s w k x ≡ treeSet s w k x
-edge-sets s letter-place = λ k x. refl
-edge-sets s loop-place = λ k x. refl
-edge-sets s scatter-block = scatter-block-of s
-edge-sets s scatter-source = scatter-source-of s
-edge-sets s scatter-target = scatter-target-of s
-edge-sets s gather-block = gather-block-of s
-edge-sets s gather-source = gather-source-of s
-edge-sets s gather-target = gather-target-of s
-edge-sets s leaving = leaves-of s
-edge-sets s entering = enters-of s
+edge-sets s letter-place k x = refl
+edge-sets s loop-place k x = refl
+edge-sets s scatter-block k x =
+    unions-of scatter-block (λ start ws close. eqb x (suc (lastStart ws))) s k x (λ r d t. refl) (λ d i j. refl) (λ ws d i j. refl)
+edge-sets s scatter-source k x = unions-of scatter-source (λ start ws close. eqb x start) s k x (λ r d t. refl) (λ d i j. refl) (λ ws d i j. refl)
+edge-sets s scatter-target k x = unions-of scatter-target (λ start ws close. within x (startsOf ws)) s k x (λ r d t. refl) (λ d i j. refl) (λ ws d i j. refl)
+edge-sets s gather-block k x =
+    unions-of gather-block (λ start ws close. leb (firstEnd ws) x && ltb x close) s k x (λ r d t. refl) (λ d i j. refl) (λ ws d i j. refl)
+edge-sets s gather-source k x = unions-of gather-source (λ start ws close. within x (endsOf ws)) s k x (λ r d t. refl) (λ d i j. refl) (λ ws d i j. refl)
+edge-sets s gather-target k x = unions-of gather-target (λ start ws close. eqb x close) s k x (λ r d t. refl) (λ d i j. refl) (λ ws d i j. refl)
+edge-sets s leaving k x = leaves-of s k x
+edge-sets s entering k x = enters-of s k x
 
 -- THE IMAGE OF DOCUMENT 01 IS THE IMAGE BY THE ARCS
 pub image-is : (s : Seq) → image s ≡ arcImage s

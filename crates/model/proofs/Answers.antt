@@ -1,2 +1,5 @@
 -- Answers
 pub mod Build
+pub mod ReadBack
+pub mod Match
+pub mod RoundTrip

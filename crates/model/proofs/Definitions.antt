@@ -1,8 +1,7 @@
 -- Definitions
-pub mod Parts
+pub mod Along
 pub mod Free
 pub mod Takes
-pub mod Masks
 pub mod Live
 pub mod Ends
 pub mod EndsList

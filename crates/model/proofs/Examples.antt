@@ -10,22 +10,22 @@ use lib.ListN.{length}
 use Rattle.model.specs.Lists.{All}
 use Rattle.model.specs.Bits.{mask}
 use Rattle.model.specs.Bytes.{bytes}
-use Rattle.model.specs.Tree.{Tree, Seq, end, letter, union, Alts, last, more}
-use Rattle.model.specs.Grammar.{IsRule}
+use Rattle.model.specs.Tree.{Tree}
 use Rattle.model.specs.Writing.{writing}
 use Rattle.model.specs.Edges.{states}
 use Rattle.model.specs.Ends.{EndsAre}
-use Rattle.model.specs.Image.{scatterBlock, scatterSource, scatterTarget, gatherBlock, gatherSource, gatherTarget, propagateBlock, propagateSource, propagateTarget, image}
-use Rattle.model.specs.Answers.{refused, BuildSays, not-a-rule}
-use Rattle.model.specs.Worked.{Claim, isWritten, hasStates, scatterAt, gatherAt, propagateAt, hasEnds, hasImage, Masks, Holds, Row, _⊨_, refusedWith2, Right, marked, further}
-use Rattle.model.proofs.Laws.Bool.{and-split}
+use Rattle.model.specs.Image.{gatherBlock, gatherSource, gatherTarget, image, propagateBlock, propagateSource, propagateTarget, scatterBlock, scatterSource, scatterTarget}
+use Rattle.model.specs.Answers.{not-a-rule}
+use Rattle.model.specs.Worked.{_⊨_, Claim, further, gatherAt, hasEnds, hasImage, hasStates, Holds, isWritten, marked, Masks, propagateAt, refusedWith2, Right, Row, scatterAt}
 use Rattle.model.specs.Models.Reader.{readRule}
+use Rattle.model.specs.Models.Verdict.{sameWords}
+use Rattle.model.proofs.Definitions.TreeEnds.{tree-ends, treeEnds}
+use Rattle.model.proofs.Image.Decided.{rule-full}
+use Rattle.model.proofs.Image.Verdict.{same-words}
+use Rattle.model.proofs.Laws.Bool.{and-split}
 use Rattle.model.proofs.Reading.Decides.{reads}
-use Rattle.model.proofs.Reading.WellFormed.{Good, GoodAlts, rule-well}
-use Rattle.model.proofs.Words.Full.{Full, FullA, NonEmpty}
+use Rattle.model.proofs.Words.Full.{Full}
 use Rattle.model.proofs.Words.Run.{Bytes}
-use Rattle.model.proofs.Image.Verdict.{sameWords, sameWords-eq}
-use Rattle.model.proofs.Definitions.TreeEnds.{treeEnds, tree-ends}
 
 -- ---- the test
 abbrev areBytes : List ℕ → Bool
@@ -72,37 +72,22 @@ masks-right t block source target k b s g h =
     (eqb→eq (mask (states t) (block k)) b (p .0), eqb→eq (mask (states t) (source k)) s (q .0), eqb→eq (mask (states t) (target k)) g (q .1))
 
 claim-right : (t : Tree) → Full t → (c : Claim) → T (claimTest t c) → Holds t c
-claim-right t F (isWritten w) h = sameWords-eq (writing t) (bytes w) h
+claim-right t F (isWritten w) h = same-words (writing t) (bytes w) h
 claim-right t F (hasStates m) h = eqb→eq (states t) m h
 claim-right t F (scatterAt k b s g) h = masks-right t (scatterBlock t) (scatterSource t) (scatterTarget t) k b s g h
 claim-right t F (gatherAt k b s g) h = masks-right t (gatherBlock t) (gatherSource t) (gatherTarget t) k b s g h
 claim-right t F (propagateAt k b s g) h = masks-right t (propagateBlock t) (propagateSource t) (propagateTarget t) k b s g h
 claim-right t F (hasEnds text places) h =
     let k = and-split (areBytes (bytes text)) (sameWords (treeEnds t (bytes text)) places) h in
-    subst (EndsAre t (bytes text)) (sameWords-eq (treeEnds t (bytes text)) places (k .1)) (tree-ends t F (bytes text) (are-bytes (bytes text) (k .0)))
-claim-right t F (hasImage words) h = sameWords-eq (image t) words h
-
-mutual
-  good-full : (s : Seq) → Good s → Full s
-  good-full end g = tt
-  good-full (letter c r s) g = good-full s (g .1)
-  good-full (union a s) g = (alts-full a (g .1), good-full s (g .2))
-
-  alts-full : (a : Alts) → GoodAlts a → FullA a
-  alts-full (last s) g = (filled s (g .0), good-full s (g .1))
-  alts-full (more s a) g = (filled s (g .0), good-full s (g .1), alts-full a (g .2))
-
-  filled : (s : Seq) → Rattle.model.proofs.Reading.WellFormed.Full s → NonEmpty s
-  filled end h = h
-  filled (letter c r s) h = h
-  filled (union a s) h = h
+    subst (EndsAre t (bytes text)) (same-words (treeEnds t (bytes text)) places (k .1)) (tree-ends t F (bytes text) (are-bytes (bytes text) (k .0)))
+claim-right t F (hasImage words) h = same-words (image t) words h
 
 row-right : (r : Row) → T (rowTest r) → Right r
 row-right (rule ⊨ claim) h = go (readRule (bytes rule)) refl h
   where
     go : (o : Option Tree) → readRule (bytes rule) ≡ o → T (acceptedTest o claim) → Right (rule ⊨ claim)
     go none e k = absurd k
-    go (some t) e k = let d = reads (bytes rule) t .1 e in (t, d, claim-right t (good-full t (rule-well d .good)) claim k)
+    go (some t) e k = let d = reads (bytes rule) t .1 e in (t, d, claim-right t (rule-full t d) claim k)
 row-right (refusedWith2 rule) h = λ before. not-a-rule (leb→le (length (bytes rule)) 1024 (k .0)) (λ t d. go (readRule (bytes rule)) (k .1) t (reads (bytes rule) t .0 d)) refl
   where
     k : T (leb (length (bytes rule)) 1024) × T (refusedTest (readRule (bytes rule)))

@@ -3,6 +3,7 @@
 -- Read in this order: the tree's edges as arcs; the languages of texts read so far; a value for each state, handed on along the tree; the texts of a
 -- state in both ways, each way into the other, and so the accepting state; the stretches that a tree spells; what can spell the empty text.
 pub mod Arcs
+pub mod Parts
 pub mod Languages
 pub mod Values
 pub mod Texts

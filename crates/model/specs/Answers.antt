@@ -6,7 +6,7 @@ use lib.ListN.{length, take, drop}
 use Rattle.model.specs.Tree.{Tree}
 use Rattle.model.specs.Grammar.{IsRule}
 use Rattle.model.specs.Writing.{writing}
-use Rattle.model.specs.Edges.{states, depth}
+use Rattle.model.specs.Edges.{depth, states}
 use Rattle.model.specs.Ends.{EndsAre}
 use Rattle.model.specs.Image.{image}
 

@@ -4,7 +4,7 @@ use mathlib.Core.List.{List, [], _∷_, _++_, map}
 use Prim.Native.Nat.{ℕ, suc, max}
 use Rattle.model.specs.Lists.{each}
 use Rattle.model.specs.Bits.{bit}
-use Rattle.model.specs.Tree.{Repeat, canSkip, canLoop, Seq, end, letter, union, Alts, last, more, Tree}
+use Rattle.model.specs.Tree.{Alts, canLoop, canSkip, end, last, letter, more, Repeat, Seq, Tree, union}
 
 -- the state in which a sequence that starts in t ends, and the end of the last alternative, where p is the state before the first one's start:
 -- "A letter from state i ends in i+1. A union starting in t gives its alternatives the next states in turn, each with its own start, then

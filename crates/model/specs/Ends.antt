@@ -7,7 +7,7 @@ use lib.Dec.{T}
 use lib.ListN.{length}
 use Rattle.model.specs.Lists.{_∈_, All}
 use Rattle.model.specs.Bits.{bit}
-use Rattle.model.specs.Tree.{Repeat, once, option, star, plus, Seq, end, letter, union, Alts, last, more, Tree}
+use Rattle.model.specs.Tree.{Alts, end, last, letter, more, once, option, plus, Repeat, star, Tree, union}
 
 -- a letter spells one byte of its class, with `?` also none, with `*` any number, with `+` at least one
 abbrev pub LetterSpells : ℕ → Repeat → List ℕ → Type 0

@@ -6,8 +6,8 @@ use Prim.Native.Nat.{ℕ, zero, suc, _+_, _-_, _*_, _^_, _≤_}
 use lib.Dec.{T, eqb, leb}
 use lib.Bits.{bitOr}
 use Rattle.model.specs.Bits.{mask}
-use Rattle.model.specs.Bytes.{byte, plain, IsDigit, IsEscape}
-use Rattle.model.specs.Tree.{Repeat, once, option, star, plus, Seq, end, letter, union, Alts, last, more, Tree, glue}
+use Rattle.model.specs.Bytes.{byte, IsDigit, IsEscape, plain}
+use Rattle.model.specs.Tree.{Alts, end, glue, last, letter, more, once, option, plus, Repeat, Seq, star, Tree, union}
 
 -- ---- classes: the number whose bit b says that byte b is in it
 -- "In a class a single is an escape or a plain byte other than `-`; the signs need escapes there too."

@@ -7,7 +7,7 @@ use lib.ListN.{length}
 use Rattle.model.specs.Lists.{any, within}
 use Rattle.model.specs.Bits.{mask}
 use Rattle.model.specs.Tree.{Tree}
-use Rattle.model.specs.Edges.{states, depth, Way, startsOf, endsOf, Part, letterAt, unionAt, parts, Edge, edges, byLetter, byLoop, isPropagate}
+use Rattle.model.specs.Edges.{byLetter, byLoop, depth, edges, endsOf, isPropagate, letterAt, Part, parts, startsOf, states, unionAt, Way}
 
 -- ---- the sets of states that the masks hold
 -- "letters: bit i+1 where a letter edge i to i+1 takes the byte"; "repeats: likewise, the bit of each loop"

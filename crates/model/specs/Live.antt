@@ -7,7 +7,7 @@ use Prim.Native.Nat.{ℕ}
 use lib.Dec.{T}
 use Rattle.model.specs.Lists.{_∈_}
 use Rattle.model.specs.Tree.{Tree}
-use Rattle.model.specs.Edges.{EdgeKind, letterEdge, loopEdge, propagateEdge, scatterEdge, gatherEdge, edge, edges, byLetter, byLoop}
+use Rattle.model.specs.Edges.{byLetter, byLoop, edge, EdgeKind, edges, gatherEdge, letterEdge, loopEdge, propagateEdge, scatterEdge}
 
 -- all that a set of states reaches by the edges of R
 pub data Reached (R : ℕ → ℕ → Type 0) (D : ℕ → Type 0) : ℕ → Type 0 where

@@ -2,3 +2,7 @@
 pub mod Reader
 pub mod Words
 pub mod Run
+pub mod Tokens
+pub mod LayOut
+pub mod Apart
+pub mod Verdict

@@ -13,8 +13,8 @@ use Rattle.model.specs.Grammar.{IsRule}
 use Rattle.model.specs.Writing.{writing}
 use Rattle.model.specs.Edges.{states}
 use Rattle.model.specs.Ends.{EndsAre}
-use Rattle.model.specs.Image.{scatterBlock, scatterSource, scatterTarget, gatherBlock, gatherSource, gatherTarget, propagateBlock, propagateSource, propagateTarget, image}
-use Rattle.model.specs.Answers.{refused, BuildSays}
+use Rattle.model.specs.Image.{gatherBlock, gatherSource, gatherTarget, image, propagateBlock, propagateSource, propagateTarget, scatterBlock, scatterSource, scatterTarget}
+use Rattle.model.specs.Answers.{BuildSays, refused}
 
 -- what a row may claim of the tree of an accepted rule; masks as numbers: block, source, target at depth k
 pub data Claim : Type 0 where

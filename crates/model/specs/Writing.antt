@@ -6,7 +6,7 @@ use lib.Dec.{leb, ltb, eqb}
 use Rattle.model.specs.Lists.{within}
 use Rattle.model.specs.Bits.{bit}
 use Rattle.model.specs.Bytes.{byte, bytes, signs}
-use Rattle.model.specs.Tree.{Repeat, once, option, star, plus, Seq, end, letter, union, Alts, last, more, Tree}
+use Rattle.model.specs.Tree.{Alts, end, last, letter, more, once, option, plus, Repeat, star, Tree, union}
 use Rattle.model.specs.Grammar.{every}
 
 -- an "upper-case digit"

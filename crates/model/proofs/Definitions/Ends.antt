@@ -10,10 +10,10 @@ use lib.Seq.{take-at, length-take-le}
 use Rattle.model.specs.Tree.{Tree}
 use Rattle.model.specs.Edges.{accepting}
 use Rattle.model.specs.Live.{Live}
-use Rattle.model.specs.Ends.{Spells, End}
-use Rattle.model.proofs.Words.Full.{Full}
-use Rattle.model.proofs.Ends.Stops.{StopsAt, end-is}
+use Rattle.model.specs.Ends.{End}
 use Rattle.model.proofs.Definitions.Live.{live-is}
+use Rattle.model.proofs.Ends.Stops.{end-is, StopsAt}
+use Rattle.model.proofs.Words.Full.{Full}
 
 -- an end is a place of the text at which a spelled stretch stops
 pub end-stops : (t : Tree) (text : List ℕ) (p : ℕ) → End t text p ↔ ((p ≤ length text) × StopsAt t text p)

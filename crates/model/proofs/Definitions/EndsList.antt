@@ -10,7 +10,7 @@ use lib.Dec.{T}
 use lib.ListN.{length}
 use Rattle.model.specs.Lists.{_∈_, All}
 use Rattle.model.specs.Tree.{Tree}
-use Rattle.model.specs.Ends.{End, Rising, EndsAre}
+use Rattle.model.specs.Ends.{End, EndsAre, Rising}
 use Rattle.model.proofs.Laws.Lists.{all-in}
 
 -- ---- a rising list is settled by its elements

@@ -4,14 +4,15 @@ use mathlib.Core.Logic.{_⊎_, inl, inr, _↔_}
 use mathlib.Core.List.{List, [], _∷_, _++_, map}
 use Prim.Native.Nat.{ℕ, suc}
 use lib.Dec.{T}
-use Rattle.model.specs.Tree.{canSkip, canLoop, Tree}
-use Rattle.model.specs.Edges.{startsOf, endsOf, Part, letterAt, unionAt, parts, EdgeKind, letterEdge, loopEdge, propagateEdge, scatterEdge, gatherEdge, Edge, edge, edgesOf}
+use Rattle.model.specs.Tree.{canLoop, canSkip, Tree}
+use Rattle.model.specs.Edges.{Edge, edge, EdgeKind, edgesOf, endsOf, gatherEdge, letterAt, letterEdge, loopEdge, Part, parts, propagateEdge, scatterEdge, startsOf, unionAt}
 use Rattle.model.specs.Edges.{when as whenEdge}
-use Rattle.model.specs.Live.{letterless, Free}
-use Rattle.model.proofs.Laws.Lists.{In, later, sooner, in-split}
-use Rattle.model.proofs.Laws.Each.{in-map, map-in, in-each, each-in}
-use Rattle.model.proofs.Language.Arcs.{letterArc, loopArc, propagateArc, forkArc, Arc, arc, when, arcs, Still}
-use Rattle.model.proofs.Definitions.Parts.{arcsOf, arcs-are, StillAlong, edge-when, when-edge, arc-when, when-arc, when-later, kind-is, from-is, to-is}
+use Rattle.model.specs.Live.{Free, letterless}
+use Rattle.model.proofs.Definitions.Along.{arc-when, edge-when, from-is, kind-is, StillAlong, to-is, when-arc, when-edge, when-later}
+use Rattle.model.proofs.Language.Arcs.{Arc, arc, arcs, forkArc, letterArc, loopArc, propagateArc, Still, when}
+use Rattle.model.proofs.Language.Parts.{arcs-are, arcsOf}
+use Rattle.model.proofs.Laws.Each.{each-in, in-each, in-map, map-in}
+use Rattle.model.proofs.Laws.Lists.{In, in-split, later, sooner}
 
 -- ---- edges without a letter
 abbrev FreeIn : List Edge → ℕ → ℕ → Type 0

@@ -7,17 +7,17 @@ use Prim.Native.Nat.{ℕ}
 use lib.Dec.{T, eqb→eq, eqb-refl}
 use Rattle.model.specs.Tree.{Tree}
 use Rattle.model.specs.Edges.{depth}
-use Rattle.model.specs.Live.{Reached, itself, onward, Free, Takes, Before, After, LiveFrom, Live}
-use Rattle.model.proofs.Language.Arcs.{Arc, arc, arcs, propagateArc, forkArc}
+use Rattle.model.specs.Live.{After, Before, Free, itself, Live, LiveFrom, onward, Reached, Takes}
+use Rattle.model.proofs.Definitions.Along.{StillAlong}
+use Rattle.model.proofs.Definitions.Free.{free-is}
+use Rattle.model.proofs.Definitions.Takes.{takes-is}
+use Rattle.model.proofs.Ends.Run.{liveSet, Moved, moved, moved-in, moved-out, startSet, still-free}
+use Rattle.model.proofs.Language.Arcs.{arc, arcs, forkArc, propagateArc}
 use Rattle.model.proofs.Language.Stretches.{feed}
 use Rattle.model.proofs.Passes.Closure.{AnyEdge}
 use Rattle.model.proofs.Passes.OnTrees.{Gathers, Propagates, Scatters}
 use Rattle.model.proofs.Words.Full.{Full}
 use Rattle.model.proofs.Words.Passes.{bits-are, passed}
-use Rattle.model.proofs.Ends.Run.{moved, moved-out, moved-in, Moved, still-free, startSet, liveSet}
-use Rattle.model.proofs.Definitions.Parts.{StillAlong}
-use Rattle.model.proofs.Definitions.Free.{free-is}
-use Rattle.model.proofs.Definitions.Takes.{takes-is}
 
 -- what is reached grows with the edges and with the set
 reached-map : {R S : ℕ → ℕ → Type 0} {D E : ℕ → Type 0} → ((q r : ℕ) → R q r → S q r) → ((q : ℕ) → D q → E q) → {q : ℕ} → Reached R D q → Reached S E q

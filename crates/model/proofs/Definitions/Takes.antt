@@ -6,15 +6,16 @@ use mathlib.Core.List.{List, [], _∷_, _++_, map}
 use Prim.Native.Nat.{ℕ, suc}
 use lib.Dec.{T}
 use Rattle.model.specs.Bits.{bit}
-use Rattle.model.specs.Tree.{canSkip, canLoop, Tree}
-use Rattle.model.specs.Edges.{Part, letterAt, unionAt, parts, EdgeKind, letterEdge, loopEdge, propagateEdge, scatterEdge, gatherEdge, Edge, edge, edgesOf, byLetter, byLoop}
+use Rattle.model.specs.Tree.{canLoop, canSkip, Tree}
+use Rattle.model.specs.Edges.{byLetter, byLoop, Edge, edge, EdgeKind, edgesOf, gatherEdge, letterAt, letterEdge, loopEdge, Part, parts, propagateEdge, scatterEdge, unionAt}
 use Rattle.model.specs.Edges.{when as whenEdge}
 use Rattle.model.specs.Live.{Takes}
+use Rattle.model.proofs.Definitions.Along.{arc-when, ByteAlong, edge-when, from-is, kind-is, to-is, when-arc, when-edge}
+use Rattle.model.proofs.Language.Arcs.{Arc, arc, arcs, Byte, forkArc, letterArc, loopArc, propagateArc, when}
+use Rattle.model.proofs.Language.Parts.{arcs-are, arcsOf}
 use Rattle.model.proofs.Laws.Bool.{or-left}
-use Rattle.model.proofs.Laws.Lists.{In, sooner, in-split}
-use Rattle.model.proofs.Laws.Each.{map-in, in-each, each-in}
-use Rattle.model.proofs.Language.Arcs.{letterArc, loopArc, propagateArc, forkArc, Arc, arc, when, arcs, Byte}
-use Rattle.model.proofs.Definitions.Parts.{arcsOf, arcs-are, ByteAlong, edge-when, when-edge, arc-when, when-arc, kind-is, from-is, to-is}
+use Rattle.model.proofs.Laws.Each.{each-in, in-each, map-in}
+use Rattle.model.proofs.Laws.Lists.{In, in-split, sooner}
 
 abbrev TakesIn : List Edge → ℕ → ℕ → ℕ → Type 0
 TakesIn es b q r = (e : EdgeKind) × (k : ℕ) × In es (edge e k q r) × T (byLetter b e || byLoop b e)

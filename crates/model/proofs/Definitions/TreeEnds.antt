@@ -9,19 +9,19 @@ use lib.Dec.{T}
 use lib.ListN.{length, take}
 use Rattle.model.specs.Bits.{bit}
 use Rattle.model.specs.Tree.{Tree}
-use Rattle.model.specs.Edges.{accepting, states, depth}
+use Rattle.model.specs.Edges.{accepting, depth, states}
 use Rattle.model.specs.Ends.{End, EndsAre}
 use Rattle.model.specs.Image.{width}
+use Rattle.model.specs.Models.Run.{runWords}
+use Rattle.model.specs.Models.Words.{value}
+use Rattle.model.proofs.Definitions.Ends.{end-stops}
+use Rattle.model.proofs.Definitions.EndsList.{places-are, placesFrom}
+use Rattle.model.proofs.Ends.Stops.{StopsAt}
+use Rattle.model.proofs.Image.Rows.{room}
 use Rattle.model.proofs.Language.Stretches.{feed}
 use Rattle.model.proofs.Words.Full.{Full}
-use Rattle.model.specs.Models.Words.{value}
-use Rattle.model.specs.Models.Run.{runWords}
+use Rattle.model.proofs.Words.ImageRun.{tree-carry, treeMasks}
 use Rattle.model.proofs.Words.Run.{Bytes, end-words}
-use Rattle.model.proofs.Words.ImageRun.{treeMasks, tree-carry}
-use Rattle.model.proofs.Ends.Stops.{StopsAt}
-use Rattle.model.proofs.Image.Apart.{room}
-use Rattle.model.proofs.Definitions.Ends.{end-stops}
-use Rattle.model.proofs.Definitions.EndsList.{placesFrom, places-are}
 
 abbrev pub isEnd : Tree → List ℕ → ℕ → Bool
 isEnd t text p = bit (value (runWords (treeMasks (states t) (width (states t)) t) (depth t) (feed [] (take p text)))) (accepting t)

@@ -10,16 +10,16 @@ use native.Mathlib.Omega.{arith}
 use lib.Dec.{T, eqb, eqb→eq, eqb-refl}
 use Rattle.model.specs.Lists.{All, any}
 use Rattle.model.specs.Bits.{bit}
-use Rattle.model.specs.Tree.{Alts, Seq, end, last, letter, more, union}
+use Rattle.model.specs.Tree.{Alts, end, last, letter, more, Seq, union}
 use Rattle.model.specs.Edges.{altsEnd, depth, seqEnd}
-use Rattle.model.specs.Live.{Reached, itself, onward}
+use Rattle.model.specs.Live.{itself, onward, Reached}
 use Rattle.model.specs.Ends.{Spells}
 use Rattle.model.proofs.Language.Accepts.{accepts}
-use Rattle.model.proofs.Language.Arcs.{Arc, ArcKind, Byte, Still, altsArcs, arc, arcs, branch-whole, forkArc, letter-whole, letterArc, loopArc, propagateArc}
+use Rattle.model.proofs.Language.Arcs.{altsArcs, Arc, arc, ArcKind, arcs, branch-whole, Byte, forkArc, letter-whole, letterArc, loopArc, propagateArc, Still}
 use Rattle.model.proofs.Language.Stretches.{feed, stretch}
-use Rattle.model.proofs.Language.Texts.{LeadsTo, byte, start, still}
+use Rattle.model.proofs.Language.Texts.{byte, LeadsTo, start, still}
 use Rattle.model.proofs.Laws.Bool.{and-both, and-split, or-left, or-right, or-split}
-use Rattle.model.proofs.Laws.Lists.{In, all-app, all-in, any-in, any-out}
+use Rattle.model.proofs.Laws.Lists.{all-app, all-in, any-in, any-out, In}
 use Rattle.model.proofs.Passes.Closure.{AnyEdge}
 use Rattle.model.proofs.Passes.OnTrees.{Gathers, Propagates, Scatters}
 use Rattle.model.proofs.Words.Full.{Full}

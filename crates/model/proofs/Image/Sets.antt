@@ -1,40 +1,32 @@
--- The image of a tree.
-use mathlib.Core.Bool.{Bool, not, _&&_, _||_}
-use mathlib.Core.List.{List, [], _∷_, _++_}
-use Prim.Native.Nat.{ℕ, suc, _+_, _/_}
-use Rattle.model.specs.Bits.{mask}
+-- The sets of states that a tree's masks hold, by its arcs, and the image assembled from them.
+use mathlib.Core.Bool.{Bool}
+use mathlib.Core.List.{List}
+use Prim.Native.Nat.{ℕ, suc}
+use Rattle.model.specs.Lists.{any}
 use Rattle.model.specs.Tree.{Seq}
 use Rattle.model.specs.Edges.{depth, seqEnd}
-use Rattle.model.specs.Image.{join, section, words}
+use Rattle.model.specs.Image.{width}
+use Rattle.model.specs.Models.LayOut.{assemble, entering, gather-block, gather-source, gather-target, leaving, letter-place, loop-place, scatter-block, scatter-source, scatter-target, Which}
 use Rattle.model.proofs.Ends.Run.{letterSet, loopSet}
-use Rattle.model.proofs.Language.Arcs.{Arc, arcs}
-use Rattle.model.proofs.Words.Gather.{gatherBlockOf, gatherSourceOf, gatherTargetOf}
+use Rattle.model.proofs.Image.Marks.{on}
+use Rattle.model.proofs.Language.Arcs.{arcs}
 use Rattle.model.proofs.Words.Chains.{propagatesOf}
 use Rattle.model.proofs.Words.Forks.{forksOf}
+use Rattle.model.proofs.Words.Gather.{gatherBlockOf, gatherSourceOf, gatherTargetOf}
 use Rattle.model.proofs.Words.Propagate.{entersOf, leavesOf}
 use Rattle.model.proofs.Words.Scatter.{scatterBlockOf, scatterSourceOf, scatterTargetOf}
 
-module _ (s : Seq) where
-  abbrev m : ℕ
-  m = suc (seqEnd s 0)
+abbrev pub treeSet : Seq → Which → ℕ → ℕ → Bool
+treeSet s letter-place k x = any (on letter-place k x) (arcs s 0 0)
+treeSet s loop-place k x = any (on loop-place k x) (arcs s 0 0)
+treeSet s scatter-block k x = scatterBlockOf (forksOf k (arcs s 0 0)) x
+treeSet s scatter-source k x = scatterSourceOf (forksOf k (arcs s 0 0)) x
+treeSet s scatter-target k x = scatterTargetOf (forksOf k (arcs s 0 0)) x
+treeSet s gather-block k x = gatherBlockOf (forksOf k (arcs s 0 0)) x
+treeSet s gather-source k x = gatherSourceOf (forksOf k (arcs s 0 0)) x
+treeSet s gather-target k x = gatherTargetOf (forksOf k (arcs s 0 0)) x
+treeSet s leaving k x = leavesOf (propagatesOf k (arcs s 0 0)) x
+treeSet s entering k x = entersOf (propagatesOf k (arcs s 0 0)) x
 
-  abbrev W : ℕ
-  W = (m + 63) / 64
-
-  abbrev d : ℕ
-  d = depth s
-
-  abbrev es : List Arc
-  es = arcs s 0 0
-
-  abbrev set : (ℕ → Bool) → List ℕ
-  set f = words W (mask m f)
-
-  abbrev pub arcImage : List ℕ
-  arcImage =
-      section (m ∷ W ∷ d ∷ [])
-      ++ (section (join 256 0 (λ b. set (letterSet es b)))
-      ++ (section (join 256 0 (λ b. set (loopSet es b)))
-      ++ (section (join d 0 (λ k. set (scatterBlockOf (forksOf k es)) ++ (set (scatterSourceOf (forksOf k es)) ++ set (scatterTargetOf (forksOf k es)))))
-      ++ (section (join d 0 (λ k. set (gatherBlockOf (forksOf k es)) ++ (set (gatherSourceOf (forksOf k es)) ++ set (gatherTargetOf (forksOf k es)))))
-      ++ section (join (suc d) 0 (λ k. set (λ x. leavesOf (propagatesOf k es) x || entersOf (propagatesOf k es) x) ++ (set (λ x. leavesOf (propagatesOf k es) x && not (entersOf (propagatesOf k es) x)) ++ set (λ x. entersOf (propagatesOf k es) x && not (leavesOf (propagatesOf k es) x)))))))))
+abbrev pub arcImage : Seq → List ℕ
+arcImage s = assemble (suc (seqEnd s 0)) (width (suc (seqEnd s 0))) (depth s) (letterSet (arcs s 0 0)) (loopSet (arcs s 0 0)) (treeSet s)

@@ -3,9 +3,9 @@ use mathlib.Core.Path.{_≡_, refl, ap, _∙_}
 use mathlib.Core.List.{List, [], _∷_, _++_, append-assoc, append-nil}
 use Prim.Native.Nat.{ℕ}
 use Rattle.model.specs.Bytes.{byte, bytes}
-use Rattle.model.specs.Tree.{Alts, Seq, Tree, end, last, letter, more, union}
+use Rattle.model.specs.Tree.{Alts, end, last, letter, more, Seq, Tree, union}
 use Rattle.model.specs.Writing.{altsWriting, classWriting, repeatWriting, writing}
-use Rattle.model.proofs.Image.Tokens.{Token, aBar, aClose, aLetter, altsTokens, anOpen, tokens}
+use Rattle.model.specs.Models.Tokens.{aBar, aClose, aLetter, altsTokens, anOpen, Token, tokens}
 
 abbrev pub tokenWriting : Token → List ℕ
 tokenWriting (aLetter c r) = classWriting c ++ repeatWriting r

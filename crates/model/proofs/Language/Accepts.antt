@@ -7,11 +7,11 @@ use native.Mathlib.Omega.{arith}
 use Rattle.model.specs.Tree.{Seq}
 use Rattle.model.specs.Edges.{seqEnd}
 use Rattle.model.proofs.Language.Arcs.{arcs}
-use Rattle.model.proofs.Language.Carried.{Carries, carried, leads-out}
-use Rattle.model.proofs.Language.Languages.{Any, after}
+use Rattle.model.proofs.Language.Carried.{carried, Carries, leads-out}
+use Rattle.model.proofs.Language.Languages.{after, Any}
 use Rattle.model.proofs.Language.Led.{texts-lead}
-use Rattle.model.proofs.Language.Texts.{LeadsTo, Texts, at, end-of, start, start-of, texts-table, to}
-use Rattle.model.proofs.Laws.Lists.{In, all-in, in-all}
+use Rattle.model.proofs.Language.Texts.{at, end-of, LeadsTo, start, start-of, Texts, texts-table, to}
+use Rattle.model.proofs.Laws.Lists.{all-in, In, in-all}
 
 module _ (s : Seq) (w : List ℕ) where
   -- the states that a text leads to are those whose language has it

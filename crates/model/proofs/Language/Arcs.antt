@@ -8,8 +8,8 @@ use Prim.Native.Nat.{ℕ, suc}
 use lib.Dec.{T}
 use Rattle.model.specs.Lists.{_∈_, All}
 use Rattle.model.specs.Bits.{bit}
-use Rattle.model.specs.Tree.{Alts, Repeat, Seq, canLoop, canSkip, end, last, letter, more, union}
-use Rattle.model.specs.Edges.{Way, altsEmpty, altsEnd, endsOf, seqEnd, startsOf, ways}
+use Rattle.model.specs.Tree.{Alts, canLoop, canSkip, end, last, letter, more, Repeat, Seq, union}
+use Rattle.model.specs.Edges.{altsEmpty, altsEnd, endsOf, seqEnd, startsOf, Way, ways}
 use Rattle.model.proofs.Laws.Lists.{all-app, all-left, all-right}
 
 -- of what kind an arc is; a fork holds each alternative's start and end

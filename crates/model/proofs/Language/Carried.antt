@@ -6,11 +6,11 @@ use Prim.Native.Nat.{ℕ, suc}
 use lib.Dec.{T}
 use Rattle.model.specs.Lists.{_∈_, All}
 use Rattle.model.specs.Bits.{bit}
-use Rattle.model.specs.Tree.{Alts, Seq, end, last, letter, more, union}
+use Rattle.model.specs.Tree.{Alts, end, last, letter, more, Seq, union}
 use Rattle.model.specs.Edges.{altsEnd, endsOf, seqEnd, startsOf, ways}
-use Rattle.model.proofs.Language.Arcs.{Arc, Byte, Still, altsArcs, arc, arcs, branch-whole, forkArc, letter-whole, propagateArc}
-use Rattle.model.proofs.Language.Languages.{Language, afterAlts, afterLetter, altsEmpty-in, loop-in, skip-letter, take-in}
-use Rattle.model.proofs.Language.Texts.{Has-alts, Has-texts, LeadsTo, at, byte, end-of, start, start-of, still, to}
+use Rattle.model.proofs.Language.Arcs.{altsArcs, Arc, arc, arcs, branch-whole, Byte, forkArc, letter-whole, propagateArc, Still}
+use Rattle.model.proofs.Language.Languages.{afterAlts, afterLetter, altsEmpty-in, Language, loop-in, skip-letter, take-in}
+use Rattle.model.proofs.Language.Texts.{at, byte, end-of, Has-alts, Has-texts, LeadsTo, start, start-of, still, to}
 use Rattle.model.proofs.Laws.Lists.{all-app}
 
 -- an arc carries a family of languages along

@@ -7,7 +7,7 @@ use Prim.Native.Nat.{ℕ}
 use native.Mathlib.Omega.{arith}
 use lib.Dec.{T}
 use lib.ListN.{length}
-use Rattle.model.specs.Tree.{Alts, Repeat, Seq, canSkip, end, last, letter, more, once, option, plus, star, union}
+use Rattle.model.specs.Tree.{Alts, canSkip, end, last, letter, more, once, option, plus, Repeat, Seq, star, union}
 use Rattle.model.specs.Edges.{altsEmpty, seqEmpty}
 use Rattle.model.specs.Ends.{AltsSpell, LetterSpells, Spells}
 use Rattle.model.proofs.Laws.Bool.{and-both, and-split, or-left, or-right, or-split}

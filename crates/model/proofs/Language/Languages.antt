@@ -7,7 +7,7 @@ use native.Mathlib.Nat.{le-refl}
 use native.Mathlib.Omega.{arith}
 use lib.Dec.{T}
 use Rattle.model.specs.Bits.{bit}
-use Rattle.model.specs.Tree.{Alts, Repeat, Seq, canLoop, canSkip, end, last, letter, more, once, option, plus, star, union}
+use Rattle.model.specs.Tree.{Alts, canLoop, canSkip, end, last, letter, more, once, option, plus, Repeat, Seq, star, union}
 use Rattle.model.specs.Edges.{altsEmpty, altsEnd, seqEmpty, seqEnd}
 use Rattle.model.proofs.Laws.Bool.{and-split, or-split}
 

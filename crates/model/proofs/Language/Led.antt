@@ -10,11 +10,11 @@ use native.Mathlib.Omega.{arith}
 use lib.Dec.{T, leb}
 use Rattle.model.specs.Lists.{_∈_, All}
 use Rattle.model.specs.Bits.{bit}
-use Rattle.model.specs.Tree.{Alts, Repeat, Seq, canLoop, canSkip, end, last, letter, more, once, option, plus, star, union}
+use Rattle.model.specs.Tree.{Alts, canLoop, canSkip, end, last, letter, more, once, option, plus, Repeat, Seq, star, union}
 use Rattle.model.specs.Edges.{altsEnd, endsOf, seqEnd, startsOf, ways}
-use Rattle.model.proofs.Language.Arcs.{Arc, Branch, Letter, altsArcs, arc, arcs, branch-parts, forkArc, letter-parts, letterArc, loopArc, propagateArc}
-use Rattle.model.proofs.Language.Languages.{Language, Many, after, afterAlts, afterLetter, seqEnd-le}
-use Rattle.model.proofs.Language.Texts.{AltsTexts, LeadsTo, Texts, at, byte, end-of, still, texts-table, to}
+use Rattle.model.proofs.Language.Arcs.{altsArcs, Arc, arc, arcs, Branch, branch-parts, forkArc, Letter, letter-parts, letterArc, loopArc, propagateArc}
+use Rattle.model.proofs.Language.Languages.{after, afterAlts, afterLetter, Language, Many, seqEnd-le}
+use Rattle.model.proofs.Language.Texts.{AltsTexts, at, byte, end-of, LeadsTo, still, Texts, texts-table, to}
 use Rattle.model.proofs.Laws.Bool.{le-or-lt, pick-gt, pick-le}
 use Rattle.model.proofs.Laws.Lists.{all-left, all-right}
 

@@ -7,9 +7,9 @@ use Prim.Native.Nat.{ℕ}
 use lib.Dec.{T}
 use Rattle.model.specs.Lists.{All}
 use Rattle.model.specs.Bits.{bit}
-use Rattle.model.specs.Tree.{Alts, Repeat, Seq, end, last, letter, more, once, option, plus, star, union}
+use Rattle.model.specs.Tree.{Alts, end, last, letter, more, once, option, plus, Repeat, Seq, star, union}
 use Rattle.model.specs.Ends.{AltsSpell, LetterSpells, Spells}
-use Rattle.model.proofs.Language.Languages.{Any, Language, Many, One, after, afterAlts, afterLetter}
+use Rattle.model.proofs.Language.Languages.{after, afterAlts, afterLetter, Any, Language, Many, One}
 use Rattle.model.proofs.Laws.Lists.{all-app}
 
 -- every byte is in the class

@@ -3,11 +3,11 @@
 use mathlib.Core.Path.{_≡_, refl, sym, _∙_, subst}
 use mathlib.Core.List.{List, _∷_}
 use Prim.Native.Nat.{ℕ}
-use Rattle.model.specs.Tree.{Alts, Seq, end, letter, union}
+use Rattle.model.specs.Tree.{Alts, end, letter, Seq, union}
 use Rattle.model.specs.Edges.{seqEnd}
 use Rattle.model.proofs.Language.Arcs.{Arc, Byte, Still}
-use Rattle.model.proofs.Language.Languages.{Language, after, afterAlts, afterLetter}
-use Rattle.model.proofs.Language.Values.{Has, HasA, altsValue, has-end, has-start, out, table, value}
+use Rattle.model.proofs.Language.Languages.{after, afterAlts, afterLetter, Language}
+use Rattle.model.proofs.Language.Values.{altsValue, Has, has-end, has-start, HasA, out, table, value}
 
 -- ---- by the arcs of E; a stretch may start at any place, so state 0 is always live
 pub data LeadsTo (E : Arc → Type 0) : List ℕ → ℕ → Type 0 where

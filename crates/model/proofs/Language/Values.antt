@@ -6,9 +6,9 @@ use Prim.Native.Nat.{ℕ, suc, _≤_, _<_}
 use native.Mathlib.Nat.{le-refl}
 use native.Mathlib.Omega.{arith}
 use lib.Dec.{leb}
-use Rattle.model.specs.Tree.{Alts, Repeat, Seq, end, last, letter, more, union}
+use Rattle.model.specs.Tree.{Alts, end, last, letter, more, Repeat, Seq, union}
 use Rattle.model.specs.Edges.{altsEnd, seqEnd}
-use Rattle.model.proofs.Language.Languages.{seqEnd-le, altsEnd-lt}
+use Rattle.model.proofs.Language.Languages.{altsEnd-lt, seqEnd-le}
 use Rattle.model.proofs.Laws.Bool.{pick-gt, pick-le}
 
 -- how a value goes through a letter, past a union, and from a union's start t into the alternative that starts in p

@@ -33,6 +33,11 @@ pub or-none : (a b : Bool) → T (not (a || b)) → T (not a) × T (not b)
 or-none true b h = absurd h
 or-none false b h = (tt, h)
 
+pub or-left-comm : (a b c : Bool) → (a || (b || c)) ≡ (b || (a || c))
+or-left-comm true true c = refl
+or-left-comm true false c = refl
+or-left-comm false b c = refl
+
 -- ---- a test that passes, and one that does not
 pub cond-cases : {A : Type 0} (P : A → Type 0) (b : Bool) {x y : A} → (T b → P x) → (T (not b) → P y) → P (cond b x y)
 cond-cases P true f g = f tt

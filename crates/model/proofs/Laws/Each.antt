@@ -4,7 +4,7 @@ use mathlib.Core.Logic.{_⊎_, inl, inr}
 use mathlib.Core.Bool.{Bool, false, _||_}
 use mathlib.Core.List.{List, [], _∷_, _++_, map, append-assoc}
 use Rattle.model.specs.Lists.{any, each}
-use Rattle.model.proofs.Laws.Lists.{In, later, sooner, in-split, any-app}
+use Rattle.model.proofs.Laws.Lists.{any-app, In, in-split, later, sooner}
 
 module _ {A B : Type 0} (f : A → B) where
   pub in-map : (xs : List A) (x : A) → In xs x → In (map f xs) (f x)

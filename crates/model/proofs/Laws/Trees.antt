@@ -1,6 +1,6 @@
 -- Sequences joined: nothing after a sequence leaves it as it is.
 use mathlib.Core.Path.{_≡_, refl, ap}
-use Rattle.model.specs.Tree.{Seq, end, letter, union, glue}
+use Rattle.model.specs.Tree.{end, glue, letter, Seq, union}
 
 pub glue-end : (s : Seq) → glue s end ≡ s
 glue-end end = refl

@@ -6,7 +6,7 @@ use mathlib.Core.Logic.{_⊎_, inl, inr, _↔_}
 use Prim.Native.Nat.{ℕ, zero, suc, _+_, _≤_, _<_}
 use native.Mathlib.Nat.{eq-or-lt-of-le}
 use native.Mathlib.Omega.{arith}
-use Rattle.model.specs.Live.{Reached, itself, onward}
+use Rattle.model.specs.Live.{itself, onward, Reached}
 
 -- ---- sets of states
 abbrev pub Set : Type 1

@@ -8,10 +8,10 @@ use Prim.Native.Nat.{ℕ, suc, _+_, _≤_, _<_}
 use native.Mathlib.Omega.{arith}
 use lib.Dec.{T}
 use Rattle.model.specs.Lists.{_∈_, All}
-use Rattle.model.specs.Tree.{Alts, Repeat, Seq, canSkip, end, last, letter, more, union}
-use Rattle.model.specs.Edges.{Way, altsDepth, altsEmpty, altsEnd, depth, endsOf, seqEmpty, seqEnd, startsOf, ways}
-use Rattle.model.proofs.Language.Arcs.{Arc, ArcKind, altsArcs, arc, arcs, branch-parts, branch-whole, forkArc, letter-parts, letter-whole, letterArc, loopArc, propagateArc}
-use Rattle.model.proofs.Language.Values.{Has, HasA, has-end, has-start, out, table, value}
+use Rattle.model.specs.Tree.{Alts, canSkip, end, last, letter, more, Repeat, Seq, union}
+use Rattle.model.specs.Edges.{altsDepth, altsEmpty, altsEnd, depth, endsOf, seqEmpty, seqEnd, startsOf, Way, ways}
+use Rattle.model.proofs.Language.Arcs.{altsArcs, Arc, arc, ArcKind, arcs, branch-parts, branch-whole, forkArc, letter-parts, letter-whole, letterArc, loopArc, propagateArc}
+use Rattle.model.proofs.Language.Values.{Has, has-end, has-start, HasA, out, table, value}
 use Rattle.model.proofs.Laws.Bool.{and-both, and-split, or-left, or-right}
 use Rattle.model.proofs.Laws.Lists.{all-app, all-left, all-right}
 

@@ -6,12 +6,12 @@ use Prim.Native.Nat.{ℕ}
 use lib.Dec.{T}
 use Rattle.model.specs.Lists.{_∈_}
 use Rattle.model.specs.Tree.{Seq}
-use Rattle.model.specs.Edges.{Way, depth, endsOf, startsOf}
+use Rattle.model.specs.Edges.{depth, endsOf, startsOf, Way}
 use Rattle.model.specs.Live.{Reached}
 use Rattle.model.proofs.Language.Arcs.{Arc, arc, arcs, forkArc, propagateArc}
-use Rattle.model.proofs.Laws.Lists.{In, all-in, in-all}
+use Rattle.model.proofs.Laws.Lists.{all-in, In, in-all}
 use Rattle.model.proofs.Passes.Closure.{AnyEdge, Nested, passes, passes-are}
-use Rattle.model.proofs.Passes.Known.{Begin, Finish, ArcFits, Info, Skip, Split, known, tree-fits}
+use Rattle.model.proofs.Passes.Known.{ArcFits, Begin, Finish, Info, known, Skip, Split, tree-fits}
 
 module _ (s : Seq) where
   abbrev In-tree : Arc → Type 0

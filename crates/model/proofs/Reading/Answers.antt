@@ -9,7 +9,7 @@ use lib.Dec.{T, T-not, not-T, eqb, eqb→eq}
 use lib.ListN.{length}
 use Rattle.model.specs.Lists.{any, within}
 use Rattle.model.specs.Bytes.{byte, bytes}
-use Rattle.model.specs.Models.Reader.{Read, bad, bind, case, got, over, past}
+use Rattle.model.specs.Models.Reader.{bad, bind, case, got, over, past, Read}
 use Rattle.model.proofs.Laws.Bool.{cond-cases, is-false, unequal}
 use Rattle.model.proofs.Laws.Lists.{any-in, any-out}
 

@@ -12,12 +12,12 @@ use lib.Bits.{bitOr}
 use lib.Pow.{pow-pos}
 use Rattle.model.specs.Lists.{within}
 use Rattle.model.specs.Bits.{bit}
-use Rattle.model.specs.Bytes.{byte, bytes, IsEscape, IsHex, decimal, digit, number, plain, sign, signs, upper}
-use Rattle.model.specs.Grammar.{IsLetter, IsMember, IsMembers, IsSingle, bare, beside, class, dot, escape, escaped, every, itself, member, plain-byte, range, single, span}
+use Rattle.model.specs.Bytes.{byte, bytes, decimal, digit, IsEscape, IsHex, number, plain, sign, signs, upper}
+use Rattle.model.specs.Grammar.{bare, beside, class, dot, escape, escaped, every, IsLetter, IsMember, IsMembers, IsSingle, itself, member, plain-byte, range, single, span}
 use Rattle.model.specs.Writing.{byteWriting, classWriting, hexDigit, inside, outside, runWriting, sole}
 use Rattle.model.proofs.Laws.Bits.{bit-zero}
 use Rattle.model.proofs.Laws.Bool.{and-both, and-split, cond-cases, is-false, is-true, le-false, le-or-lt, le-true, or-none}
-use Rattle.model.proofs.Reading.WellFormed.{Class, bit-span, members-class}
+use Rattle.model.proofs.Reading.WellFormed.{bit-span, Class, members-class}
 use Rattle.model.proofs.Words.Bits.{bit-ext, bit-or}
 
 -- ---- a byte

@@ -7,10 +7,10 @@ use Prim.Native.Nat.{ℕ, zero, suc, _+_, _-_, _*_, _≤_, _<_}
 use native.Mathlib.Omega.{arith}
 use lib.ListN.{length, length-append}
 use Rattle.model.specs.Bytes.{byte}
-use Rattle.model.specs.Tree.{Alts, Seq, glue, last, more}
-use Rattle.model.specs.Grammar.{IsItem, IsSeq, bracket}
-use Rattle.model.specs.Models.Reader.{Read, bind, case, got, over, past, readAlts, readItem, readPiece, readSeq}
-use Rattle.model.proofs.Reading.Answers.{Holds, Sound, took, stopped, opens-long, past-cases, sound-holds}
+use Rattle.model.specs.Tree.{Alts, glue, last, more, Seq}
+use Rattle.model.specs.Grammar.{bracket, IsItem, IsSeq}
+use Rattle.model.specs.Models.Reader.{bind, case, got, over, past, Read, readAlts, readItem, readPiece, readSeq}
+use Rattle.model.proofs.Reading.Answers.{Holds, opens-long, past-cases, Sound, sound-holds, stopped, took}
 use Rattle.model.proofs.Reading.Decides.{item-opens, seq-opens, sound-alts, sound-item, sound-seq}
 
 abbrev pub alts : List ℕ → Read Alts

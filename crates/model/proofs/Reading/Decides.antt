@@ -10,10 +10,10 @@ use lib.Dec.{T}
 use lib.ListN.{length, length-append}
 use Rattle.model.specs.Bytes.{byte, bytes}
 use Rattle.model.specs.Tree.{Alts, Seq}
-use Rattle.model.specs.Grammar.{IsAlts, IsItem, IsRule, IsSeq, also, bracket, group, item, lone, only, rule, then}
-use Rattle.model.specs.Models.Reader.{Read, bad, got, over, readAlts, readItem, readPiece, readRule, readSeq, whole}
+use Rattle.model.specs.Grammar.{also, bracket, group, IsAlts, IsItem, IsRule, IsSeq, item, lone, only, rule, then}
+use Rattle.model.specs.Models.Reader.{bad, got, over, Read, readAlts, readItem, readPiece, readRule, readSeq, whole}
 use Rattle.model.proofs.Laws.Bool.{is-true}
-use Rattle.model.proofs.Reading.Answers.{Sound, took, stopped, begins-append, begins-opens, begins-past, bind-past-sound, bind-sound, case-past-sound, closes, closes-over, closes-past, cond-sound, free, opens, opens-append, opens-free, opens-long, opens-over, over-free, parted}
+use Rattle.model.proofs.Reading.Answers.{begins-append, begins-opens, begins-past, bind-past-sound, bind-sound, case-past-sound, closes, closes-over, closes-past, cond-sound, free, opens, opens-append, opens-free, opens-long, opens-over, over-free, parted, Sound, stopped, took}
 use Rattle.model.proofs.Reading.Letters.{complete-letter, letter-begins, sound-letter}
 use Rattle.model.proofs.Reading.Signs.{complete-sign, sound-sign}
 

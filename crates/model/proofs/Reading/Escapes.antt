@@ -7,10 +7,10 @@ use Prim.Native.Nat.{ℕ, _+_, _-_, _*_, _≤_, _<_}
 use native.Mathlib.Omega.{arith}
 use lib.Dec.{T, leb, leb→le, le→leb}
 use Rattle.model.specs.Lists.{within}
-use Rattle.model.specs.Bytes.{byte, IsDigit, IsEscape, IsHex, decimal, digit, digital, hexadecimal, lower, number, sign, signs, upper}
+use Rattle.model.specs.Bytes.{byte, decimal, digit, digital, hexadecimal, IsDigit, IsEscape, IsHex, lower, number, sign, signs, upper}
 use Rattle.model.specs.Models.Reader.{got, hexValue, readEscape, readHex, readHexes}
 use Rattle.model.proofs.Laws.Bool.{and-both, and-split, is-true, le-false, le-true, or-left, or-right, or-split}
-use Rattle.model.proofs.Reading.Answers.{Sound, took, stopped, cond-sound, equal-sound}
+use Rattle.model.proofs.Reading.Answers.{cond-sound, equal-sound, Sound, stopped, took}
 
 -- a byte from lo to hi
 between : (lo hi x : ℕ) → T (leb lo x && leb x hi) ↔ ((lo ≤ x) × (x ≤ hi))

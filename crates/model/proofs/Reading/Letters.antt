@@ -12,11 +12,11 @@ use lib.ListN.{length, length-append}
 use Rattle.model.specs.Lists.{within}
 use Rattle.model.specs.Bits.{bit}
 use Rattle.model.specs.Bytes.{byte, bytes, plain}
-use Rattle.model.specs.Grammar.{IsLetter, IsMember, IsMembers, IsSingle, bare, beside, class, dot, escape, escaped, itself, member, plain-byte, range, single}
+use Rattle.model.specs.Grammar.{bare, beside, class, dot, escape, escaped, IsLetter, IsMember, IsMembers, IsSingle, itself, member, plain-byte, range, single}
 use Rattle.model.specs.Models.Reader.{bad, got, past, readLetter, readMember, readMembers, readSingle}
 use Rattle.model.proofs.Laws.Bool.{is-true, le-true}
-use Rattle.model.proofs.Reading.Answers.{Sound, took, stopped, begins, bind-sound, case-past-sound, cond-sound, equal-sound, map-sound, not-among, parted, past-other}
-use Rattle.model.proofs.Reading.Escapes.{Least, complete-escape, escape-tail, sound-escape}
+use Rattle.model.proofs.Reading.Answers.{begins, bind-sound, case-past-sound, cond-sound, equal-sound, map-sound, not-among, parted, past-other, Sound, stopped, took}
+use Rattle.model.proofs.Reading.Escapes.{complete-escape, escape-tail, Least, sound-escape}
 use Rattle.model.proofs.Words.Bits.{bit-ext, bit-or}
 
 -- ---- singles

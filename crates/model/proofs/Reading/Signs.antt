@@ -7,13 +7,13 @@ use Prim.Native.Nat.{ℕ, zero, suc, _+_, _-_, _*_, _≤_, max}
 use native.Mathlib.Omega.{arith}
 use lib.Dec.{T, T-not, eqb, leb, eqb→eq, leb→le}
 use Rattle.model.specs.Lists.{within}
-use Rattle.model.specs.Bytes.{byte, bytes, IsDigit, digit, digital}
+use Rattle.model.specs.Bytes.{byte, bytes, digit, digital, IsDigit}
 use Rattle.model.specs.Tree.{once}
-use Rattle.model.specs.Grammar.{IsBounds, IsNumber, IsSign, Sign, absent, asterisk, both, braces, cross, one, plainly, question, same, three, two, upto}
+use Rattle.model.specs.Grammar.{absent, asterisk, both, braces, cross, IsBounds, IsNumber, IsSign, one, plainly, question, same, Sign, three, two, upto}
 use Rattle.model.specs.Models.Reader.{bad, got, past, reach, readBounds, readBraces, readDigits, readNumber, readSign, stop}
 use Rattle.model.proofs.Laws.Bool.{is-false, is-true, le-true, unequal}
-use Rattle.model.proofs.Reading.Answers.{Sound, took, stopped, bind-past-sound, bind-sound, case-past-sound, cond-sound, equal-sound, free, parted, past-other}
-use Rattle.model.proofs.Reading.Escapes.{Least, digit-of, digit-value, digital-of}
+use Rattle.model.proofs.Reading.Answers.{bind-past-sound, bind-sound, case-past-sound, cond-sound, equal-sound, free, parted, past-other, Sound, stopped, took}
+use Rattle.model.proofs.Reading.Escapes.{digit-of, digit-value, digital-of, Least}
 
 -- ---- numbers
 -- the digits u mean v, and no digit follows them

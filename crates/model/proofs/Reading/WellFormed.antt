@@ -12,8 +12,8 @@ use lib.Pow.{pow-pos, pow-lt}
 use Rattle.model.specs.Lists.{within}
 use Rattle.model.specs.Bits.{bit}
 use Rattle.model.specs.Bytes.{byte, IsEscape, number, plain, sign, signs}
-use Rattle.model.specs.Tree.{Alts, Repeat, Seq, end, glue, last, letter, more, once, option, plus, star, union}
-use Rattle.model.specs.Grammar.{IsAlts, IsItem, IsLetter, IsMember, IsMembers, IsRule, IsSeq, IsSign, IsSingle, Sign, absent, also, asterisk, beside, braces, bracket, class, copies, cross, dot, escape, escaped, group, item, itself, lone, member, only, plain-byte, question, range, repeated, rule, single, span, then, times}
+use Rattle.model.specs.Tree.{Alts, end, glue, last, letter, more, once, option, plus, Repeat, Seq, star, union}
+use Rattle.model.specs.Grammar.{absent, also, asterisk, beside, braces, bracket, class, copies, cross, dot, escape, escaped, group, IsAlts, IsItem, IsLetter, IsMember, IsMembers, IsRule, IsSeq, IsSign, IsSingle, item, itself, lone, member, only, plain-byte, question, range, repeated, rule, Sign, single, span, then, times}
 use Rattle.model.proofs.Laws.Bits.{bit-some}
 use Rattle.model.proofs.Laws.Bool.{and-both, and-split}
 use Rattle.model.proofs.Reading.Answers.{among}

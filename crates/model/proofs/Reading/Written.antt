@@ -5,13 +5,13 @@ use mathlib.Core.Logic.{_↔_}
 use mathlib.Core.List.{List, [], _∷_, _++_, append-nil, append-assoc}
 use Prim.Native.Nat.{ℕ}
 use Rattle.model.specs.Bytes.{byte, bytes}
-use Rattle.model.specs.Tree.{Alts, Repeat, Seq, end, glue, last, letter, more, once, option, plus, star, union}
-use Rattle.model.specs.Grammar.{IsAlts, IsItem, IsRule, IsSeq, IsSign, absent, also, asterisk, cross, group, item, lone, only, plainly, question, rule, then}
-use Rattle.model.specs.Writing.{writing, altsWriting, classWriting, repeatWriting}
+use Rattle.model.specs.Tree.{Alts, end, glue, last, letter, more, once, option, plus, Repeat, Seq, star, union}
+use Rattle.model.specs.Grammar.{absent, also, asterisk, cross, group, IsAlts, IsItem, IsRule, IsSeq, IsSign, item, lone, only, plainly, question, rule, then}
+use Rattle.model.specs.Writing.{altsWriting, classWriting, repeatWriting, writing}
 use Rattle.model.proofs.Laws.Trees.{glue-end}
 use Rattle.model.proofs.Reading.ClassWritten.{class-letter}
 use Rattle.model.proofs.Reading.Decides.{one-tree}
-use Rattle.model.proofs.Reading.WellFormed.{Full, Good, GoodAlts, Several, WellFormed, rule-well}
+use Rattle.model.proofs.Reading.WellFormed.{Full, Good, GoodAlts, rule-well, Several, WellFormed}
 
 repeat-sign : (r : Repeat) → IsSign (repeatWriting r) (plainly r)
 repeat-sign once = absent refl refl

@@ -8,13 +8,10 @@ use native.Mathlib.Omega.{arith}
 use lib.Bits.{bitAnd, bitOr, bitXor, and-step, or-step, xor-step, differ}
 use lib.Pow.{pow-pos}
 use Rattle.model.specs.Bits.{bit, digit, mask}
+use Rattle.model.proofs.Laws.Bits.{bit-zero}
 use Rattle.model.proofs.Words.Ripple.{digit-small, last-digit, odd, odd-is}
 
 -- ---- no bit of a number stands at or above its size
-pub bit-zero : (i : ℕ) → bit 0 i ≡ false
-bit-zero zero = refl
-bit-zero (suc i) = bit-zero i
-
 pub bit-high : (m n x : ℕ) → n < 2 ^ m → m ≤ x → bit n x ≡ false
 bit-high zero n x h l = (let e : n ≡ 0 = omega arith in ap (λ (k : ℕ). bit k x) e) ∙ bit-zero x
 bit-high (suc m) n zero h l = absurd (not-suc-le-zero l)

@@ -8,12 +8,12 @@ use Prim.Native.Nat.{ℕ, suc, _≤_, _<_}
 use native.Mathlib.Nat.{le-refl}
 use native.Mathlib.Omega.{arith}
 use Rattle.model.specs.Tree.{Alts, Seq}
-use Rattle.model.specs.Edges.{Way, altsEnd, seqEnd}
-use Rattle.model.proofs.Language.Arcs.{Arc, ArcKind, arc, arcs, forkArc, letterArc, loopArc, propagateArc}
+use Rattle.model.specs.Edges.{altsEnd, seqEnd, Way}
+use Rattle.model.proofs.Language.Arcs.{Arc, arc, ArcKind, arcs, forkArc, letterArc, loopArc, propagateArc}
 use Rattle.model.proofs.Language.Languages.{altsEnd-lt}
-use Rattle.model.proofs.Laws.Lists.{In, all-in}
+use Rattle.model.proofs.Laws.Lists.{all-in, In}
 use Rattle.model.proofs.Words.Full.{Full, FullA}
-use Rattle.model.proofs.Words.InOrder.{Rows, items-in, items-out, itemsOf, keep, pick, rows, rows-apart, rows-ok}
+use Rattle.model.proofs.Words.InOrder.{items-in, items-out, itemsOf, keep, pick, Rows, rows, rows-apart, rows-ok}
 
 abbrev pub ofPropagate : ℕ → ℕ → List Way
 ofPropagate i j = (i, j) ∷ []

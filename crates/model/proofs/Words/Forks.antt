@@ -9,12 +9,12 @@ use native.Mathlib.Omega.{arith}
 use lib.Dec.{T}
 use Rattle.model.specs.Lists.{All, any, within}
 use Rattle.model.specs.Tree.{Alts, Seq}
-use Rattle.model.specs.Edges.{Way, altsEnd, endsOf, seqEnd, startsOf, ways}
+use Rattle.model.specs.Edges.{altsEnd, endsOf, seqEnd, startsOf, Way, ways}
 use Rattle.model.specs.Image.{firstEnd, lastStart}
-use Rattle.model.proofs.Language.Arcs.{Arc, ArcKind, arc, arcs, forkArc, letterArc, loopArc, propagateArc}
+use Rattle.model.proofs.Language.Arcs.{Arc, arc, ArcKind, arcs, forkArc, letterArc, loopArc, propagateArc}
 use Rattle.model.proofs.Laws.Lists.{In}
-use Rattle.model.proofs.Words.Full.{Full, FullA, ends-between, first-in, last-in, starts-between}
-use Rattle.model.proofs.Words.InOrder.{Rows, items-in, items-out, itemsOf, keep, pick, rows, rows-none, rows-ok}
+use Rattle.model.proofs.Words.Full.{ends-between, first-in, Full, FullA, last-in, starts-between}
+use Rattle.model.proofs.Words.InOrder.{items-in, items-out, itemsOf, keep, pick, Rows, rows, rows-none, rows-ok}
 
 -- a union: its start, its end, the first alternative's end, the last alternative's start, and each alternative's start and end
 pub record Union : Type 0 where

@@ -9,7 +9,7 @@ use native.Mathlib.Nat.{le-refl}
 use native.Mathlib.Omega.{arith}
 use lib.Dec.{T, eqb, eqb→eq}
 use Rattle.model.specs.Lists.{within}
-use Rattle.model.specs.Tree.{Alts, Seq, end, last, letter, more, union}
+use Rattle.model.specs.Tree.{Alts, end, last, letter, more, Seq, union}
 use Rattle.model.specs.Edges.{altsEnd, endsOf, seqEnd, startsOf, ways}
 use Rattle.model.specs.Image.{firstEnd, lastStart}
 use Rattle.model.proofs.Language.Languages.{altsEnd-lt, seqEnd-le}

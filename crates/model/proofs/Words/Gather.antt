@@ -10,7 +10,7 @@ use native.Mathlib.Omega.{arith}
 use lib.Dec.{T, eqb, leb, ltb, leb→le, le→leb, ltb→lt, lt→ltb}
 use Rattle.model.specs.Lists.{All, any, within}
 use Rattle.model.proofs.Laws.Bool.{and-both, and-split, is-not, is-true}
-use Rattle.model.proofs.Words.Forks.{Forks, Sound, Union, none-after}
+use Rattle.model.proofs.Words.Forks.{Forks, none-after, Sound, Union}
 use Rattle.model.proofs.Words.Ripple.{carry, into, odd3, sumBits}
 use Rattle.model.proofs.Words.Runs.{run}
 

@@ -10,12 +10,12 @@ use Rattle.model.specs.Tree.{Seq}
 use Rattle.model.specs.Edges.{seqEnd}
 use Rattle.model.proofs.Language.Arcs.{arc, arcs, forkArc}
 use Rattle.model.proofs.Laws.Bool.{and-both, and-split, or-left, or-right, or-split}
-use Rattle.model.proofs.Laws.Lists.{In, all-in, any-in, any-out, in-within, within-in}
+use Rattle.model.proofs.Laws.Lists.{all-in, any-in, any-out, In, in-within, within-in}
 use Rattle.model.proofs.Passes.Closure.{Add}
 use Rattle.model.proofs.Passes.OnTrees.{Gathers}
-use Rattle.model.proofs.Words.Forks.{Union, fork-in, fork-out, forks-in-order, forksOf, unionOf}
+use Rattle.model.proofs.Words.Forks.{fork-in, fork-out, forks-in-order, forksOf, Union, unionOf}
 use Rattle.model.proofs.Words.Full.{Full}
-use Rattle.model.proofs.Words.Gather.{Gathered, gather, gatherBlockOf, gatherSourceOf, gatherTargetOf}
+use Rattle.model.proofs.Words.Gather.{gather, gatherBlockOf, Gathered, gatherSourceOf, gatherTargetOf}
 use Rattle.model.proofs.Words.Ripple.{sumBits}
 
 module _ (s : Seq) (F : Full s) (k : ℕ) (D : ℕ → Bool) where

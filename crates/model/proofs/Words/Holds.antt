@@ -10,9 +10,9 @@ use lib.ListN.{length, length-append, length-replicate, replicate}
 use lib.Pow.{pow-add, pow-mono}
 use Rattle.model.specs.Bits.{bit, mask}
 use Rattle.model.specs.Image.{words}
-use Rattle.model.specs.Models.Words.{Fit, bitsOf, value}
-use Rattle.model.proofs.Image.Apart.{length-words, set-bit, val-words, wide}
-use Rattle.model.proofs.Image.Laid.{set}
+use Rattle.model.specs.Models.LayOut.{set}
+use Rattle.model.specs.Models.Words.{bitsOf, Fit, value}
+use Rattle.model.proofs.Image.Rows.{length-words, set-bit, val-words, wide}
 use Rattle.model.proofs.Words.Bits.{bit-high, mask-lt}
 
 -- W words with the set f below m; with nothing from m on; and both

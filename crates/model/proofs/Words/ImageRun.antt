@@ -13,14 +13,15 @@ use Rattle.model.specs.Bits.{bit}
 use Rattle.model.specs.Tree.{Seq}
 use Rattle.model.specs.Edges.{depth, seqEnd}
 use Rattle.model.specs.Image.{width}
+use Rattle.model.specs.Models.Apart.{chunk, gatherIn, lettersIn, propagateIn, repeatsIn, scatterIn, widthWord}
+use Rattle.model.specs.Models.LayOut.{blockOf, gather-block, gather-source, gather-target, scatter-block, scatter-source, scatter-target, set, sourceOf, targetOf, three}
 use Rattle.model.specs.Models.Run.{Masks, runWords}
 use Rattle.model.specs.Models.Words.{value}
 use Rattle.model.proofs.Ends.Run.{letterSet, loopSet, startSet}
 use Rattle.model.proofs.Ends.Stops.{StopsAt}
-use Rattle.model.proofs.Image.Apart.{chunk, gatherIn, lettersIn, part-G, part-P, part-S, part-let, part-rep, propagateIn, repeatsIn, room, scatterIn, three-0, three-1, three-2, wide, widthWord}
-use Rattle.model.proofs.Image.Laid.{blockOf, set, sourceOf, targetOf, three, treeSet}
-use Rattle.model.proofs.Image.LayOut.{gather-block, gather-source, gather-target, scatter-block, scatter-source, scatter-target}
-use Rattle.model.proofs.Image.Sets.{arcImage}
+use Rattle.model.proofs.Image.Rows.{room, three-0, three-1, three-2, wide}
+use Rattle.model.proofs.Image.Sections.{part-gather, part-letters, part-propagate, part-repeats, part-scatter}
+use Rattle.model.proofs.Image.Sets.{arcImage, treeSet}
 use Rattle.model.proofs.Language.Arcs.{arcs}
 use Rattle.model.proofs.Language.Stretches.{feed}
 use Rattle.model.proofs.Words.Full.{Full}
@@ -112,20 +113,20 @@ module _ (s : Seq) where
   R = loopSet (arcs s 0 0)
 
   scatter-part : (k : ℕ) → k < depth s → chunk (3 * W) k (scatterIn (arcImage s)) ≡ three m W (scatterSets s k 0) (scatterSets s k 1) (scatterSets s k 2)
-  scatter-part k l = part-S m W (depth s) L R (treeSet s) k l
+  scatter-part k l = part-scatter m W (depth s) L R (treeSet s) k l
 
   gather-part : (k : ℕ) → k < depth s → chunk (3 * W) k (gatherIn (arcImage s)) ≡ three m W (gatherSets s k 0) (gatherSets s k 1) (gatherSets s k 2)
-  gather-part k l = part-G m W (depth s) L R (treeSet s) k l
+  gather-part k l = part-gather m W (depth s) L R (treeSet s) k l
 
   propagate-part : (k : ℕ) → k ≤ depth s → chunk (3 * W) k (propagateIn (arcImage s)) ≡ three m W (propagateSets s k 0) (propagateSets s k 1) (propagateSets s k 2)
-  propagate-part k l = part-P m W (depth s) L R (treeSet s) k (omega arith)
+  propagate-part k l = part-propagate m W (depth s) L R (treeSet s) k (omega arith)
 
   -- THE IMAGE'S OWN WORDS HOLD THE TREE'S SETS
   pub image-carry : Carry m W s (imageMasks (arcImage s))
   image-carry = record {
     room = room m;
-    letters = λ b l. at-set (chunk W b (lettersIn (arcImage s))) (L b) (part-let m W (depth s) L R (treeSet s) b l);
-    loops = λ b l. at-set (chunk W b (repeatsIn (arcImage s))) (R b) (part-rep m W (depth s) L R (treeSet s) b l);
+    letters = λ b l. at-set (chunk W b (lettersIn (arcImage s))) (L b) (part-letters m W (depth s) L R (treeSet s) b l);
+    loops = λ b l. at-set (chunk W b (repeatsIn (arcImage s))) (R b) (part-repeats m W (depth s) L R (treeSet s) b l);
     scatter-block = λ k l. first (scatterSets s k) (chunk (3 * W) k (scatterIn (arcImage s))) (scatter-part k l);
     scatter-source = λ k l. second (scatterSets s k) (chunk (3 * W) k (scatterIn (arcImage s))) (scatter-part k l);
     scatter-target = λ k l. third (scatterSets s k) (chunk (3 * W) k (scatterIn (arcImage s))) (scatter-part k l);

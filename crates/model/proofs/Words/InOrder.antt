@@ -9,11 +9,11 @@ use native.Mathlib.Nat.{le-refl}
 use native.Mathlib.Omega.{arith}
 use lib.Dec.{T, eqb, eqb→eq, eqb-refl}
 use Rattle.model.specs.Lists.{All, any}
-use Rattle.model.specs.Tree.{Alts, Seq, canLoop, canSkip, end, last, letter, more, union}
-use Rattle.model.specs.Edges.{Way, altsEmpty, altsEnd, seqEnd, ways}
-use Rattle.model.proofs.Language.Arcs.{Arc, ArcKind, altsArcs, arc, arcs, branch-whole, forkArc, letter-whole, letterArc, loopArc, propagateArc, when}
+use Rattle.model.specs.Tree.{Alts, canLoop, canSkip, end, last, letter, more, Seq, union}
+use Rattle.model.specs.Edges.{altsEmpty, altsEnd, seqEnd, Way, ways}
+use Rattle.model.proofs.Language.Arcs.{altsArcs, Arc, arc, ArcKind, arcs, branch-whole, forkArc, letter-whole, letterArc, loopArc, propagateArc, when}
 use Rattle.model.proofs.Laws.Bool.{is-true, unequal}
-use Rattle.model.proofs.Laws.Lists.{In, all-app, all-map, in-split, later, sooner}
+use Rattle.model.proofs.Laws.Lists.{all-app, all-map, In, in-split, later, sooner}
 use Rattle.model.proofs.Words.Full.{Full, FullA}
 
 -- ---- the arcs of a sequence at depth k lie at depth k or deeper

@@ -9,12 +9,12 @@ use lib.Bits.{bitAnd, and-block, and-lt, bitOr, or-block, or-lt, bitXor, xor-blo
 use lib.ListN.{length}
 use lib.Pow.{pow-add, pow-pos}
 use Rattle.model.specs.Bits.{bit}
-use Rattle.model.specs.Models.Words.{Fit, addWords, andWords, bitsOf, eachWord, notWords, orWords, shiftWords, subtractWords, value, xorWords}
-use Rattle.model.proofs.Image.Apart.{wide}
+use Rattle.model.specs.Models.Words.{addWords, andWords, bitsOf, eachWord, Fit, notWords, orWords, shiftWords, subtractWords, value, xorWords}
+use Rattle.model.proofs.Image.Rows.{wide}
 use Rattle.model.proofs.Words.Bits.{bit-and, bit-not, bit-or, bit-xor, odd2}
-use Rattle.model.proofs.Words.Holds.{Holds, Near, None, near-room, val-lt}
+use Rattle.model.proofs.Words.Holds.{Holds, Near, near-room, None, val-lt}
 use Rattle.model.proofs.Words.Ripple.{carry, differenceBits, into, odd3, sumBits}
-use Rattle.model.proofs.Words.Sums.{Adds, Subtracts, add-fit, add-is, adds-length, difference-bits, shift-fit, shift-is, subtract-fit, subtract-is, sum-bits}
+use Rattle.model.proofs.Words.Sums.{add-fit, add-is, Adds, adds-length, difference-bits, shift-fit, shift-is, subtract-fit, subtract-is, Subtracts, sum-bits}
 
 -- ---- an operation on each word apart, as g does on two bits
 module _ (op : ℕ → ℕ → ℕ) (g : Bool → Bool → Bool) (nil : op 0 0 ≡ 0)

@@ -4,7 +4,7 @@ use mathlib.Core.List.{List}
 use Prim.Native.Nat.{ℕ, _≤_}
 use Rattle.model.specs.Models.Run.{gatherWords, moveWords, propagateWords, scatterWords}
 use Rattle.model.specs.Models.Words.{andWords}
-use Rattle.model.proofs.Image.Apart.{wide}
+use Rattle.model.proofs.Image.Rows.{wide}
 use Rattle.model.proofs.Words.Bits.{odd2}
 use Rattle.model.proofs.Words.Holds.{Holds, Near}
 use Rattle.model.proofs.Words.Operations.{holds-and-l, holds-and-r, holds-or, near-add, near-and, near-not, near-or, near-shift, near-sub, near-xor, next}

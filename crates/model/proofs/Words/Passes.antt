@@ -6,8 +6,8 @@ use Prim.Native.Nat.{ℕ, zero, suc}
 use lib.Dec.{T}
 use Rattle.model.specs.Tree.{Seq}
 use Rattle.model.specs.Edges.{depth}
-use Rattle.model.specs.Live.{Reached, itself, onward}
-use Rattle.model.proofs.Passes.Closure.{_⊆_, Add, AnyEdge, Set, down, up}
+use Rattle.model.specs.Live.{itself, onward, Reached}
+use Rattle.model.proofs.Passes.Closure.{_⊆_, Add, AnyEdge, down, Set, up}
 use Rattle.model.proofs.Passes.OnTrees.{Gathers, Propagates, Scatters, tree-passes}
 use Rattle.model.proofs.Words.Full.{Full}
 use Rattle.model.proofs.Words.GatherPass.{gathered, gathered-is}

@@ -9,11 +9,11 @@ use native.Mathlib.Nat.{le-refl}
 use native.Mathlib.Omega.{arith}
 use lib.Dec.{T, eqb, eqb→eq}
 use Rattle.model.specs.Tree.{Seq}
-use Rattle.model.specs.Edges.{Way, seqEnd}
-use Rattle.model.specs.Live.{Reached, itself, onward}
+use Rattle.model.specs.Edges.{seqEnd, Way}
+use Rattle.model.specs.Live.{itself, onward, Reached}
 use Rattle.model.proofs.Language.Arcs.{arcs}
 use Rattle.model.proofs.Laws.Bool.{or-left, or-right, or-split}
-use Rattle.model.proofs.Laws.Lists.{In, all-in, any-out}
+use Rattle.model.proofs.Laws.Lists.{all-in, any-out, In}
 use Rattle.model.proofs.Passes.OnTrees.{Propagates}
 use Rattle.model.proofs.Words.Chains.{edge-rises, propagate-in, propagate-out, propagates-in-order, propagatesOf}
 use Rattle.model.proofs.Words.Full.{Full}

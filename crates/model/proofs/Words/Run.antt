@@ -13,15 +13,15 @@ use Rattle.model.specs.Lists.{All}
 use Rattle.model.specs.Bits.{bit}
 use Rattle.model.specs.Tree.{Seq}
 use Rattle.model.specs.Edges.{depth, seqEnd}
-use Rattle.model.specs.Models.Run.{Masks, fallWords, gatherBy, moveBy, passWords, propagateBy, riseWords, runWords, scatterBy, stepWords}
+use Rattle.model.specs.Models.Run.{fallWords, gatherBy, Masks, moveBy, passWords, propagateBy, riseWords, runWords, scatterBy, stepWords}
 use Rattle.model.specs.Models.Words.{value}
 use Rattle.model.proofs.Ends.Run.{letterSet, liveSet, loopSet, moved, startSet}
-use Rattle.model.proofs.Ends.Stops.{StopsAt, end-is}
-use Rattle.model.proofs.Image.Apart.{wide}
+use Rattle.model.proofs.Ends.Stops.{end-is, StopsAt}
+use Rattle.model.proofs.Image.Rows.{wide}
 use Rattle.model.proofs.Language.Arcs.{Arc, arcs}
 use Rattle.model.proofs.Language.Stretches.{feed}
 use Rattle.model.proofs.Words.Chains.{propagatesOf}
-use Rattle.model.proofs.Words.Forks.{Union, forksOf}
+use Rattle.model.proofs.Words.Forks.{forksOf, Union}
 use Rattle.model.proofs.Words.Full.{Full}
 use Rattle.model.proofs.Words.Gather.{gatherBlockOf, gatherSourceOf, gatherTargetOf}
 use Rattle.model.proofs.Words.GatherPass.{gathered}

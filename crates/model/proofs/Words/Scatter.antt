@@ -10,7 +10,7 @@ use native.Mathlib.Omega.{arith}
 use lib.Dec.{eqb, eqb-refl}
 use Rattle.model.specs.Lists.{All, any, within}
 use Rattle.model.proofs.Laws.Bool.{is-true, unequal}
-use Rattle.model.proofs.Words.Forks.{Forks, Sound, Union, none-after}
+use Rattle.model.proofs.Words.Forks.{Forks, none-after, Sound, Union}
 use Rattle.model.proofs.Words.InOrder.{rows-from}
 use Rattle.model.proofs.Words.Ripple.{borrow, differenceBits, into}
 use Rattle.model.proofs.Words.Runs.{run, segment-bit, segment-out}

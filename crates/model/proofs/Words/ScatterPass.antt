@@ -11,13 +11,13 @@ use Rattle.model.specs.Tree.{Seq}
 use Rattle.model.specs.Edges.{seqEnd}
 use Rattle.model.proofs.Language.Arcs.{arcs}
 use Rattle.model.proofs.Laws.Bool.{and-both, and-split, or-left, or-right, or-split}
-use Rattle.model.proofs.Laws.Lists.{In, all-in, any-in, any-out, in-within, within-in}
+use Rattle.model.proofs.Laws.Lists.{all-in, any-in, any-out, In, in-within, within-in}
 use Rattle.model.proofs.Passes.Closure.{Add}
 use Rattle.model.proofs.Passes.OnTrees.{Scatters}
-use Rattle.model.proofs.Words.Forks.{Sound, Union, fork-in, fork-out, forks-in-order, forks-sound, forksOf, unionOf}
+use Rattle.model.proofs.Words.Forks.{fork-in, fork-out, forks-in-order, forks-sound, forksOf, Sound, Union, unionOf}
 use Rattle.model.proofs.Words.Full.{Full}
 use Rattle.model.proofs.Words.Ripple.{differenceBits}
-use Rattle.model.proofs.Words.Scatter.{Scattered, scatter, scatterBlockOf, scatterSourceOf, scatterTargetOf}
+use Rattle.model.proofs.Words.Scatter.{scatter, scatterBlockOf, Scattered, scatterSourceOf, scatterTargetOf}
 
 module _ (s : Seq) (F : Full s) (k : ℕ) (D : ℕ → Bool) where
   abbrev us : List Union

@@ -9,7 +9,7 @@ use lib.Dec.{T, leb, leb→le, ltb, ltb→lt, nleb→lt, nltb→le}
 use lib.ListN.{length}
 use lib.Pow.{pow-add}
 use Rattle.model.specs.Bits.{bit, digit}
-use Rattle.model.specs.Models.Words.{Fit, addWords, bitsOf, borrowOut, carryOut, ripple, shiftWords, subtractWords, value, wrapAdd, wrapSub}
+use Rattle.model.specs.Models.Words.{addWords, bitsOf, borrowOut, carryOut, Fit, ripple, shiftWords, subtractWords, value, wrapAdd, wrapSub}
 use Rattle.model.proofs.Words.Ripple.{add-bit, borrow, carry, differenceBits, digit-small, over, rippled-same, sub-bit, sumBits}
 
 -- zs is xs + ys + b, with c carried out of the last word

@@ -10,8 +10,8 @@ use lib.Bits.{bitOr}
 use lib.ListN.{length}
 use Rattle.model.specs.Lists.{within}
 use Rattle.model.specs.Bytes.{byte, bytes, digital, hexadecimal, plain, signs}
-use Rattle.model.specs.Tree.{Alts, Seq, glue, last, more, once, option, plus, star}
-use Rattle.model.specs.Grammar.{Sign, bare, bracket, every, plainly, repeated, span, times}
+use Rattle.model.specs.Tree.{Alts, glue, last, more, once, option, plus, Seq, star}
+use Rattle.model.specs.Grammar.{bare, bracket, every, plainly, repeated, Sign, span, times}
 
 -- what was read and the bytes after it, or the bytes from the one on that cannot be read
 pub data Read (A : Type 0) : Type 0 where

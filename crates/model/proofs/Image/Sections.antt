@@ -1,0 +1,173 @@
+-- The sections of an assembled image: taking it apart finds each set again, and its length is what document 01 says.
+use mathlib.Core.Path.{_≡_, ap, _∙_}
+use mathlib.Core.Bool.{Bool}
+use mathlib.Core.List.{List, _++_}
+use Prim.Native.Nat.{ℕ, suc, _+_, _*_, _≤_, _<_}
+use native.Mathlib.Nat.{mul-suc}
+use native.Mathlib.Omega.{arith}
+use lib.ListN.{length, drop, length-append}
+use Rattle.model.specs.Bits.{bit}
+use Rattle.model.specs.Image.{join, section}
+use Rattle.model.specs.Models.Apart.{bitOf, bitOfThree, chunk, gatherIn, lettersIn, propagateIn, repeatsIn, scatterIn}
+use Rattle.model.specs.Models.LayOut.{assemble, blockOf, gather-block, gather-source, gather-target, scatter-block, scatter-source, scatter-target, set, sourceOf, targetOf, three, Which}
+use Rattle.model.specs.Models.Words.{value}
+use Rattle.model.proofs.Image.Rows.{chunk-join, chunk-join-end, length-join, length-set, length-three, past-join, set-bit, three-0, three-1, three-2, wide}
+
+module _ (m W d : ℕ) (L R : ℕ → ℕ → Bool) (B : Which → ℕ → ℕ → Bool) where
+  abbrev all : List ℕ
+  all = assemble m W d L R B
+
+  -- ---- the words of one byte, or of one depth
+  abbrev pub letterWordsAt : ℕ → List ℕ
+  letterWordsAt b = set m W (L b)
+
+  abbrev pub loopWordsAt : ℕ → List ℕ
+  loopWordsAt b = set m W (R b)
+
+  abbrev pub scatterWordsAt : ℕ → List ℕ
+  scatterWordsAt k = three m W (B scatter-block k) (B scatter-source k) (B scatter-target k)
+
+  abbrev pub gatherWordsAt : ℕ → List ℕ
+  gatherWordsAt k = three m W (B gather-block k) (B gather-source k) (B gather-target k)
+
+  abbrev pub propagateWordsAt : ℕ → List ℕ
+  propagateWordsAt k = three m W (blockOf B k) (sourceOf B k) (targetOf B k)
+
+  letter-length : (b : ℕ) → length (letterWordsAt b) ≡ W
+  letter-length b = length-set m W (L b)
+
+  loop-length : (b : ℕ) → length (loopWordsAt b) ≡ W
+  loop-length b = length-set m W (R b)
+
+  scatter-length : (k : ℕ) → length (scatterWordsAt k) ≡ 3 * W
+  scatter-length k = length-three m W (B scatter-block k) (B scatter-source k) (B scatter-target k)
+
+  gather-length : (k : ℕ) → length (gatherWordsAt k) ≡ 3 * W
+  gather-length k = length-three m W (B gather-block k) (B gather-source k) (B gather-target k)
+
+  propagate-length : (k : ℕ) → length (propagateWordsAt k) ≡ 3 * W
+  propagate-length k = length-three m W (blockOf B k) (sourceOf B k) (targetOf B k)
+
+  -- ---- the words of each section
+  abbrev pub letterRows : List ℕ
+  letterRows = join 256 0 letterWordsAt
+
+  abbrev pub loopRows : List ℕ
+  loopRows = join 256 0 loopWordsAt
+
+  abbrev pub scatterRows : List ℕ
+  scatterRows = join d 0 scatterWordsAt
+
+  abbrev pub gatherRows : List ℕ
+  gatherRows = join d 0 gatherWordsAt
+
+  abbrev pub propagateRows : List ℕ
+  propagateRows = join (suc d) 0 propagateWordsAt
+
+  pub letters-length : length letterRows ≡ W * 256
+  letters-length = length-join W letterWordsAt letter-length 256 0
+
+  pub loops-length : length loopRows ≡ W * 256
+  loops-length = length-join W loopWordsAt loop-length 256 0
+
+  pub scatters-length : length scatterRows ≡ 3 * W * d
+  scatters-length = length-join (3 * W) scatterWordsAt scatter-length d 0
+
+  pub gathers-length : length gatherRows ≡ 3 * W * d
+  gathers-length = length-join (3 * W) gatherWordsAt gather-length d 0
+
+  pub propagates-length : length propagateRows ≡ 3 * W * suc d
+  propagates-length = length-join (3 * W) propagateWordsAt propagate-length (suc d) 0
+
+  -- ---- what follows each section
+  abbrev pub after-gather : List ℕ
+  after-gather = section propagateRows
+
+  abbrev pub after-scatter : List ℕ
+  after-scatter = section gatherRows ++ after-gather
+
+  abbrev pub after-repeats : List ℕ
+  after-repeats = section scatterRows ++ after-scatter
+
+  abbrev pub after-letters : List ℕ
+  after-letters = section loopRows ++ after-repeats
+
+  -- ---- each section is found
+  pub repeats-found : repeatsIn all ≡ loopRows ++ after-repeats
+  repeats-found = past-join W letterWordsAt letter-length 256 (length loopRows) (loopRows ++ after-repeats)
+
+  pub scatter-found : scatterIn all ≡ scatterRows ++ after-scatter
+  scatter-found =
+      ap (λ (l : List ℕ). drop 1 (drop (W * 256) l)) repeats-found
+      ∙ past-join W loopWordsAt loop-length 256 (length scatterRows) (scatterRows ++ after-scatter)
+
+  pub gather-found : gatherIn all ≡ gatherRows ++ after-gather
+  gather-found =
+      ap (λ (l : List ℕ). drop 1 (drop (3 * W * d) l)) scatter-found
+      ∙ past-join (3 * W) scatterWordsAt scatter-length d (length gatherRows) (gatherRows ++ after-gather)
+
+  pub propagate-found : propagateIn all ≡ propagateRows
+  propagate-found =
+      ap (λ (l : List ℕ). drop 1 (drop (3 * W * d) l)) gather-found
+      ∙ past-join (3 * W) gatherWordsAt gather-length d (length propagateRows) propagateRows
+
+  -- ---- and in it each part
+  pub part-letters : (b : ℕ) → b < 256 → chunk W b (lettersIn all) ≡ letterWordsAt b
+  part-letters b h = chunk-join W letterWordsAt letter-length 256 b after-letters h
+
+  pub part-repeats : (b : ℕ) → b < 256 → chunk W b (repeatsIn all) ≡ loopWordsAt b
+  part-repeats b h = ap (chunk W b) repeats-found ∙ chunk-join W loopWordsAt loop-length 256 b after-repeats h
+
+  pub part-scatter : (k : ℕ) → k < d → chunk (3 * W) k (scatterIn all) ≡ scatterWordsAt k
+  part-scatter k h = ap (chunk (3 * W) k) scatter-found ∙ chunk-join (3 * W) scatterWordsAt scatter-length d k after-scatter h
+
+  pub part-gather : (k : ℕ) → k < d → chunk (3 * W) k (gatherIn all) ≡ gatherWordsAt k
+  part-gather k h = ap (chunk (3 * W) k) gather-found ∙ chunk-join (3 * W) gatherWordsAt gather-length d k after-gather h
+
+  pub part-propagate : (k : ℕ) → k < suc d → chunk (3 * W) k (propagateIn all) ≡ propagateWordsAt k
+  part-propagate k h = ap (chunk (3 * W) k) propagate-found ∙ chunk-join-end (3 * W) propagateWordsAt propagate-length (suc d) k h
+
+  -- ---- and in that each bit that taking apart looks at
+  module _ (room : m ≤ wide W) where
+    pub read-letters : (b x : ℕ) → b < 256 → x < m → bitOf W (lettersIn all) b x ≡ L b x
+    read-letters b x h l = ap (λ (ws : List ℕ). bit (value ws) x) (part-letters b h) ∙ set-bit m W (L b) room x l
+
+    pub read-repeats : (b x : ℕ) → b < 256 → x < m → bitOf W (repeatsIn all) b x ≡ R b x
+    read-repeats b x h l = ap (λ (ws : List ℕ). bit (value ws) x) (part-repeats b h) ∙ set-bit m W (R b) room x l
+
+    pub read-scatter-source : (k x : ℕ) → k < d → x < m → bitOfThree W (scatterIn all) 1 k x ≡ B scatter-source k x
+    read-scatter-source k x h l =
+        ap (λ (ws : List ℕ). bit (value ws) x) (ap (chunk W 1) (part-scatter k h) ∙ three-1 m W (B scatter-block k) (B scatter-source k) (B scatter-target k))
+        ∙ set-bit m W (B scatter-source k) room x l
+
+    pub read-gather-target : (k x : ℕ) → k < d → x < m → bitOfThree W (gatherIn all) 2 k x ≡ B gather-target k x
+    read-gather-target k x h l =
+        ap (λ (ws : List ℕ). bit (value ws) x) (ap (chunk W 2) (part-gather k h) ∙ three-2 m W (B gather-block k) (B gather-source k) (B gather-target k))
+        ∙ set-bit m W (B gather-target k) room x l
+
+    pub read-propagate-block : (k x : ℕ) → k < suc d → x < m → bitOfThree W (propagateIn all) 0 k x ≡ blockOf B k x
+    read-propagate-block k x h l =
+        ap (λ (ws : List ℕ). bit (value ws) x) (ap (chunk W 0) (part-propagate k h) ∙ three-0 m W (blockOf B k) (sourceOf B k) (targetOf B k))
+        ∙ set-bit m W (blockOf B k) room x l
+
+    pub read-propagate-source : (k x : ℕ) → k < suc d → x < m → bitOfThree W (propagateIn all) 1 k x ≡ sourceOf B k x
+    read-propagate-source k x h l =
+        ap (λ (ws : List ℕ). bit (value ws) x) (ap (chunk W 1) (part-propagate k h) ∙ three-1 m W (blockOf B k) (sourceOf B k) (targetOf B k))
+        ∙ set-bit m W (sourceOf B k) room x l
+
+  -- "The length is 9 + W(515 + 9d) words."
+  pub length-assembled : length all ≡ 9 + W * (515 + 9 * d)
+  length-assembled =
+      omega (
+        arith,
+        length-append (section letterRows) after-letters,
+        length-append (section loopRows) after-repeats,
+        length-append (section scatterRows) after-scatter,
+        length-append (section gatherRows) after-gather,
+        letters-length,
+        loops-length,
+        scatters-length,
+        gathers-length,
+        propagates-length,
+        mul-suc (3 * W) d,
+      )

@@ -1,0 +1,229 @@
+-- LAY OUT: from a row of tokens to the places of the masks, in one scan from left to right with a frame for each open union; which rows of
+-- tokens are a tree's, and how deep they go; the image laid out for a row of tokens.
+use mathlib.Core.Bool.{Bool, true, false, not, _&&_, _||_, cond}
+use mathlib.Core.List.{List, [], _∷_, _++_}
+use Prim.Native.Nat.{ℕ, zero, suc, max}
+use lib.Dec.{leb, ltb, eqb}
+use lib.ListN.{length, getD}
+use Rattle.model.specs.Bits.{bit, mask}
+use Rattle.model.specs.Tree.{canLoop, canSkip, Repeat}
+use Rattle.model.specs.Image.{join, section, width, words}
+use Rattle.model.specs.Models.Tokens.{aBar, aClose, aLetter, anOpen, classOf, loopClassOf, Token}
+
+-- ---- the scan
+-- an open union: its start; whether a bar was met, and then its first alternative's end; the start of the alternative at hand; whether an
+-- alternative before that one can be empty; whether what stands before the union in its own sequence can be empty
+pub record Frame : Type 0 where
+  pub start : ℕ
+  pub barred : Bool
+  pub firstEnd : ℕ
+  pub alternative : ℕ
+  pub emptyBefore : Bool
+  pub emptyOutside : Bool
+
+-- the state reached; of the sequence at hand, whether it has no item yet and whether it can be empty so far; the open unions, innermost first
+pub record Scan : Type 0 where
+  pub position : ℕ
+  pub noItem : Bool
+  pub canBeEmpty : Bool
+  pub stack : List Frame
+
+abbrev pub scan : ℕ → Bool → Bool → List Frame → Scan
+scan t e c st = record { position = t; noItem = e; canBeEmpty = c; stack = st }
+
+abbrev pub begin : Scan
+begin = scan 0 true true []
+
+-- the frame of a union that opens here; the frame after a bar in state z, where c says whether the alternative before it can be empty
+abbrev pub opened : Scan → Frame
+opened q = record { start = q .position; barred = false; firstEnd = 0; alternative = suc (q .position); emptyBefore = false; emptyOutside = q .canBeEmpty }
+
+abbrev pub nextAlternative : Frame → ℕ → Bool → Frame
+nextAlternative f z c = record {
+  start = f .start;
+  barred = true;
+  firstEnd = cond (f .barred) (f .firstEnd) z;
+  alternative = suc z;
+  emptyBefore = f .emptyBefore || c;
+  emptyOutside = f .emptyOutside;
+}
+
+-- the scan after a bar or a close in state z
+abbrev pub afterBar : ℕ → Bool → List Frame → Scan
+afterBar z c [] = scan (suc z) false c []
+afterBar z c (f ∷ st) = scan (suc z) true true (nextAlternative f z c ∷ st)
+
+abbrev pub afterClose : ℕ → Bool → List Frame → Scan
+afterClose z c [] = scan (suc z) false c []
+afterClose z c (f ∷ st) = scan (suc z) false (f .emptyOutside && (f .emptyBefore || c)) st
+
+abbrev pub step : Token → Scan → Scan
+step (aLetter c r) q = scan (suc (q .position)) false (q .canBeEmpty && canSkip r) (q .stack)
+step anOpen q = scan (suc (q .position)) true true (opened q ∷ q .stack)
+step aBar q = afterBar (q .position) (q .canBeEmpty) (q .stack)
+step aClose q = afterClose (q .position) (q .canBeEmpty) (q .stack)
+
+-- ---- the places that a token marks: of the mask `w` of depth k, the state x
+-- the kinds of masks: letter and loop places (depth 0 alone), those of scatter and gather, and the states where propagate edges start and end
+pub data Which : Type 0 where
+  letter-place loop-place scatter-block scatter-source scatter-target gather-block gather-source gather-target leaving entering : Which
+
+-- a propagate edge of depth d from i to j
+abbrev pub bridgeMarks : ℕ → ℕ → ℕ → Which → ℕ → ℕ → Bool
+bridgeMarks i j d letter-place k x = false
+bridgeMarks i j d loop-place k x = false
+bridgeMarks i j d scatter-block k x = false
+bridgeMarks i j d scatter-source k x = false
+bridgeMarks i j d scatter-target k x = false
+bridgeMarks i j d gather-block k x = false
+bridgeMarks i j d gather-source k x = false
+bridgeMarks i j d gather-target k x = false
+bridgeMarks i j d leaving k x = eqb x i && eqb d k
+bridgeMarks i j d entering k x = eqb x j && eqb d k
+
+-- a letter from state t at depth d
+abbrev pub letterMarks : Repeat → ℕ → ℕ → Which → ℕ → ℕ → Bool
+letterMarks r t d letter-place k x = eqb x (suc t) && eqb 0 k
+letterMarks r t d loop-place k x = canLoop r && (eqb x (suc t) && eqb 0 k)
+letterMarks r t d scatter-block k x = false
+letterMarks r t d scatter-source k x = false
+letterMarks r t d scatter-target k x = false
+letterMarks r t d gather-block k x = false
+letterMarks r t d gather-source k x = false
+letterMarks r t d gather-target k x = false
+letterMarks r t d leaving k x = canSkip r && bridgeMarks t (suc t) d leaving k x
+letterMarks r t d entering k x = canSkip r && bridgeMarks t (suc t) d entering k x
+
+-- the open of a union that starts in t at depth d
+abbrev pub openMarks : ℕ → ℕ → Which → ℕ → ℕ → Bool
+openMarks t d letter-place k x = false
+openMarks t d loop-place k x = false
+openMarks t d scatter-block k x = false
+openMarks t d scatter-source k x = eqb x t && eqb d k
+openMarks t d scatter-target k x = eqb x (suc t) && eqb d k
+openMarks t d gather-block k x = false
+openMarks t d gather-source k x = false
+openMarks t d gather-target k x = false
+openMarks t d leaving k x = false
+openMarks t d entering k x = false
+
+-- a bar after the alternative that ends in z, of a union at depth d
+abbrev pub barMarks : ℕ → ℕ → Which → ℕ → ℕ → Bool
+barMarks z d letter-place k x = false
+barMarks z d loop-place k x = false
+barMarks z d scatter-block k x = false
+barMarks z d scatter-source k x = false
+barMarks z d scatter-target k x = eqb x (suc z) && eqb d k
+barMarks z d gather-block k x = false
+barMarks z d gather-source k x = eqb x z && eqb d k
+barMarks z d gather-target k x = false
+barMarks z d leaving k x = false
+barMarks z d entering k x = false
+
+-- a close after the alternative from a to z, of a union at depth d whose first alternative ends in f
+abbrev pub closeMarks : ℕ → ℕ → ℕ → ℕ → Which → ℕ → ℕ → Bool
+closeMarks z d f a letter-place k x = false
+closeMarks z d f a loop-place k x = false
+closeMarks z d f a scatter-block k x = eqb x (suc a) && eqb d k
+closeMarks z d f a scatter-source k x = false
+closeMarks z d f a scatter-target k x = false
+closeMarks z d f a gather-block k x = (leb f x && ltb x (suc z)) && eqb d k
+closeMarks z d f a gather-source k x = eqb x z && eqb d k
+closeMarks z d f a gather-target k x = eqb x (suc z) && eqb d k
+closeMarks z d f a leaving k x = false
+closeMarks z d f a entering k x = false
+
+-- by the open unions; a close also bridges a union that can be empty
+abbrev pub barMarksIn : ℕ → List Frame → Which → ℕ → ℕ → Bool
+barMarksIn z [] w k x = false
+barMarksIn z (f ∷ st) w k x = barMarks z (length st) w k x
+
+abbrev pub closeMarksIn : ℕ → Bool → List Frame → Which → ℕ → ℕ → Bool
+closeMarksIn z c [] w k x = false
+closeMarksIn z c (f ∷ st) w k x =
+    closeMarks z (length st) (cond (f .barred) (f .firstEnd) z) (f .alternative) w k x
+    || ((f .emptyBefore || c) && bridgeMarks (f .start) (suc z) (length st) w k x)
+
+abbrev pub mark : Token → Scan → Which → ℕ → ℕ → Bool
+mark (aLetter c r) q w k x = letterMarks r (q .position) (length (q .stack)) w k x
+mark anOpen q w k x = openMarks (q .position) (length (q .stack)) w k x
+mark aBar q w k x = barMarksIn (q .position) (q .stack) w k x
+mark aClose q w k x = closeMarksIn (q .position) (q .canBeEmpty) (q .stack) w k x
+
+-- LAY OUT: what the tokens that are still to come mark
+abbrev pub layOut : List Token → Scan → Which → ℕ → ℕ → Bool
+layOut [] q w k x = false
+layOut (y ∷ ys) q w k x = mark y q w k x || layOut ys (step y q) w k x
+
+-- ---- which rows of tokens are those of a tree of depth at most 8
+abbrev pub outside : List Frame → Bool
+outside [] = true
+outside (f ∷ st) = false
+
+abbrev pub inside : List Frame → Bool
+inside [] = false
+inside (f ∷ st) = true
+
+abbrev pub afterSomeBar : List Frame → Bool
+afterSomeBar [] = false
+afterSomeBar (f ∷ st) = f .barred
+
+-- what is asked of a token where it stands: no alternative is empty, a union has at least two
+abbrev pub check : Token → Scan → Bool
+check (aLetter c r) q = true
+check anOpen q = ltb (length (q .stack)) 8
+check aBar q = inside (q .stack) && not (q .noItem)
+check aClose q = afterSomeBar (q .stack) && not (q .noItem)
+
+abbrev pub valid : List Token → Scan → Bool
+valid [] q = outside (q .stack) && not (q .noItem)
+valid (y ∷ ys) q = check y q && valid ys (step y q)
+
+-- the largest depth that the tokens still to come reach
+abbrev pub reach : List Token → Scan → ℕ
+reach [] q = 0
+reach (aLetter c r ∷ ys) q = reach ys (step (aLetter c r) q)
+reach (anOpen ∷ ys) q = max (suc (length (q .stack))) (reach ys (step anOpen q))
+reach (aBar ∷ ys) q = reach ys (step aBar q)
+reach (aClose ∷ ys) q = reach ys (step aClose q)
+
+-- ---- the image from its sets
+-- the W words of a set of states below m; the three masks of one depth
+abbrev pub set : ℕ → ℕ → (ℕ → Bool) → List ℕ
+set m W f = words W (mask m f)
+
+abbrev pub three : ℕ → ℕ → (ℕ → Bool) → (ℕ → Bool) → (ℕ → Bool) → List ℕ
+three m W f g h = set m W f ++ (set m W g ++ set m W h)
+
+-- propagate's masks by the states where its edges start and end
+abbrev pub blockOf : (Which → ℕ → ℕ → Bool) → ℕ → ℕ → Bool
+blockOf B k x = B leaving k x || B entering k x
+
+abbrev pub sourceOf : (Which → ℕ → ℕ → Bool) → ℕ → ℕ → Bool
+sourceOf B k x = B leaving k x && not (B entering k x)
+
+abbrev pub targetOf : (Which → ℕ → ℕ → Bool) → ℕ → ℕ → Bool
+targetOf B k x = B entering k x && not (B leaving k x)
+
+-- the six sections by the shape m, W, d, the letters' sets L, the loops' R, and the others B
+abbrev pub assemble : ℕ → ℕ → ℕ → (ℕ → ℕ → Bool) → (ℕ → ℕ → Bool) → (Which → ℕ → ℕ → Bool) → List ℕ
+assemble m W d L R B =
+    section (m ∷ W ∷ d ∷ [])
+    ++ (section (join 256 0 (λ b. set m W (L b)))
+    ++ (section (join 256 0 (λ b. set m W (R b)))
+    ++ (section (join d 0 (λ k. three m W (B scatter-block k) (B scatter-source k) (B scatter-target k)))
+    ++ (section (join d 0 (λ k. three m W (B gather-block k) (B gather-source k) (B gather-target k)))
+    ++ section (join (suc d) 0 (λ k. three m W (blockOf B k) (sourceOf B k) (targetOf B k)))))))
+
+-- the letters' and the loops' sets of a row of tokens: token i leads to state i + 1
+abbrev pub tokenLetters : List Token → ℕ → ℕ → Bool
+tokenLetters l b zero = false
+tokenLetters l b (suc i) = bit (classOf (getD l i aClose)) b
+
+abbrev pub tokenLoops : List Token → ℕ → ℕ → Bool
+tokenLoops l b zero = false
+tokenLoops l b (suc i) = bit (loopClassOf (getD l i aClose)) b
+
+-- THE IMAGE LAID OUT for a row of tokens
+abbrev pub laid : List Token → List ℕ
+laid l = assemble (suc (length l)) (width (suc (length l))) (reach l begin) (tokenLetters l) (tokenLoops l) (layOut l begin)

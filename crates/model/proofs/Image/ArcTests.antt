@@ -20,7 +20,7 @@ module _ (g : Arc → Bool) where
   abbrev pub branchTest : Bool → ℕ → ℕ → List Way → ℕ → Bool
   branchTest b k t ws u = (b && g (arc propagateArc k t u)) || g (arc (forkArc ws) k t u)
 
-  any-when : (b : Bool) (e : Arc) (es : List Arc) → any g (when b e es) ≡ ((b && g e) || any g es)
+  pub any-when : (b : Bool) (e : Arc) (es : List Arc) → any g (when b e es) ≡ ((b && g e) || any g es)
   any-when true e es = refl
   any-when false e es = refl
 

@@ -17,7 +17,7 @@ use Rattle.model.proofs.Image.Laid.{assemble-same}
 use Rattle.model.proofs.Image.Marks.{letter-marks, on}
 use Rattle.model.proofs.Image.Places.{arcs-set}
 use Rattle.model.proofs.Image.Sets.{arcImage, treeSet}
-use Rattle.model.proofs.Language.Arcs.{Arc, arc, arcs, forkArc, letterArc, loopArc, propagateArc}
+use Rattle.model.proofs.Language.Arcs.{Arc, arc, arcs, forkArc, letterArc, loopArc, propagateArc, when}
 use Rattle.model.proofs.Language.Parts.{arcs-are, arcsOf}
 use Rattle.model.proofs.Laws.Each.{any-each, any-map-none, any-same}
 use Rattle.model.proofs.Laws.Lists.{any-app}

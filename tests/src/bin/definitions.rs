@@ -1,5 +1,5 @@
-//! Writes a crate of theorems: for each outside vector that the checker can compute, that the one answer which document 01's table gives is
-//! the vector's. `rt check` then computes them. Usage: definitions VECTORS OUT
+//! Writes a repository with a crate of theorems: for each outside vector that the checker can compute, that the one answer which document
+//! 01's table gives is the vector's. `rt check` then computes them over a copy of the crate `model`. Usage: definitions VECTORS OUT
 
 use outside_checks::{bytes, places, runs, vectors, word, Runs};
 use std::fmt::Write as _;
@@ -7,7 +7,7 @@ use std::fs;
 use std::path::Path;
 
 /// The checker computes masks state by state: rules of more states than this take it too long.
-const STATES: u64 = 14;
+const STATES: u64 = 7;
 
 /// What the lent words and bytes hold before a call.
 const BEFORE: u64 = 7;
@@ -108,7 +108,7 @@ fn main() {
     }
     for v in vectors(folder, "match.txt", "match") {
         let (image, text, room) = (runs(&v[0]), bytes(&v[1]), v[2].parse::<usize>().unwrap());
-        if word(&image, 1) > STATES || text.len() > 40 {
+        if word(&image, 1) > STATES || text.len() > 24 {
             t.left_out += 1;
             continue;
         }
@@ -116,10 +116,12 @@ fn main() {
         t.add(call, &v[3], &v[4], &lent(singles(places(&v[5]).into_iter()), room));
     }
 
-    fs::create_dir_all(out.join("src")).unwrap();
-    fs::create_dir_all(out.join("specs")).unwrap();
-    fs::write(out.join("src/lib.rt"), "// No code: the theorems stand in specs/.\npub const VECTORS: usize = 0;\n").unwrap();
-    fs::write(out.join("specs/Lib.antt"), "pub mod Vectors\n").unwrap();
-    fs::write(out.join("specs/Vectors.antt"), t.text).unwrap();
+    let krate = out.join("crates/vectors");
+    fs::create_dir_all(krate.join("src")).unwrap();
+    fs::create_dir_all(krate.join("specs")).unwrap();
+    fs::write(out.join("crates.txt"), "model:\nvectors: model\n").unwrap();
+    fs::write(krate.join("src/lib.rt"), "// No code: the theorems stand in specs/.\npub const VECTORS: usize = 0;\n").unwrap();
+    fs::write(krate.join("specs/Lib.antt"), "pub mod Vectors\n").unwrap();
+    fs::write(krate.join("specs/Vectors.antt"), t.text).unwrap();
     println!("definitions: {} vectors to compute, {} left out as too large for the checker", t.count, t.left_out);
 }

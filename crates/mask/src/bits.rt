@@ -1,4 +1,5 @@
-// One bit, a run of bits, and whether two are the same: of rows of eight words, and of masks. Places at or past 512 are in no row.
+// One bit, a run of bits, and whether two are the same: first of plain rows of eight words, as tables of masks hold them, then of masks.
+// A place at or past 512 is in no row: to set it changes nothing, and its bit is clear.
 use crate::Mask;
 ghost use mathlib.Core.Path.{_≡_};
 ghost use Prim.Native.Nat.{_-_};
@@ -6,6 +7,7 @@ ghost use Rattle.model.specs.Bits.{bit};
 ghost use Rattle.model.specs.Models.Words.{value};
 ghost use Rattle.mask.specs.Rows.{putBit, putRun, sameWords};
 
+// The row with bit i set.
 pub fn row_with_bit(row: [u64; 8], i: usize) -> [u64; 8]
     ensures { λ r. ⌜ r ≡ putBit row i ⌝ }
 {
@@ -16,7 +18,7 @@ pub fn row_with_bit(row: [u64; 8], i: usize) -> [u64; 8]
     r
 }
 
-// The bits lo to hi - 1.
+// The row with the bits lo to hi - 1 set.
 pub fn row_with_run(row: [u64; 8], lo: usize, hi: usize) -> [u64; 8]
     ensures { λ r. ⌜ r ≡ putRun row lo (hi - lo) ⌝ }
 {
@@ -29,6 +31,7 @@ pub fn row_with_run(row: [u64; 8], lo: usize, hi: usize) -> [u64; 8]
     r
 }
 
+// Whether bit i is set.
 pub fn row_has_bit(row: [u64; 8], i: usize) -> bool
     ensures { λ r. ⌜ r ≡ bit (value row) i ⌝ }
 {
@@ -39,6 +42,7 @@ pub fn row_has_bit(row: [u64; 8], i: usize) -> bool
     }
 }
 
+// Whether all words are the same; the first that differs ends it.
 pub fn same_rows(a: [u64; 8], b: [u64; 8]) -> bool
     ensures { λ r. ⌜ r ≡ sameWords a b ⌝ }
 {

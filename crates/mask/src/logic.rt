@@ -1,4 +1,4 @@
-// Masks word by word: the states in both, in either, in one of two, and not in one.
+// Masks word by word: the states in both, in either, in just one of two, and all that are not in one.
 use crate::Mask;
 ghost use mathlib.Core.Path.{_≡_};
 ghost use Rattle.model.specs.Models.Words.{andWords, notWords, orWords, xorWords};

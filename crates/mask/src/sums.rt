@@ -1,4 +1,4 @@
-// Masks as numbers of eight words: what goes out of each word goes into the next.
+// Masks as numbers of eight words, modulo 2^512: "the borrow or carry out of each word goes into the next" (document 01).
 use crate::Mask;
 ghost use mathlib.Core.Bool.{false};
 ghost use mathlib.Core.Path.{_≡_};
@@ -39,6 +39,7 @@ pub fn add(a: Mask, b: Mask) -> Mask
     r
 }
 
+// The borrow is found in the same way.
 pub fn subtract(a: Mask, b: Mask) -> Mask
     ensures { λ r. ⌜ r .words ≡ subtractWords (a .words) (b .words) false ⌝ }
 {

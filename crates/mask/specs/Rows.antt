@@ -1,9 +1,7 @@
--- ONE BIT AND A RUN OF BITS PUT INTO A ROW OF WORDS; whether two rows are the same. Over any number of words.
-use mathlib.Core.Bool.{Bool, true, false, _&&_}
-use mathlib.Core.List.{List, [], _∷_}
+-- ONE BIT AND A RUN OF BITS PUT INTO A ROW OF WORDS, over any number of words.
+use mathlib.Core.List.{List}
 use Prim.Native.Nat.{ℕ, zero, suc, _/_, _%_, _^_}
 use lib.Bits.{bitOr}
-use lib.Dec.{eqb}
 use lib.ListN.{getD, set}
 
 -- bit i is bit i mod 64 of word i / 64; at or past the end nothing changes
@@ -14,9 +12,3 @@ putBit ws i = set ws (i / 64) (bitOr (getD ws (i / 64) 0) (2 ^ (i % 64)))
 abbrev pub putRun : List ℕ → ℕ → ℕ → List ℕ
 putRun ws lo zero = ws
 putRun ws lo (suc n) = putRun (putBit ws lo) (suc lo) n
-
-abbrev pub sameWords : List ℕ → List ℕ → Bool
-sameWords [] [] = true
-sameWords [] (y ∷ ys) = false
-sameWords (x ∷ xs) [] = false
-sameWords (x ∷ xs) (y ∷ ys) = eqb x y && sameWords xs ys

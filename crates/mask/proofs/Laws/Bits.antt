@@ -13,7 +13,7 @@ use mir.Syntax.{w64}
 use mir.Val.{Fits}
 use Rattle.model.specs.Bits.{bit}
 use Rattle.model.specs.Models.Words.{Fit, value}
-use Rattle.model.proofs.Words.Bits.{bit-zero}
+use Rattle.model.proofs.Laws.Bits.{bit-zero}
 
 -- ---- a row of words: each fits, so all do
 pub fit-row : (ws : List ℕ) → ((i : ℕ) → Fits w64 (getD ws i 0)) → Fit ws

@@ -1,0 +1,39 @@
+-- WORD i OF AN OPERATION ON EACH WORD APART, and the loop that makes such a row.
+use mathlib.Core.Path.{_≡_, refl, sym, ap, _∙_}
+use mathlib.Core.List.{List, [], _∷_}
+use Prim.Native.Nat.{ℕ, zero, suc, _+_, _-_, _^_, _≤_, _<_}
+use native.Mathlib.Nat.{le-of-suc-le-suc, not-suc-le-zero}
+use native.Mathlib.Omega.{arith}
+use lib.ListN.{length, getD, set}
+use Rattle.model.specs.Models.Words.{eachWord, notWords}
+use Rattle.mask.proofs.Laws.Filled.{Filled, filled-more, filled-all}
+
+module _ (op : ℕ → ℕ → ℕ) where
+  pub each-word : (xs ys : List ℕ) (i : ℕ) → i < length xs → i < length ys
+      → getD (eachWord op xs ys) i 0 ≡ op (getD xs i 0) (getD ys i 0)
+  each-word [] ys i h k = absurd (not-suc-le-zero h)
+  each-word (x ∷ xs) [] i h k = absurd (not-suc-le-zero k)
+  each-word (x ∷ xs) (y ∷ ys) zero h k = refl
+  each-word (x ∷ xs) (y ∷ ys) (suc i) h k = each-word xs ys i (le-of-suc-le-suc h) (le-of-suc-le-suc k)
+
+  pub each-length : (xs ys : List ℕ) → length xs ≡ length ys → length (eachWord op xs ys) ≡ length xs
+  each-length [] ys e = refl
+  each-length (x ∷ xs) [] e = absurd (omega arith)
+  each-length (x ∷ xs) (y ∷ ys) e = ap suc (each-length xs ys (omega arith))
+
+  -- the loop of and, or, xor and complement: one word more, and all words
+  module _ {n : ℕ} (xs ys : List ℕ) (hx : length xs ≡ n) (hy : length ys ≡ n)
+      {row : List ℕ} {i : ℕ} (F : Filled n (eachWord op xs ys) row i) where
+    pub each-more : i < n → Filled n (eachWord op xs ys) (set row i (op (getD xs i 0) (getD ys i 0))) (i + 1)
+    each-more h = filled-more (op (getD xs i 0) (getD ys i 0)) F h (sym (each-word xs ys i (omega arith) (omega arith)))
+
+    pub each-all : n ≤ i → row ≡ eachWord op xs ys
+    each-all h = filled-all F h (each-length xs ys (hx ∙ sym hy) ∙ hx)
+
+-- the complement is such an operation, of a row with itself
+abbrev pub notFirst : ℕ → ℕ → ℕ
+notFirst x y = 2 ^ 64 - 1 - x
+
+pub not-each : (xs : List ℕ) → notWords xs ≡ eachWord notFirst xs xs
+not-each [] = refl
+not-each (x ∷ xs) = ap (λ (zs : List ℕ). (2 ^ 64 - 1 - x) ∷ zs) (not-each xs)

@@ -8,11 +8,13 @@ use native.Mathlib.Omega.{arith}
 use lib.ListN.{length, take, drop, length-append, take-append-drop}
 use lib.Seq.{take-at, length-take-le}
 use Rattle.model.specs.Tree.{Tree}
+use Rattle.model.specs.Grammar.{IsRule}
 use Rattle.model.specs.Edges.{accepting}
 use Rattle.model.specs.Live.{Live}
 use Rattle.model.specs.Ends.{End}
 use Rattle.model.proofs.Definitions.Live.{live-is}
 use Rattle.model.proofs.Ends.Stops.{end-is, StopsAt}
+use Rattle.model.proofs.Image.Decided.{rule-full}
 use Rattle.model.proofs.Words.Full.{Full}
 
 -- an end is a place of the text at which a spelled stretch stops
@@ -38,9 +40,12 @@ end-stops t text p = (there, back)
       spelled = h;
     }
 
--- "PLACE p IS AN END EXACTLY IF m-1 IS LIVE, WHICH IS: SOME STRETCH OF THE TEXT STOPPING AT p, PERHAPS EMPTY, IS SPELLED BY THE RULE"
-pub end-live : (t : Tree) → Full t → (text : List ℕ) (p : ℕ) → End t text p ↔ ((p ≤ length text) × Live t (take p text) (accepting t))
-end-live t F text p = (
+full-live : (t : Tree) → Full t → (text : List ℕ) (p : ℕ) → End t text p ↔ ((p ≤ length text) × Live t (take p text) (accepting t))
+full-live t F text p = (
   λ e. let s = end-stops t text p .0 e in (s .0, live-is t F (take p text) (accepting t) .0 (end-is t F text p .1 (s .1))),
   λ h. end-stops t text p .1 (h .0, end-is t F text p .0 (live-is t F (take p text) (accepting t) .1 (h .1))),
 )
+
+-- "PLACE p IS AN END EXACTLY IF m-1 IS LIVE, WHICH IS: SOME STRETCH OF THE TEXT STOPPING AT p, PERHAPS EMPTY, IS SPELLED BY THE RULE"
+pub end-live : {rule : List ℕ} (t : Tree) → IsRule rule t → (text : List ℕ) (p : ℕ) → End t text p ↔ ((p ≤ length text) × Live t (take p text) (accepting t))
+end-live t d = full-live t (rule-full t d)

@@ -9,11 +9,7 @@ use lib.ListN.{length}
 use Rattle.model.specs.Tree.{Alts, end, glue, last, letter, more, Seq, union}
 use Rattle.model.specs.Edges.{altsEnd, seqEnd}
 use Rattle.model.specs.Models.Tokens.{aBar, aClose, aLetter, altsTokens, anOpen, Begun, parse, Parsed, parsed, prepend, put, Token, tokens}
-
-pub glue-end : (s : Seq) → glue s end ≡ s
-glue-end end = refl
-glue-end (letter c r s) = ap (letter c r) (glue-end s)
-glue-end (union a s) = ap (union a) (glue-end s)
+use Rattle.model.proofs.Laws.Trees.{glue-end}
 
 -- ---- reading back
 abbrev first : Alts → Seq

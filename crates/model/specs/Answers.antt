@@ -30,8 +30,10 @@ pub data BuildSays (rule before : List ℕ) (a : Answer) : Type 0 where
   not-a-rule : length rule ≤ 1024 → ((t : Tree) → IsRule rule t → ⊥) → a ≡ refused 2 before → BuildSays rule before a
   too-many-states : (t : Tree) → length rule ≤ 1024 → IsRule rule t → 512 < states t → a ≡ refused 3 before → BuildSays rule before a
   too-deep : (t : Tree) → length rule ≤ 1024 → IsRule rule t → states t ≤ 512 → 8 < depth t → a ≡ refused 4 before → BuildSays rule before a
-  no-room : (t : Tree) → length rule ≤ 1024 → IsRule rule t → states t ≤ 512 → depth t ≤ 8 → length before < length (image t) → a ≡ refused 5 before → BuildSays rule before a
-  built : (t : Tree) → length rule ≤ 1024 → IsRule rule t → states t ≤ 512 → depth t ≤ 8 → length (image t) ≤ length before → a ≡ done (image t) before → BuildSays rule before a
+  no-room : (t : Tree) → length rule ≤ 1024 → IsRule rule t → states t ≤ 512 → depth t ≤ 8 → length before < length (image t)
+      → a ≡ refused 5 before → BuildSays rule before a
+  built : (t : Tree) → length rule ≤ 1024 → IsRule rule t → states t ≤ 512 → depth t ≤ 8 → length (image t) ≤ length before
+      → a ≡ done (image t) before → BuildSays rule before a
 
 -- "the image of a tree within 512 states and depth 8"; "a tree is that of any rule in the grammar, however long the rule"
 pub record ImageOf (words : List ℕ) (t : Tree) : Type 0 where

@@ -1,5 +1,5 @@
 -- THE PLAIN WRITING (document 01, "Plain writing"): "the tree written out".
-use mathlib.Core.Bool.{Bool, true, false, _&&_, cond}
+use mathlib.Core.Bool.{_&&_, cond}
 use mathlib.Core.List.{List, [], _∷_, _++_}
 use Prim.Native.Nat.{ℕ, zero, suc, _+_, _-_, _/_, _%_, _^_}
 use lib.Dec.{leb, ltb, eqb}

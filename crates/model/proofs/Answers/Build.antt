@@ -1,7 +1,7 @@
 -- Build's table gives every rule and every lent room exactly one answer: the one that reading the rule and comparing four numbers decides.
 use mathlib.Core.Path.{_≡_, refl, sym, ap, _∙_}
 use mathlib.Core.Logic.{_⊎_, inl, inr}
-use mathlib.Core.Bool.{Bool, cond}
+use mathlib.Core.Bool.{cond}
 use mathlib.Core.List.{List}
 use mathlib.Core.Option.{Option, none, some}
 use Prim.Native.Nat.{ℕ, _≤_, _<_}
@@ -20,7 +20,9 @@ use Rattle.model.proofs.Reading.Decides.{reads}
 -- ---- the answer, computed: checks 3 to 5 on a tree, check 2 on what was read, check 1 on the rule
 abbrev pub treeAnswer : Tree → List ℕ → Answer
 treeAnswer t before =
-    cond (leb (states t) 512) (cond (leb (depth t) 8) (cond (leb (length (image t)) (length before)) (done (image t) before) (refused 5 before)) (refused 4 before)) (refused 3 before)
+    cond (leb (states t) 512)
+    (cond (leb (depth t) 8) (cond (leb (length (image t)) (length before)) (done (image t) before) (refused 5 before)) (refused 4 before))
+    (refused 3 before)
 
 abbrev pub readAnswer : Option Tree → List ℕ → Answer
 readAnswer none before = refused 2 before
@@ -56,26 +58,30 @@ module _ (rule before : List ℕ) where
   pub build-total : BuildSays rule before (buildAnswer rule before)
   build-total = go (le-or-lt (length rule) 1024)
     where
-      roomy : (t : Tree) → length rule ≤ 1024 → IsRule rule t → states t ≤ 512 → depth t ≤ 8 → (length (image t) ≤ length before) ⊎ (length before < length (image t)) → BuildSays rule before (buildAnswer rule before)
+      Said : Type 0
+      Said = BuildSays rule before (buildAnswer rule before)
+
+      roomy : (t : Tree) → length rule ≤ 1024 → IsRule rule t → states t ≤ 512 → depth t ≤ 8
+          → (length (image t) ≤ length before) ⊎ (length before < length (image t)) → Said
       roomy t l d m k (inl r) = built t l d m k r (read t l d ∙ rw (le-true (states t) 512 m, le-true (depth t) 8 k, le-true (length (image t)) (length before) r))
       roomy t l d m k (inr r) = no-room t l d m k r (read t l d ∙ rw (le-true (states t) 512 m, le-true (depth t) 8 k, le-false (length (image t)) (length before) r))
 
-      shallow : (t : Tree) → length rule ≤ 1024 → IsRule rule t → states t ≤ 512 → (depth t ≤ 8) ⊎ (8 < depth t) → BuildSays rule before (buildAnswer rule before)
+      shallow : (t : Tree) → length rule ≤ 1024 → IsRule rule t → states t ≤ 512 → (depth t ≤ 8) ⊎ (8 < depth t) → Said
       shallow t l d m (inl k) = roomy t l d m k (le-or-lt (length (image t)) (length before))
       shallow t l d m (inr k) = too-deep t l d m k (read t l d ∙ rw (le-true (states t) 512 m, le-false (depth t) 8 k))
 
-      few : (t : Tree) → length rule ≤ 1024 → IsRule rule t → (states t ≤ 512) ⊎ (512 < states t) → BuildSays rule before (buildAnswer rule before)
+      few : (t : Tree) → length rule ≤ 1024 → IsRule rule t → (states t ≤ 512) ⊎ (512 < states t) → Said
       few t l d (inl m) = shallow t l d m (le-or-lt (depth t) 8)
       few t l d (inr m) = too-many-states t l d m (read t l d ∙ rw (le-false (states t) 512 m))
 
-      known : length rule ≤ 1024 → (o : Option Tree) → readRule rule ≡ o → BuildSays rule before (buildAnswer rule before)
+      known : length rule ≤ 1024 → (o : Option Tree) → readRule rule ≡ o → Said
       known l none e = not-a-rule l (λ t d. no-tree t (sym e ∙ reads rule t .0 d)) (short l ∙ ap (λ (o : Option Tree). readAnswer o before) e)
         where
           no-tree : (t : Tree) → none ≡ some t → ⊥
           no-tree t p = let z : _≡_ {A = ℕ} 0 1 = cc in omega arith
       known l (some t) e = let d = reads rule t .1 e in few t l d (le-or-lt (states t) 512)
 
-      go : (length rule ≤ 1024) ⊎ (1024 < length rule) → BuildSays rule before (buildAnswer rule before)
+      go : (length rule ≤ 1024) ⊎ (1024 < length rule) → Said
       go (inl l) = known l (readRule rule) refl
       go (inr l) = rule-too-long l (rw (le-false (length rule) 1024 l))
 

@@ -44,11 +44,14 @@ module _ (words text before : List ℕ) (B : Bytes text) where
   pub match-total : MatchSays words text before (matchAnswer words text before)
   match-total = go (verdict words) refl
     where
-      short : (t : Tree) → ImageOf words t → (length text ≤ 65535) ⊎ (65535 < length text) → MatchSays words text before (matchAnswer words text before)
+      Said : Type 0
+      Said = MatchSays words text before (matchAnswer words text before)
+
+      short : (t : Tree) → ImageOf words t → (length text ≤ 65535) ⊎ (65535 < length text) → Said
       short t i (inl l) = matched t (treeEnds t text) i l (tree-ends t (rule-full t (i .is-rule)) text B) (known t i ∙ rw (le-true (length text) 65535 l))
       short t i (inr l) = text-too-long t i l (known t i ∙ rw (le-false (length text) 65535 l))
 
-      go : (o : Option Tree) → verdict words ≡ o → MatchSays words text before (matchAnswer words text before)
+      go : (o : Option Tree) → verdict words ≡ o → Said
       go none e = let n = verdict-none words .0 e in not-an-image n (unknown n)
       go (some t) e = short t (verdict-some words t .0 e) (le-or-lt (length text) 65535)
 

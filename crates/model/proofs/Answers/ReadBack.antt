@@ -39,11 +39,14 @@ module _ (words before : List ℕ) where
   pub read-back-total : ReadBackSays words before (readBackAnswer words before)
   read-back-total = go (verdict words) refl
     where
-      roomy : (t : Tree) → ImageOf words t → (length (writing t) ≤ length before) ⊎ (length before < length (writing t)) → ReadBackSays words before (readBackAnswer words before)
+      Said : Type 0
+      Said = ReadBackSays words before (readBackAnswer words before)
+
+      roomy : (t : Tree) → ImageOf words t → (length (writing t) ≤ length before) ⊎ (length before < length (writing t)) → Said
       roomy t i (inl l) = written t i l (known t i ∙ rw (le-true (length (writing t)) (length before) l))
       roomy t i (inr l) = no-room t i l (known t i ∙ rw (le-false (length (writing t)) (length before) l))
 
-      go : (o : Option Tree) → verdict words ≡ o → ReadBackSays words before (readBackAnswer words before)
+      go : (o : Option Tree) → verdict words ≡ o → Said
       go none e = let n = verdict-none words .0 e in not-an-image n (unknown n)
       go (some t) e = roomy t (verdict-some words t .0 e) (le-or-lt (length (writing t)) (length before))
 

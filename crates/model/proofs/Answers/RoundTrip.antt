@@ -3,7 +3,7 @@
 use mathlib.Core.Path.{_≡_, refl, sym, ap, _∙_, subst}
 use mathlib.Core.Logic.{_↔_}
 use mathlib.Core.List.{List, _++_}
-use Prim.Native.Nat.{ℕ, suc, _≤_, _<_}
+use Prim.Native.Nat.{ℕ, _≤_}
 use native.Mathlib.Omega.{arith}
 use lib.ListN.{length, take, drop}
 use lib.Seq.{take-all, take-append-seam}
@@ -24,7 +24,9 @@ wordsOf a = take (a .count) (a .lent)
 
 -- done was said of a whole that fits, so the first words are the whole
 first-words : (whole before : List ℕ) → length whole ≤ length before → wordsOf (done whole before) ≡ whole
-first-words whole before l = ap (λ (x : List ℕ). take (length whole) (x ++ drop (length whole) before)) (take-all (length before) whole l) ∙ take-append-seam whole (drop (length whole) before)
+first-words whole before l =
+    ap (λ (x : List ℕ). take (length whole) (x ++ drop (length whole) before)) (take-all (length before) whole l)
+    ∙ take-append-seam whole (drop (length whole) before)
 
 -- AN ACCEPTED RULE'S WORDS ARE THE IMAGE OF ITS TREE, within the limits
 pub accepted : (rule before : List ℕ) (a : Answer) → BuildSays rule before a → a .number ≡ 0 → (t : Tree) → IsRule rule t → ImageOf (wordsOf a) t
@@ -45,6 +47,12 @@ reads-back rule before a t d B z room l b R = read-back-one (wordsOf a) room b (
 pub same-image : (rule rule′ before before′ : List ℕ) (a a′ : Answer) (t t′ : Tree) → IsRule rule t → IsRule rule′ t′
     → BuildSays rule before a → a .number ≡ 0 → BuildSays rule′ before′ a′ → a′ .number ≡ 0 → (wordsOf a ≡ wordsOf a′) ↔ (writing t ≡ writing t′)
 same-image rule rule′ before before′ a a′ t t′ d d′ B z B′ z′ = (
-  λ e. ap writing (one-image (wordsOf a′) t t′ (subst (λ (ws : List ℕ). ImageOf ws t) e (accepted rule before a B z t d)) (accepted rule′ before′ a′ B′ z′ t′ d′)),
-  λ e. accepted rule before a B z t d .laid ∙ ap image (writing-inj t t′ (rule-well d) (rule-well d′) e) ∙ sym (accepted rule′ before′ a′ B′ z′ t′ d′ .laid),
+  λ e. ap writing (one-image (wordsOf a′) t t′ (subst (λ (ws : List ℕ). ImageOf ws t) e first) second),
+  λ e. first .laid ∙ ap image (writing-inj t t′ (rule-well d) (rule-well d′) e) ∙ sym (second .laid),
 )
+  where
+    first : ImageOf (wordsOf a) t
+    first = accepted rule before a B z t d
+
+    second : ImageOf (wordsOf a′) t′
+    second = accepted rule′ before′ a′ B′ z′ t′ d′

@@ -1,11 +1,11 @@
 -- A way along an arc, and what edges and arcs that stand in a list under a condition are.
-use mathlib.Core.Path.{_≡_, refl, sym, ap, ap₂, _∙_}
+use mathlib.Core.Path.{_≡_, refl, ap}
 use mathlib.Core.Logic.{_⊎_, inl, inr}
 use mathlib.Core.Bool.{Bool, true, false}
-use mathlib.Core.List.{List, [], _∷_, _++_}
-use Prim.Native.Nat.{ℕ, suc}
+use mathlib.Core.List.{List, map}
+use Prim.Native.Nat.{ℕ}
 use lib.Dec.{T}
-use Rattle.model.specs.Edges.{Edge, edge, EdgeKind}
+use Rattle.model.specs.Edges.{Edge, edge, gatherEdge, propagateEdge, scatterEdge, Way}
 use Rattle.model.specs.Edges.{when as whenEdge}
 use Rattle.model.proofs.Language.Arcs.{Arc, Byte, Still, when}
 use Rattle.model.proofs.Laws.Lists.{In}
@@ -16,6 +16,16 @@ StillAlong es q r = (a : Arc) × In es a × Still (a .kind) (a .from) (a .to) q 
 
 abbrev pub ByteAlong : List Arc → ℕ → ℕ → ℕ → Type 0
 ByteAlong es b q r = (a : Arc) × In es a × Byte b (a .kind) (a .from) (a .to) q r
+
+-- ---- a union's edges
+abbrev pub scatters : ℕ → ℕ → List Way → List Edge
+scatters k t ws = map (λ a. edge scatterEdge k t (a .0)) ws
+
+abbrev pub gathers : ℕ → ℕ → List Way → List Edge
+gathers k u ws = map (λ a. edge gatherEdge k (a .1) u) ws
+
+abbrev pub over : Bool → ℕ → ℕ → ℕ → List Edge
+over empty k t u = whenEdge empty (edge propagateEdge k t u)
 
 -- ---- what `when` adds
 pub edge-when : (b : Bool) (e u : Edge) → In (whenEdge b e) u → T b × (u ≡ e)
@@ -40,13 +50,13 @@ pub when-later : (b : Bool) (e : Arc) (es : List Arc) (a : Arc) → In es a → 
 when-later true e es a h = inr h
 when-later false e es a h = h
 
--- an edge that is another one has its kind, its start and its end
-module _ (e f : EdgeKind) (j k q r i l : ℕ) (same : edge e j q r ≡ edge f k i l) where
-  pub kind-is : e ≡ f
-  kind-is = ap (λ (x : Edge). x .kind) same
+-- equal edges have one kind, one start and one end
+module _ {e f : Edge} (same : e ≡ f) where
+  pub kind-of : e .kind ≡ f .kind
+  kind-of = ap (λ (x : Edge). x .kind) same
 
-  pub from-is : q ≡ i
-  from-is = ap (λ (x : Edge). x .from) same
+  pub from-of : e .from ≡ f .from
+  from-of = ap (λ (x : Edge). x .from) same
 
-  pub to-is : r ≡ l
-  to-is = ap (λ (x : Edge). x .to) same
+  pub to-of : e .to ≡ f .to
+  to-of = ap (λ (x : Edge). x .to) same

@@ -1,9 +1,9 @@
 -- Place p is an end exactly if the accepting state is live after p bytes: the proof that document 01 asks for. What the arcs lead to after a text
 -- is what ends with a stretch that the rule spells, and what they lead to is what is live.
-use mathlib.Core.Path.{_≡_, refl, sym, ap, _∙_, subst}
+use mathlib.Core.Path.{_≡_, sym, ap, _∙_}
 use mathlib.Core.Logic.{_↔_}
 use mathlib.Core.List.{List, _++_, append-assoc}
-use Prim.Native.Nat.{ℕ, _+_, _≤_, min}
+use Prim.Native.Nat.{ℕ, _≤_}
 use native.Mathlib.Omega.{arith}
 use lib.ListN.{length, take, drop, length-append, take-append-drop}
 use lib.Seq.{take-at, length-take-le}

@@ -1,14 +1,14 @@
 -- The edges without a letter are the ways along arcs without a letter: part by part, a fork's ways are its union's scatter and gather edges.
-use mathlib.Core.Path.{_≡_, refl, sym, ap, subst}
+use mathlib.Core.Path.{_≡_, refl, sym, subst}
 use mathlib.Core.Logic.{_⊎_, inl, inr, _↔_}
-use mathlib.Core.List.{List, [], _∷_, _++_, map}
+use mathlib.Core.List.{List, [], _∷_, _++_}
 use Prim.Native.Nat.{ℕ, suc}
 use lib.Dec.{T}
 use Rattle.model.specs.Tree.{canLoop, canSkip, Tree}
-use Rattle.model.specs.Edges.{Edge, edge, EdgeKind, edgesOf, endsOf, gatherEdge, letterAt, letterEdge, loopEdge, Part, parts, propagateEdge, scatterEdge, startsOf, unionAt}
+use Rattle.model.specs.Edges.{Edge, edge, EdgeKind, edgesOf, endsOf, gatherEdge, letterAt, loopEdge, Part, parts, propagateEdge, scatterEdge, startsOf, unionAt}
 use Rattle.model.specs.Edges.{when as whenEdge}
 use Rattle.model.specs.Live.{Free, letterless}
-use Rattle.model.proofs.Definitions.Along.{arc-when, edge-when, from-is, kind-is, StillAlong, to-is, when-arc, when-edge, when-later}
+use Rattle.model.proofs.Definitions.Along.{arc-when, edge-when, from-of, gathers, kind-of, over, scatters, StillAlong, to-of, when-arc, when-edge, when-later}
 use Rattle.model.proofs.Language.Arcs.{Arc, arc, arcs, forkArc, letterArc, loopArc, propagateArc, Still, when}
 use Rattle.model.proofs.Language.Parts.{arcs-are, arcsOf}
 use Rattle.model.proofs.Laws.Each.{each-in, in-each, in-map, map-in}
@@ -29,25 +29,16 @@ free-part (letterAt c x k i) q r (e, j, m, h) = go m
 
     rest : In (whenEdge (canLoop x) (edge (loopEdge c) k (suc i) (suc i))) (edge e j q r) ⊎ In (whenEdge (canSkip x) (edge propagateEdge k i (suc i))) (edge e j q r)
         → StillAlong (arcsOf (letterAt c x k i)) q r
-    rest (inl n) = absurd (subst (λ (f : EdgeKind). T (letterless f)) (kind-is e (loopEdge c) j k q r (suc i) (suc i) (edge-when (canLoop x) _ _ n .1)) h)
+    rest (inl n) = absurd (subst (λ (f : EdgeKind). T (letterless f)) (kind-of (edge-when (canLoop x) _ _ n .1)) h)
     rest (inr n) =
         let s = edge-when (canSkip x) (edge propagateEdge k i (suc i)) (edge e j q r) n in
-        (S, inr (when-later (canLoop x) L (when (canSkip x) S []) S (when-arc (canSkip x) S [] (s .0))), (from-is e propagateEdge j k q r i (suc i) (s .1), to-is e propagateEdge j k q r i (suc i) (s .1)))
+        (S, inr (when-later (canLoop x) L (when (canSkip x) S []) S (when-arc (canSkip x) S [] (s .0))), (from-of (s .1), to-of (s .1)))
 
     go : In (edgesOf (letterAt c x k i)) (edge e j q r) → StillAlong (arcsOf (letterAt c x k i)) q r
-    go (inl s) = absurd (subst (λ (f : EdgeKind). T (letterless f)) (kind-is e (letterEdge c) j k q r i (suc i) s) h)
+    go (inl s) = absurd (subst (λ (f : EdgeKind). T (letterless f)) (kind-of s) h)
     go (inr n) = rest (in-split (whenEdge (canLoop x) (edge (loopEdge c) k (suc i) (suc i))) (whenEdge (canSkip x) (edge propagateEdge k i (suc i))) (edge e j q r) n)
-free-part (unionAt empty k t ws u) q r (e, j, m, h) = go (in-split scatters (gathers ++ over) (edge e j q r) m)
+free-part (unionAt empty k t ws u) q r (e, j, m, h) = go (in-split (scatters k t ws) (gathers k u ws ++ over empty k t u) (edge e j q r) m)
   where
-    scatters : List Edge
-    scatters = map (λ a. edge scatterEdge k t (a .0)) ws
-
-    gathers : List Edge
-    gathers = map (λ a. edge gatherEdge k (a .1) u) ws
-
-    over : List Edge
-    over = whenEdge empty (edge propagateEdge k t u)
-
     F : Arc
     F = arc (forkArc ws) k t u
 
@@ -57,19 +48,19 @@ free-part (unionAt empty k t ws u) q r (e, j, m, h) = go (in-split scatters (gat
     fork-in : In (arcsOf (unionAt empty k t ws u)) F
     fork-in = when-later empty P (F ∷ []) F (inl refl)
 
-    rest : In gathers (edge e j q r) ⊎ In over (edge e j q r) → StillAlong (arcsOf (unionAt empty k t ws u)) q r
+    rest : In (gathers k u ws) (edge e j q r) ⊎ In (over empty k t u) (edge e j q r) → StillAlong (arcsOf (unionAt empty k t ws u)) q r
     rest (inl n) =
         let w = map-in (λ a. edge gatherEdge k (a .1) u) ws (edge e j q r) n in
-        (F, fork-in, inr (subst (In (endsOf ws)) (sym (from-is e gatherEdge j k q r (w .0 .1) u (w .2))) (in-map (λ a. a .1) ws (w .0) (w .1)), to-is e gatherEdge j k q r (w .0 .1) u (w .2)))
+        (F, fork-in, inr (subst (In (endsOf ws)) (sym (from-of (w .2))) (in-map (λ a. a .1) ws (w .0) (w .1)), to-of (w .2)))
     rest (inr n) =
         let s = edge-when empty (edge propagateEdge k t u) (edge e j q r) n in
-        (P, when-arc empty P (F ∷ []) (s .0), (from-is e propagateEdge j k q r t u (s .1), to-is e propagateEdge j k q r t u (s .1)))
+        (P, when-arc empty P (F ∷ []) (s .0), (from-of (s .1), to-of (s .1)))
 
-    go : In scatters (edge e j q r) ⊎ In (gathers ++ over) (edge e j q r) → StillAlong (arcsOf (unionAt empty k t ws u)) q r
+    go : In (scatters k t ws) (edge e j q r) ⊎ In (gathers k u ws ++ over empty k t u) (edge e j q r) → StillAlong (arcsOf (unionAt empty k t ws u)) q r
     go (inl n) =
         let w = map-in (λ a. edge scatterEdge k t (a .0)) ws (edge e j q r) n in
-        (F, fork-in, inl (from-is e scatterEdge j k q r t (w .0 .0) (w .2), subst (In (startsOf ws)) (sym (to-is e scatterEdge j k q r t (w .0 .0) (w .2))) (in-map (λ a. a .0) ws (w .0) (w .1))))
-    go (inr n) = rest (in-split gathers over (edge e j q r) n)
+        (F, fork-in, inl (from-of (w .2), subst (In (startsOf ws)) (sym (to-of (w .2))) (in-map (λ a. a .0) ws (w .0) (w .1))))
+    go (inr n) = rest (in-split (gathers k u ws) (over empty k t u) (edge e j q r) n)
 
 part-free : (p : Part) (q r : ℕ) → StillAlong (arcsOf p) q r → FreeIn (edgesOf p) q r
 part-free (letterAt c x k i) q r (a, m, h) = go m
@@ -106,15 +97,6 @@ part-free (letterAt c x k i) q r (a, m, h) = go m
     go (inr n) = loop (arc-when (canLoop x) L (when (canSkip x) S []) a n)
 part-free (unionAt empty k t ws u) q r (a, m, h) = go (arc-when empty P (F ∷ []) a m)
   where
-    scatters : List Edge
-    scatters = map (λ a. edge scatterEdge k t (a .0)) ws
-
-    gathers : List Edge
-    gathers = map (λ a. edge gatherEdge k (a .1) u) ws
-
-    over : List Edge
-    over = whenEdge empty (edge propagateEdge k t u)
-
     F : Arc
     F = arc (forkArc ws) k t u
 
@@ -132,16 +114,16 @@ part-free (unionAt empty k t ws u) q r (a, m, h) = go (arc-when empty P (F ∷ [
         let w = map-in (λ a. a .0) ws r (n .1) in (
           scatterEdge,
           k,
-          sooner scatters (gathers ++ over) (edge scatterEdge k q r)
-              (subst (In scatters) (λ l. edge scatterEdge k (sym (n .0) l) (sym (w .2) l)) (in-map (λ a. edge scatterEdge k t (a .0)) ws (w .0) (w .1))),
+          sooner (scatters k t ws) (gathers k u ws ++ over empty k t u) (edge scatterEdge k q r)
+              (subst (In (scatters k t ws)) (λ l. edge scatterEdge k (sym (n .0) l) (sym (w .2) l)) (in-map (λ a. edge scatterEdge k t (a .0)) ws (w .0) (w .1))),
           tt,
         )
     fork (inr n) =
         let w = map-in (λ a. a .1) ws q (n .0) in (
           gatherEdge,
           k,
-          later scatters (gathers ++ over) (edge gatherEdge k q r) (sooner gathers over (edge gatherEdge k q r)
-              (subst (In gathers) (λ l. edge gatherEdge k (sym (w .2) l) (sym (n .1) l)) (in-map (λ a. edge gatherEdge k (a .1) u) ws (w .0) (w .1)))),
+          later (scatters k t ws) (gathers k u ws ++ over empty k t u) (edge gatherEdge k q r) (sooner (gathers k u ws) (over empty k t u) (edge gatherEdge k q r)
+              (subst (In (gathers k u ws)) (λ l. edge gatherEdge k (sym (w .2) l) (sym (n .1) l)) (in-map (λ a. edge gatherEdge k (a .1) u) ws (w .0) (w .1)))),
           tt,
         )
 
@@ -150,8 +132,8 @@ part-free (unionAt empty k t ws u) q r (a, m, h) = go (arc-when empty P (F ∷ [
         let n = moved P (s .1) in (
           propagateEdge,
           k,
-          later scatters (gathers ++ over) (edge propagateEdge k q r) (later gathers over (edge propagateEdge k q r)
-              (subst (In over) (λ l. edge propagateEdge k (sym (n .0) l) (sym (n .1) l)) (when-edge empty (edge propagateEdge k t u) (s .0)))),
+          later (scatters k t ws) (gathers k u ws ++ over empty k t u) (edge propagateEdge k q r) (later (gathers k u ws) (over empty k t u) (edge propagateEdge k q r)
+              (subst (In (over empty k t u)) (λ l. edge propagateEdge k (sym (n .0) l) (sym (n .1) l)) (when-edge empty (edge propagateEdge k t u) (s .0)))),
           tt,
         )
     go (inr (inl s)) = fork (moved F s)

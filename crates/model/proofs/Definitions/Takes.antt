@@ -1,8 +1,8 @@
 -- The edges that take a byte are the ways along arcs by that byte: both are a letter's own edge and its loop.
-use mathlib.Core.Path.{_≡_, refl, sym, ap, subst}
+use mathlib.Core.Path.{_≡_, refl, sym, subst}
 use mathlib.Core.Logic.{_⊎_, inl, inr, _↔_}
-use mathlib.Core.Bool.{Bool, _||_, or-false}
-use mathlib.Core.List.{List, [], _∷_, _++_, map}
+use mathlib.Core.Bool.{_||_, or-false}
+use mathlib.Core.List.{List, [], _∷_, _++_}
 use Prim.Native.Nat.{ℕ, suc}
 use lib.Dec.{T}
 use Rattle.model.specs.Bits.{bit}
@@ -10,7 +10,7 @@ use Rattle.model.specs.Tree.{canLoop, canSkip, Tree}
 use Rattle.model.specs.Edges.{byLetter, byLoop, Edge, edge, EdgeKind, edgesOf, gatherEdge, letterAt, letterEdge, loopEdge, Part, parts, propagateEdge, scatterEdge, unionAt}
 use Rattle.model.specs.Edges.{when as whenEdge}
 use Rattle.model.specs.Live.{Takes}
-use Rattle.model.proofs.Definitions.Along.{arc-when, ByteAlong, edge-when, from-is, kind-is, to-is, when-arc, when-edge}
+use Rattle.model.proofs.Definitions.Along.{arc-when, ByteAlong, edge-when, from-of, gathers, kind-of, over, scatters, to-of, when-arc, when-edge}
 use Rattle.model.proofs.Language.Arcs.{Arc, arc, arcs, Byte, forkArc, letterArc, loopArc, propagateArc, when}
 use Rattle.model.proofs.Language.Parts.{arcs-are, arcsOf}
 use Rattle.model.proofs.Laws.Bool.{or-left}
@@ -38,39 +38,28 @@ takes-part (letterAt c x k i) b q r (e, j, m, h) = go m
     rest : In (whenEdge (canLoop x) (edge (loopEdge c) k (suc i) (suc i))) (edge e j q r) ⊎ In (whenEdge (canSkip x) (edge propagateEdge k i (suc i))) (edge e j q r) → Found
     rest (inl n) =
         let s = edge-when (canLoop x) (edge (loopEdge c) k (suc i) (suc i)) (edge e j q r) n in
-        let f = loopEdge c in
-        (L, inr (when-arc (canLoop x) L (when (canSkip x) S []) (s .0)), (kept f (kind-is e f j k q r (suc i) (suc i) (s .1)), from-is e f j k q r (suc i) (suc i) (s .1), to-is e f j k q r (suc i) (suc i) (s .1)))
-    rest (inr n) = absurd (kept propagateEdge (kind-is e propagateEdge j k q r i (suc i) (edge-when (canSkip x) _ _ n .1)))
+        (L, inr (when-arc (canLoop x) L (when (canSkip x) S []) (s .0)), (kept (loopEdge c) (kind-of (s .1)), from-of (s .1), to-of (s .1)))
+    rest (inr n) = absurd (kept propagateEdge (kind-of (edge-when (canSkip x) _ _ n .1)))
 
     go : In (edgesOf (letterAt c x k i)) (edge e j q r) → Found
     go (inl s) =
-        let f = letterEdge c in
-        (arc (letterArc c) k i (suc i), inl refl, (subst T (or-false (bit c b)) (kept f (kind-is e f j k q r i (suc i) s)), from-is e f j k q r i (suc i) s, to-is e f j k q r i (suc i) s))
+        (arc (letterArc c) k i (suc i), inl refl, (subst T (or-false (bit c b)) (kept (letterEdge c) (kind-of s)), from-of s, to-of s))
     go (inr n) = rest (in-split (whenEdge (canLoop x) (edge (loopEdge c) k (suc i) (suc i))) (whenEdge (canSkip x) (edge propagateEdge k i (suc i))) (edge e j q r) n)
-takes-part (unionAt empty k t ws u) b q r (e, j, m, h) = go (in-split scatters (gathers ++ over) (edge e j q r) m)
+takes-part (unionAt empty k t ws u) b q r (e, j, m, h) = go (in-split (scatters k t ws) (gathers k u ws ++ over empty k t u) (edge e j q r) m)
   where
-    scatters : List Edge
-    scatters = map (λ a. edge scatterEdge k t (a .0)) ws
-
-    gathers : List Edge
-    gathers = map (λ a. edge gatherEdge k (a .1) u) ws
-
-    over : List Edge
-    over = whenEdge empty (edge propagateEdge k t u)
-
     Found : Type 0
     Found = ByteAlong (arcsOf (unionAt empty k t ws u)) b q r
 
     kept : (f : EdgeKind) → e ≡ f → T (byLetter b f || byLoop b f)
     kept f s = subst (λ (y : EdgeKind). T (byLetter b y || byLoop b y)) s h
 
-    rest : In gathers (edge e j q r) ⊎ In over (edge e j q r) → Found
-    rest (inl n) = let w = map-in (λ a. edge gatherEdge k (a .1) u) ws (edge e j q r) n in absurd (kept gatherEdge (kind-is e gatherEdge j k q r (w .0 .1) u (w .2)))
-    rest (inr n) = absurd (kept propagateEdge (kind-is e propagateEdge j k q r t u (edge-when empty _ _ n .1)))
+    rest : In (gathers k u ws) (edge e j q r) ⊎ In (over empty k t u) (edge e j q r) → Found
+    rest (inl n) = let w = map-in (λ a. edge gatherEdge k (a .1) u) ws (edge e j q r) n in absurd (kept gatherEdge (kind-of (w .2)))
+    rest (inr n) = absurd (kept propagateEdge (kind-of (edge-when empty _ _ n .1)))
 
-    go : In scatters (edge e j q r) ⊎ In (gathers ++ over) (edge e j q r) → Found
-    go (inl n) = let w = map-in (λ a. edge scatterEdge k t (a .0)) ws (edge e j q r) n in absurd (kept scatterEdge (kind-is e scatterEdge j k q r t (w .0 .0) (w .2)))
-    go (inr n) = rest (in-split gathers over (edge e j q r) n)
+    go : In (scatters k t ws) (edge e j q r) ⊎ In (gathers k u ws ++ over empty k t u) (edge e j q r) → Found
+    go (inl n) = let w = map-in (λ a. edge scatterEdge k t (a .0)) ws (edge e j q r) n in absurd (kept scatterEdge (kind-of (w .2)))
+    go (inr n) = rest (in-split (gathers k u ws) (over empty k t u) (edge e j q r) n)
 
 part-takes : (p : Part) (b q r : ℕ) → ByteAlong (arcsOf p) b q r → TakesIn (edgesOf p) b q r
 part-takes (letterAt c x k i) b q r (a, m, h) = go m

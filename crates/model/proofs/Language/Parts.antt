@@ -1,10 +1,8 @@
 -- A tree's arcs are read off its parts, as the edges of document 01 are: the arcs of each letter and each union, one after another.
 use mathlib.Core.Path.{_≡_, refl, sym, ap, ap₂, _∙_}
-use mathlib.Core.Logic.{_⊎_, inl, inr}
 use mathlib.Core.Bool.{Bool, true, false}
 use mathlib.Core.List.{List, [], _∷_, _++_}
 use Prim.Native.Nat.{ℕ, suc}
-use lib.Dec.{T}
 use Rattle.model.specs.Lists.{each}
 use Rattle.model.specs.Tree.{Alts, canLoop, canSkip, end, last, letter, more, Seq, Tree, union}
 use Rattle.model.specs.Edges.{altsEmpty, altsEnd, altsParts, letterAt, Part, parts, seqEnd, unionAt, ways}

@@ -1,4 +1,6 @@
-//! Reading the outside vectors (their format is in vectors/README.md).
+//! Reading the outside vectors (their format is in vectors/README.md), and document 01 once more, independently.
+
+pub mod independent;
 
 use std::fs;
 use std::path::Path;

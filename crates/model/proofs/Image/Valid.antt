@@ -14,8 +14,9 @@ use Rattle.model.specs.Models.LayOut.{afterBar, afterClose, afterSomeBar
 use Rattle.model.specs.Models.Tokens.{aBar, aClose, aLetter, altsTokens, anOpen, Begun, parse, Parsed, parsed, prepend, Token, tokens}
 use Rattle.model.proofs.Image.Scan.{after, after-bar, after-end, after-letter, after-union, afterUnion, alternativeAt, isEnd}
 use Rattle.model.proofs.Laws.Bool.{and-both, and-split}
+use Rattle.model.proofs.Laws.Trees.{NonEmpty}
 use Rattle.model.proofs.Reading.WellFormed.{Several}
-use Rattle.model.proofs.Words.Full.{Full, FullA, NonEmpty}
+use Rattle.model.proofs.Words.Full.{Full, FullA}
 
 -- every union has at least two alternatives, and none of them is empty
 abbrev mutual

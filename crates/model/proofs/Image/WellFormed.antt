@@ -5,20 +5,9 @@ use Rattle.model.specs.Tree.{Alts, end, last, letter, more, Seq, union}
 use Rattle.model.specs.Models.Tokens.{aBar, aClose, altsTokens, Token, tokens}
 use Rattle.model.proofs.Image.Classes.{AllFine}
 use Rattle.model.proofs.Image.Valid.{GoodAlts, GoodUnions}
-use Rattle.model.proofs.Reading.WellFormed.{Full, Good, WellFormed}
+use Rattle.model.proofs.Laws.Trees.{NonEmpty}
+use Rattle.model.proofs.Reading.WellFormed.{Good, WellFormed}
 use Rattle.model.proofs.Reading.WellFormed.{GoodAlts as WellAlts}
-use Rattle.model.proofs.Words.Full.{NonEmpty}
-
--- ---- the two words for "has an item"
-full-nonempty : (s : Seq) → Full s → NonEmpty s
-full-nonempty end f = f
-full-nonempty (letter c r s) f = tt
-full-nonempty (union a s) f = tt
-
-nonempty-full : (s : Seq) → NonEmpty s → Full s
-nonempty-full end f = f
-nonempty-full (letter c r s) f = tt
-nonempty-full (union a s) f = tt
 
 -- ---- good trees
 mutual
@@ -28,8 +17,8 @@ mutual
   good-unions (union a s) g = (g .0, good-alts a (g .1), good-unions s (g .2))
 
   good-alts : (a : Alts) → WellAlts a → GoodAlts a
-  good-alts (last s) g = (full-nonempty s (g .0), good-unions s (g .1))
-  good-alts (more s a) g = (full-nonempty s (g .0), good-unions s (g .1), good-alts a (g .2))
+  good-alts (last s) g = (g .0, good-unions s (g .1))
+  good-alts (more s a) g = (g .0, good-unions s (g .1), good-alts a (g .2))
 
 mutual
   good-fine : (s : Seq) (rest : List Token) → Good s → AllFine rest → AllFine (tokens s rest)
@@ -52,17 +41,17 @@ mutual
       ((g .0, k .0, n .0), n .1)
 
   fine-alts : (a : Alts) (rest : List Token) → GoodAlts a → AllFine (altsTokens a rest) → WellAlts a × AllFine rest
-  fine-alts (last s) rest g f = let k = fine-good s (aClose ∷ rest) (g .1) f in ((nonempty-full s (g .0), k .0), k .1 .1)
+  fine-alts (last s) rest g f = let k = fine-good s (aClose ∷ rest) (g .1) f in ((g .0, k .0), k .1 .1)
   fine-alts (more s a) rest g f =
       let k = fine-good s (aBar ∷ altsTokens a rest) (g .1) f in
       let n = fine-alts a rest (g .2) (k .1 .1) in
-      ((nonempty-full s (g .0), k .0, n .0), n .1)
+      ((g .0, k .0, n .0), n .1)
 
 -- THE THEOREM
 pub well-formed : (s : Seq) → WellFormed s ↔ (NonEmpty s × GoodUnions s × AllFine (tokens s []))
 well-formed s = (
-  λ w. (full-nonempty s (w .full), good-unions s (w .good), good-fine s [] (w .good) tt),
-  λ h. record { full = nonempty-full s (h .0); good = fine-good s [] (h .1) (h .2) .0 },
+  λ w. (w .full, good-unions s (w .good), good-fine s [] (w .good) tt),
+  λ h. record { full = h .0; good = fine-good s [] (h .1) (h .2) .0 },
 )
 
 pub well-fine : (s : Seq) → WellFormed s → AllFine (tokens s [])

@@ -16,6 +16,7 @@ use Rattle.model.specs.Tree.{Alts, end, glue, last, letter, more, once, 
 use Rattle.model.specs.Grammar.{absent, also, asterisk, beside, braces, bracket, class, copies, cross, dot, escape, escaped, group, IsAlts, IsItem, IsLetter, IsMember, IsMembers, IsRule, IsSeq, IsSign, IsSingle, item, itself, lone, member, only, plain-byte, question, range, repeated, rule, Sign, single, span, then, times}
 use Rattle.model.proofs.Laws.Bits.{bit-some}
 use Rattle.model.proofs.Laws.Bool.{and-both, and-split}
+use Rattle.model.proofs.Laws.Trees.{NonEmpty}
 use Rattle.model.proofs.Reading.Answers.{among}
 use Rattle.model.proofs.Reading.Escapes.{hex-small}
 use Rattle.model.proofs.Words.Bits.{bit-mask, mask-lt}
@@ -25,12 +26,7 @@ pub record Class (c : ℕ) : Type 0 where
   pub some-byte : 1 ≤ c
   pub bytes-only : c < 2 ^ 256
 
--- the sequence has an item; the union has at least two alternatives
-abbrev pub Full : Seq → Type 0
-Full end = ⊥
-Full (letter c r s) = Unit {0}
-Full (union a s) = Unit {0}
-
+-- the union has at least two alternatives
 abbrev pub Several : Alts → Type 0
 Several (last s) = ⊥
 Several (more s a) = Unit {0}
@@ -43,15 +39,15 @@ abbrev mutual
   Good (union a s) = Several a × GoodAlts a × Good s
 
   pub GoodAlts : Alts → Type 0
-  GoodAlts (last s) = Full s × Good s
-  GoodAlts (more s a) = Full s × Good s × GoodAlts a
+  GoodAlts (last s) = NonEmpty s × Good s
+  GoodAlts (more s a) = NonEmpty s × Good s × GoodAlts a
 
 -- A TREE THAT SOME RULE CAN HAVE
 pub record WellFormed (s : Seq) : Type 0 where
-  pub full : Full s
+  pub full : NonEmpty s
   pub good : Good s
 
-well : (s : Seq) → Full s → Good s → WellFormed s
+well : (s : Seq) → NonEmpty s → Good s → WellFormed s
 well s f g = record { full = f; good = g }
 
 -- ---- bytes are below 256
@@ -103,7 +99,7 @@ letter-class (class p d) = members-class d
 glue-well : (h t : Seq) → WellFormed h → WellFormed t → WellFormed (glue h t)
 glue-well h t a b = well (glue h t) (full h (a .full)) (good h (a .good))
   where
-    full : (h : Seq) → Full h → Full (glue h t)
+    full : (h : Seq) → NonEmpty h → NonEmpty (glue h t)
     full end f = absurd f
     full (letter c r s) f = tt
     full (union a s) f = tt
@@ -117,7 +113,7 @@ copies-good : (n c : ℕ) (r : Repeat) (s : Seq) → Class c → Good s → Good
 copies-good zero c r s h g = g
 copies-good (suc n) c r s h g = (h, copies-good n c r s h g)
 
-copies-full : (n m c : ℕ) (r q : Repeat) (s : Seq) → 1 ≤ n + m → Full (copies n c r (copies m c q s))
+copies-full : (n m c : ℕ) (r q : Repeat) (s : Seq) → 1 ≤ n + m → NonEmpty (copies n c r (copies m c q s))
 copies-full zero zero c r q s h = absurd (omega arith)
 copies-full zero (suc m) c r q s h = tt
 copies-full (suc n) m c r q s h = tt

@@ -8,10 +8,10 @@ use Rattle.model.specs.Bytes.{byte, bytes}
 use Rattle.model.specs.Tree.{Alts, end, glue, last, letter, more, once, option, plus, Repeat, Seq, star, union}
 use Rattle.model.specs.Grammar.{absent, also, asterisk, cross, group, IsAlts, IsItem, IsRule, IsSeq, IsSign, item, lone, only, plainly, question, rule, then}
 use Rattle.model.specs.Writing.{altsWriting, classWriting, repeatWriting, writing}
-use Rattle.model.proofs.Laws.Trees.{glue-end}
+use Rattle.model.proofs.Laws.Trees.{glue-end, NonEmpty}
 use Rattle.model.proofs.Reading.ClassWritten.{class-letter}
 use Rattle.model.proofs.Reading.Decides.{one-tree}
-use Rattle.model.proofs.Reading.WellFormed.{Full, Good, GoodAlts, rule-well, Several, WellFormed}
+use Rattle.model.proofs.Reading.WellFormed.{Good, GoodAlts, rule-well, Several, WellFormed}
 
 repeat-sign : (r : Repeat) → IsSign (repeatWriting r) (plainly r)
 repeat-sign once = absent refl refl
@@ -28,8 +28,8 @@ prepend : (u v : List ℕ) (h t : Seq) → IsItem u h → Wrote t v → IsSeq (u
 prepend u v h t d (nothing p q) = rw (p, q, glue-end h, append-nil u) (item d)
 prepend u v h t d (something b) = then refl refl d b
 
-wrote : (s : Seq) (w : List ℕ) → Full s → Wrote s w → IsSeq w s
-wrote s w f (nothing p q) = absurd (subst Full p f)
+wrote : (s : Seq) (w : List ℕ) → NonEmpty s → Wrote s w → IsSeq w s
+wrote s w f (nothing p q) = absurd (subst NonEmpty p f)
 wrote s w f (something d) = d
 
 group-item : (a : Alts) (u : List ℕ) → Several a → IsAlts u a → IsItem (byte "(" ∷ (u ++ bytes ")")) (union a end)

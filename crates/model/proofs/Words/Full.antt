@@ -14,11 +14,7 @@ use Rattle.model.specs.Edges.{altsEnd, endsOf, seqEnd, startsOf, ways}
 use Rattle.model.specs.Image.{firstEnd, lastStart}
 use Rattle.model.proofs.Language.Languages.{altsEnd-lt, seqEnd-le}
 use Rattle.model.proofs.Laws.Bool.{or-split}
-
-abbrev pub NonEmpty : Seq → Type 0
-NonEmpty end = ⊥
-NonEmpty (letter c r s) = Unit
-NonEmpty (union a s) = Unit
+use Rattle.model.proofs.Laws.Trees.{NonEmpty}
 
 -- the alternatives of every union of the tree have an item
 abbrev mutual

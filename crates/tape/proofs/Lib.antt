@@ -1,0 +1,6 @@
+-- The laws that the functions' proofs cite.
+pub mod Tokens
+pub mod Scans
+pub mod Sane
+pub mod Along
+pub mod Reaching

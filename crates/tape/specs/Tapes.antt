@@ -1,0 +1,35 @@
+-- TAPES: the tokens on a tape, and which tapes are a tree's.
+use mathlib.Core.Bool.{Bool, _&&_, cond}
+use mathlib.Core.List.{List, [], _∷_}
+use Prim.Native.Nat.{ℕ, suc, max}
+use lib.Dec.{leb}
+use lib.ListN.{take}
+use Rattle.model.specs.Models.LayOut.{begin, reach, valid}
+use Rattle.model.specs.Models.Tokens.{aBar, aClose, aLetter, anOpen}
+use Rattle.model.specs.Models.Tokens as model
+use Rattle.tape.specs.Tokens.{readKind, tokenOf}
+use Rattle.tape.specs.declared.Shape.{Shape}
+use Rattle.tape.specs.declared.Shape.the-variants.{Other, Tree}
+use Rattle.tape.specs.declared.Tape.{Tape}
+
+abbrev pub readKinds : List ℕ → List model.Token
+readKinds [] = []
+readKinds (k ∷ ks) = tokenOf (readKind k) ∷ readKinds ks
+
+abbrev pub tokensOf : Tape → List model.Token
+tokensOf t = readKinds (take (t .length) (t .kinds))
+
+-- at most 511 tokens, which are those of a tree of depth at most 8
+abbrev pub isTree : Tape → Bool
+isTree t = leb (t .length) 511 && valid (tokensOf t) begin
+
+-- WHAT A TAPE IS: a tree's tokens and their depth, or anything else
+abbrev pub shapeOf : Tape → Shape
+shapeOf t = cond (isTree t) (Tree (reach (tokensOf t) begin)) Other
+
+-- an open leads one deeper
+abbrev pub deeperBy : ℕ → ℕ → model.Token → ℕ
+deeperBy deepest depth (aLetter c r) = deepest
+deeperBy deepest depth anOpen = max deepest (suc depth)
+deeperBy deepest depth aBar = deepest
+deeperBy deepest depth aClose = deepest

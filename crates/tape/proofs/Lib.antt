@@ -2,5 +2,8 @@
 pub mod Tokens
 pub mod Scans
 pub mod Sane
+pub mod Strokes
+pub mod Within
 pub mod Along
 pub mod Reaching
+pub mod Painting

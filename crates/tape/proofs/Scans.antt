@@ -14,7 +14,7 @@ use Rattle.model.specs.Models.LayOut.{afterSomeBar, check, inside, nextAlternat
 use Rattle.model.specs.Models.LayOut as model
 use Rattle.model.specs.Models.Tokens.{aBar, aClose, anOpen}
 use Rattle.model.proofs.Laws.Bool.{and-split}
-use Rattle.tape.specs.Scans.{frameOf, isBarred, noFrame, Ready, scanOf, stackOf}
+use Rattle.tape.specs.Scans.{Behind, frameOf, isBarred, noFrame, Ready, scanOf, stackOf}
 use Rattle.tape.specs.Tokens.{tokenOf}
 use Rattle.tape.specs.declared.scan.Frame.{Frame}
 use Rattle.tape.specs.declared.scan.Scan.{Scan}
@@ -44,10 +44,10 @@ outside-is fs (suc n) = ne-eqb (suc n) 0 (λ e. omega arith)
 
 -- ---- below the top of a stack that is not empty
 module _ (fs : List Frame) where
-  abbrev topFrame : ℕ → Frame
+  abbrev pub topFrame : ℕ → Frame
   topFrame n = getD fs (n - 1) noFrame
 
-  top-is : (n : ℕ) → 0 < n → stackOf fs n ≡ frameOf (topFrame n) ∷ stackOf fs (n - 1)
+  pub top-is : (n : ℕ) → 0 < n → stackOf fs n ≡ frameOf (topFrame n) ∷ stackOf fs (n - 1)
   top-is zero h = absurd (not-suc-le-zero h)
   top-is (suc n) h = let e : n ≡ suc n - 1 = omega arith in ap (λ (k : ℕ). frameOf (getD fs k noFrame) ∷ stackOf fs k) e
 
@@ -107,3 +107,9 @@ module _ (q : Scan) (y : Token) (R : Ready q y) where
   pub ready-close : y ≡ Close → 0 < q .depth
   ready-close e =
       barred-open (q .depth) (and-split (afterSomeBar (stackOf (q .frames) (q .depth))) (not (q .«no_item»)) (subst (λ (z : Token). T (check (tokenOf z) (scanOf q))) e (R .fits)) .0)
+
+  -- the places of the innermost union lie behind
+  pub ready-top : y ≡ Close → (topFrame (q .frames) (q .depth) .alternative < 511) × (topFrame (q .frames) (q .depth) .start < 512)
+  ready-top e =
+      let b = subst (Behind (q .position)) (top-is (q .frames) (q .depth) (ready-close e)) (R .sane .behind) in
+      (omega (arith, b .2, R .below), omega (arith, b .0, R .below))

@@ -2,3 +2,5 @@
 pub mod Tokens
 pub mod Scans
 pub mod Tapes
+pub mod Strokes
+pub mod Tables

@@ -1,12 +1,13 @@
--- TAPES: the tokens on a tape, and which tapes are a tree's.
+-- TAPES: the tokens on a tape, which tapes are a tree's, and the masks laid out for them.
 use mathlib.Core.Bool.{Bool, _&&_, cond}
 use mathlib.Core.List.{List, [], _∷_}
 use Prim.Native.Nat.{ℕ, suc, max}
 use lib.Dec.{leb}
 use lib.ListN.{take}
-use Rattle.model.specs.Models.LayOut.{begin, reach, valid}
+use Rattle.model.specs.Models.LayOut.{begin, reach, valid, Which}
 use Rattle.model.specs.Models.Tokens.{aBar, aClose, aLetter, anOpen}
 use Rattle.model.specs.Models.Tokens as model
+use Rattle.tape.specs.Tables.{blank, paintAll, Table}
 use Rattle.tape.specs.Tokens.{readKind, tokenOf}
 use Rattle.tape.specs.declared.Shape.{Shape}
 use Rattle.tape.specs.declared.Shape.the-variants.{Other, Tree}
@@ -33,3 +34,7 @@ deeperBy deepest depth (aLetter c r) = deepest
 deeperBy deepest depth anOpen = max deepest (suc depth)
 deeperBy deepest depth aBar = deepest
 deeperBy deepest depth aClose = deepest
+
+-- LAY OUT: the masks of kind w; none has a state where the tape is not a tree's
+abbrev pub tableOf : Tape → Which → Table
+tableOf t w = cond (isTree t) (paintAll (tokensOf t) begin w blank) blank

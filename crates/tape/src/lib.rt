@@ -1,21 +1,27 @@
 // A tree as its tape, and lay out: from the tape to the masks of scatter, gather and propagate for each depth.
 //
 // A tree with m states is a row of m - 1 tokens, one between each two neighbouring states. One scan over them, from left to right, knows all that
-// the masks need: `token` has the tokens, `scan` what the scan knows before each.
+// the masks need: `token` has the tokens, `scan` what the scan knows before each, `stroke` the places that one token marks, `table` the masks.
 
 mod scan;
+mod stroke;
+mod table;
 mod token;
 
-use crate::scan::Scan;
 use crate::scan::begin_scan;
 use crate::scan::fits;
 use crate::scan::is_ended;
 use crate::scan::step_over;
+use crate::stroke::Which;
+use crate::stroke::stroke_of;
+use crate::table::blank_table;
+use crate::table::paint;
 use crate::token::Token;
 use crate::token::read_kind;
 ghost use mathlib.Core.Path.{_≡_};
 ghost use Prim.Native.Nat.{_<_, max};
-ghost use Rattle.tape.specs.Tapes.{deeperBy, shapeOf};
+ghost use Rattle.tape.specs.Tapes.{deeperBy, shapeOf, tableOf};
+ghost use Rattle.tape.specs.Strokes.{whichOf};
 ghost use Rattle.tape.specs.Tokens.{tokenOf};
 
 // The first `length` of the kinds are a tree's tokens: 0 to 3 a letter, taken once, `?`, `*` or `+`; 4 an open, 5 a bar, 6 a close.
@@ -77,4 +83,31 @@ pub fn well_formed(tape: Tape) -> Shape
     } else {
         Shape::Other
     }
+}
+
+// Lay out: the masks of one kind, for each depth. Where the tape is not a tree's, none of them has a state.
+fn lay(tape: Tape, which: Which) -> [[u64; 8]; 9]
+    ensures { λ r. ⌜ r ≡ tableOf tape (whichOf which) ⌝ }
+{
+    let kinds = tape.kinds;
+    let length = tape.length;
+    if length > 511 {
+        return blank_table();
+    }
+    let mut scan = begin_scan();
+    let mut table = blank_table();
+    let mut i: usize = 0;
+    while i < length {
+        let token = read_kind(kinds[i]);
+        if !fits(scan, token) {
+            return blank_table();
+        }
+        let stroke = stroke_of(scan, token, which);
+        let painted = paint(table, stroke);
+        table = painted;
+        let next = step_over(scan, token);
+        scan = next;
+        i += 1;
+    }
+    if is_ended(scan) { table } else { blank_table() }
 }

@@ -7,3 +7,5 @@ pub mod Within
 pub mod Along
 pub mod Reaching
 pub mod Painting
+pub mod Filling
+pub mod Joins

@@ -4,3 +4,4 @@ pub mod Scans
 pub mod Tapes
 pub mod Strokes
 pub mod Tables
+pub mod Joins

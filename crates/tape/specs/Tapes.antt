@@ -4,11 +4,13 @@ use mathlib.Core.List.{List, [], _∷_}
 use Prim.Native.Nat.{ℕ, suc, max}
 use lib.Dec.{leb}
 use lib.ListN.{take}
-use Rattle.model.specs.Models.LayOut.{begin, reach, valid, Which}
+use Rattle.model.specs.Models.LayOut.{begin, entering, leaving, reach, valid, Which}
 use Rattle.model.specs.Models.Tokens.{aBar, aClose, aLetter, anOpen}
 use Rattle.model.specs.Models.Tokens as model
+use Rattle.tape.specs.Joins.{joinTables}
 use Rattle.tape.specs.Tables.{blank, paintAll, Table}
 use Rattle.tape.specs.Tokens.{readKind, tokenOf}
+use Rattle.tape.specs.declared.join.Join.the-variants.{Either, Only}
 use Rattle.tape.specs.declared.Shape.{Shape}
 use Rattle.tape.specs.declared.Shape.the-variants.{Other, Tree}
 use Rattle.tape.specs.declared.Tape.{Tape}
@@ -38,3 +40,13 @@ deeperBy deepest depth aClose = deepest
 -- LAY OUT: the masks of kind w; none has a state where the tape is not a tree's
 abbrev pub tableOf : Tape → Which → Table
 tableOf t w = cond (isTree t) (paintAll (tokensOf t) begin w blank) blank
+
+-- propagate's masks from the states that its edges leave and those that they enter
+abbrev pub propagateBlockTable : Tape → Table
+propagateBlockTable t = joinTables Either (tableOf t leaving) (tableOf t entering)
+
+abbrev pub propagateSourceTable : Tape → Table
+propagateSourceTable t = joinTables Only (tableOf t leaving) (tableOf t entering)
+
+abbrev pub propagateTargetTable : Tape → Table
+propagateTargetTable t = joinTables Only (tableOf t entering) (tableOf t leaving)

@@ -1,20 +1,19 @@
 -- A loop over a tape, as it goes: what the scan before token i finds of the tokens from i on is what the whole tape is.
-use mathlib.Core.Path.{_≡_, refl, sym, ap, ap₂, _∙_, subst}
-use mathlib.Core.Bool.{Bool, true, false, _&&_, cond}
+use mathlib.Core.Path.{_≡_, sym, ap, ap₂, _∙_, subst}
+use mathlib.Core.Bool.{Bool, true, false, _&&_}
 use mathlib.Core.List.{List, [], _∷_}
-use Prim.Native.Nat.{ℕ, suc, _+_, _≤_, _<_, max}
+use Prim.Native.Nat.{ℕ, suc, _+_, _≤_, _<_}
 use native.Mathlib.Numerals.{add-one}
 use native.Mathlib.Omega.{arith}
 use borrow.Author.Tests.{le-leb, lt-leb}
 use lib.Dec.{T}
 use lib.ListN.{drop, drop-of-length-le, getD, length, take}
 use lib.Seq.{drop-cons, getD-take, length-take-le}
-use Rattle.model.specs.Models.LayOut.{begin, check, reach, step, valid}
+use Rattle.model.specs.Models.LayOut.{begin, check, step, valid}
 use Rattle.model.specs.Models.LayOut as model
-use Rattle.model.specs.Models.Tokens.{aBar, aClose, aLetter, anOpen}
 use Rattle.model.specs.Models.Tokens as tokens
 use Rattle.tape.specs.Scans.{isEnded, Ready, Sane, scanOf}
-use Rattle.tape.specs.Tapes.{deeperBy, isTree, readKinds, tokensOf}
+use Rattle.tape.specs.Tapes.{isTree, readKinds, tokensOf}
 use Rattle.tape.specs.Tokens.{readKind, tokenOf}
 use Rattle.tape.specs.declared.scan.Scan.{Scan}
 use Rattle.tape.specs.declared.Tape.{Tape}

@@ -9,3 +9,12 @@ pub mod Reaching
 pub mod Painting
 pub mod Filling
 pub mod Joins
+pub mod RowBits
+pub mod TableBits
+pub mod Marks
+pub mod Painted
+pub mod Bare
+pub mod Deep
+pub mod EdgeSets
+pub mod OfTree
+pub mod FirstWords

@@ -4,7 +4,7 @@ use mathlib.Core.List.{List}
 use Prim.Native.Nat.{ℕ, _-_, _<_}
 use Rattle.model.specs.Models.LayOut as model
 use Rattle.model.specs.Models.Tokens.{aBar, aClose}
-use Rattle.tape.specs.Scans.{frameOf, scanOf, stackOf}
+use Rattle.tape.specs.Scans.{frameOf, scanOf}
 use Rattle.tape.specs.Strokes.{barStroke, barStrokeIn, closeStroke, closeStrokeIn, strokeOf}
 use Rattle.tape.specs.declared.scan.Scan.{Scan}
 use Rattle.tape.proofs.Scans.{length-stack, top-is, topFrame}

@@ -1,5 +1,5 @@
 -- JOINS: two tables made one, word by word.
-use mathlib.Core.List.{List, [], _∷_}
+use mathlib.Core.List.{[], _∷_}
 use Prim.Native.Nat.{ℕ, _-_, _^_}
 use lib.Bits.{bitAnd, bitOr}
 use Rattle.model.specs.Models.Words.{eachWord}

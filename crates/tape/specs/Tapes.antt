@@ -1,9 +1,12 @@
 -- TAPES: the tokens on a tape, which tapes are a tree's, and the masks laid out for them.
+use mathlib.Core.Path.{_≡_}
 use mathlib.Core.Bool.{Bool, _&&_, cond}
 use mathlib.Core.List.{List, [], _∷_}
 use Prim.Native.Nat.{ℕ, suc, max}
 use lib.Dec.{leb}
-use lib.ListN.{take}
+use lib.ListN.{length, take}
+use Rattle.model.specs.Tree.{once, option, plus, star}
+use Rattle.model.specs.Tree as tree
 use Rattle.model.specs.Models.LayOut.{begin, entering, leaving, reach, valid, Which}
 use Rattle.model.specs.Models.Tokens.{aBar, aClose, aLetter, anOpen}
 use Rattle.model.specs.Models.Tokens as model
@@ -21,6 +24,25 @@ readKinds (k ∷ ks) = tokenOf (readKind k) ∷ readKinds ks
 
 abbrev pub tokensOf : Tape → List model.Token
 tokensOf t = readKinds (take (t .length) (t .kinds))
+
+-- the numbers that stand for a tree's tokens
+abbrev pub kindOf : model.Token → ℕ
+kindOf (aLetter c once) = 0
+kindOf (aLetter c option) = 1
+kindOf (aLetter c star) = 2
+kindOf (aLetter c plus) = 3
+kindOf anOpen = 4
+kindOf aBar = 5
+kindOf aClose = 6
+
+abbrev pub kindsOf : List model.Token → List ℕ
+kindsOf [] = []
+kindsOf (y ∷ ys) = kindOf y ∷ kindsOf ys
+
+-- the tape of a tree
+pub record TapeOf (s : tree.Tree) (t : Tape) : Type 0 where
+  pub long : t .length ≡ length (model.tokens s [])
+  pub kinds-are : take (t .length) (t .kinds) ≡ kindsOf (model.tokens s [])
 
 -- at most 511 tokens, which are those of a tree of depth at most 8
 abbrev pub isTree : Tape → Bool

@@ -1,5 +1,4 @@
 -- TOKENS OF A TAPE: what the code's tokens and numbers stand for in the model.
-use mathlib.Core.List.{List, map}
 use Prim.Native.Nat.{ℕ, zero, suc}
 use Rattle.model.specs.Models.Tokens.{aBar, aClose, aLetter, anOpen}
 use Rattle.model.specs.Models.Tokens as model

@@ -1,6 +1,6 @@
 -- `deeper`: only an open leads deeper, and `depth + 1` is its successor.
 use mathlib.Core.Path.{sym, ap, _∙_}
-use Prim.Native.Nat.{ℕ, max}
+use Prim.Native.Nat.{max}
 use native.Mathlib.Numerals.{add-one}
 use borrow.Author.Needs.{needs}
 use Rattle.tape.proofs.deeper.Statement.{statement}

@@ -1,7 +1,7 @@
 -- `lay`: before each token the scan finds of what is still to come what the whole tape is, and what is painted and still to come make the whole.
 use mathlib.Core.Bool.{Bool, cond}
-use mathlib.Core.Path.{_≡_, sym, ap, ap₂, _∙_, subst}
-use Prim.Native.Nat.{ℕ, _-_}
+use mathlib.Core.Path.{sym, ap, ap₂, _∙_, subst}
+use Prim.Native.Nat.{_-_}
 use native.Mathlib.Omega.{arith}
 use borrow.Author.Needs.{needs}
 use borrow.Author.Tests.{not-false, not-true}
@@ -13,7 +13,7 @@ use Rattle.tape.proofs.Within.{stroke-within, Within}
 use Rattle.tape.proofs.lay.Statement.{statement}
 use Rattle.tape.proofs.lay.Tie as tie
 use Rattle.tape.specs.Scans.{scanOf}
-use Rattle.tape.specs.Strokes.{strokeOf, whichOf}
+use Rattle.tape.specs.Strokes.{whichOf}
 use Rattle.tape.specs.Tables.{blank, paintAll, paintStroke, Table}
 use Rattle.tape.specs.Tapes.{tokensOf}
 use Rattle.tape.specs.Tokens.{tokenOf}

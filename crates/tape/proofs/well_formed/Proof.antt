@@ -1,6 +1,6 @@
 -- `well_formed`: before each token the scan finds of what is still to come what the whole tape is, and the largest depth so far.
 use mathlib.Core.Bool.{Bool, cond}
-use mathlib.Core.Path.{_≡_, sym, ap, ap₂, _∙_}
+use mathlib.Core.Path.{sym, ap, ap₂, _∙_}
 use Prim.Native.Nat.{ℕ, _-_}
 use native.Mathlib.Omega.{arith}
 use borrow.Author.Needs.{needs}
@@ -13,7 +13,6 @@ use Rattle.tape.proofs.well_formed.Statement.{statement}
 use Rattle.tape.proofs.well_formed.Tie as tie
 use Rattle.tape.specs.Tapes.{tokensOf}
 use Rattle.tape.specs.declared.Shape.the-variants.{Other, Tree}
-use Rattle.tape.specs.declared.Shape.{Shape}
 
 abbrev Inv-loop : tie.InvT-loop
 Inv-loop kinds length scan₀ deepest₀ i₀ scan deepest i = Along (tapeOf kinds length) scan i × Reaching (tapeOf kinds length) scan i deepest

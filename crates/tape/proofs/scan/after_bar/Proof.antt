@@ -1,6 +1,5 @@
 -- `scan::after_bar`: the frame on top is the next alternative's, those below it stay.
 use mathlib.Core.Path.{_≡_, sym, _∙_}
-use Prim.Native.Nat.{_<_}
 use native.Mathlib.Omega.{arith}
 use borrow.Author.Needs.{needs}
 use lib.ListN.{length, length-map}

@@ -1,6 +1,6 @@
 -- `stroke::stroke_of`: a token that fits says how many unions are open, and each kind of token has its stroke.
 use mathlib.Core.Path.{sym, ap, _∙_}
-use Prim.Native.Nat.{ℕ, _<_, _≤_}
+use Prim.Native.Nat.{ℕ}
 use native.Mathlib.Omega.{arith}
 use borrow.Author.Needs.{needs}
 use Rattle.tape.proofs.Scans.{length-stack, ready-bar, ready-close, ready-depth, ready-top}

@@ -1,8 +1,6 @@
 -- `table::paint`: the states from the place reached on, marked in what is painted so far, make the whole run.
-use mathlib.Core.List.{List}
 use mathlib.Core.Path.{_≡_, refl, sym, ap, _∙_}
-use Prim.Native.Nat.{ℕ, _+_, _-_, _≤_, _<_}
-use native.Mathlib.Omega.{arith}
+use Prim.Native.Nat.{_+_, _-_, _≤_, _<_}
 use borrow.Author.Needs.{needs}
 use Rattle.tape.proofs.Painting.{run-end, run-step}
 use Rattle.tape.proofs.table.paint.Statement.{statement}

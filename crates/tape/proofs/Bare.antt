@@ -1,0 +1,74 @@
+-- A token and the number that stands for it do the same: only the letters' classes are lost, which neither the scan nor lay out looks at.
+use mathlib.Core.Path.{_≡_, refl, ap, ap₂, _∙_}
+use mathlib.Core.Bool.{_&&_, _||_}
+use mathlib.Core.List.{List, [], _∷_}
+use Prim.Native.Nat.{ℕ, suc, max}
+use lib.ListN.{length}
+use Rattle.model.specs.Tree.{once, option, plus, star}
+use Rattle.model.specs.Models.LayOut.{check, layOut, mark, reach, Scan, step, valid, Which}
+use Rattle.model.specs.Models.Tokens.{aBar, aClose, aLetter, anOpen, Token}
+use Rattle.tape.specs.Tapes.{kindOf, kindsOf, readKinds}
+use Rattle.tape.specs.Tokens.{readKind, tokenOf}
+
+-- the token without its class
+abbrev pub bare : Token → Token
+bare (aLetter c r) = aLetter 0 r
+bare anOpen = anOpen
+bare aBar = aBar
+bare aClose = aClose
+
+read-back : (y : Token) → tokenOf (readKind (kindOf y)) ≡ bare y
+read-back (aLetter c once) = refl
+read-back (aLetter c option) = refl
+read-back (aLetter c star) = refl
+read-back (aLetter c plus) = refl
+read-back anOpen = refl
+read-back aBar = refl
+read-back aClose = refl
+
+bare-step : (y : Token) (q : Scan) → step (bare y) q ≡ step y q
+bare-step (aLetter c r) q = refl
+bare-step anOpen q = refl
+bare-step aBar q = refl
+bare-step aClose q = refl
+
+bare-mark : (y : Token) (q : Scan) (w : Which) (k x : ℕ) → mark (bare y) q w k x ≡ mark y q w k x
+bare-mark (aLetter c r) q w k x = refl
+bare-mark anOpen q w k x = refl
+bare-mark aBar q w k x = refl
+bare-mark aClose q w k x = refl
+
+bare-check : (y : Token) (q : Scan) → check (bare y) q ≡ check y q
+bare-check (aLetter c r) q = refl
+bare-check anOpen q = refl
+bare-check aBar q = refl
+bare-check aClose q = refl
+
+abbrev pub bares : List Token → List Token
+bares [] = []
+bares (y ∷ ys) = bare y ∷ bares ys
+
+pub read-kinds : (l : List Token) → readKinds (kindsOf l) ≡ bares l
+read-kinds [] = refl
+read-kinds (y ∷ ys) = ap₂ (λ (z : Token) (m : List Token). z ∷ m) (read-back y) (read-kinds ys)
+
+-- ---- so do rows of them
+pub bares-length : (l : List Token) → length (bares l) ≡ length l
+bares-length [] = refl
+bares-length (y ∷ ys) = ap suc (bares-length ys)
+
+pub bares-valid : (l : List Token) (q : Scan) → valid (bares l) q ≡ valid l q
+bares-valid [] q = refl
+bares-valid (y ∷ ys) q = ap₂ _&&_ (bare-check y q) (ap (valid (bares ys)) (bare-step y q) ∙ bares-valid ys (step y q))
+
+pub bares-lay : (l : List Token) (q : Scan) (w : Which) (k x : ℕ) → layOut (bares l) q w k x ≡ layOut l q w k x
+bares-lay [] q w k x = refl
+bares-lay (y ∷ ys) q w k x =
+    ap₂ _||_ (bare-mark y q w k x) (ap (λ (z : Scan). layOut (bares ys) z w k x) (bare-step y q) ∙ bares-lay ys (step y q) w k x)
+
+pub bares-reach : (l : List Token) (q : Scan) → reach (bares l) q ≡ reach l q
+bares-reach [] q = refl
+bares-reach (aLetter c r ∷ ys) q = bares-reach ys (step (aLetter c r) q)
+bares-reach (anOpen ∷ ys) q = ap (max (suc (length (q .stack)))) (bares-reach ys (step anOpen q))
+bares-reach (aBar ∷ ys) q = bares-reach ys (step aBar q)
+bares-reach (aClose ∷ ys) q = bares-reach ys (step aClose q)

@@ -1,0 +1,20 @@
+-- The laws that the functions' proofs cite.
+pub mod Tokens
+pub mod Scans
+pub mod Sane
+pub mod Strokes
+pub mod Within
+pub mod Along
+pub mod Reaching
+pub mod Painting
+pub mod Filling
+pub mod Joins
+pub mod RowBits
+pub mod TableBits
+pub mod Marks
+pub mod Painted
+pub mod Bare
+pub mod Deep
+pub mod EdgeSets
+pub mod OfTree
+pub mod FirstWords

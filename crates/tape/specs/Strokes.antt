@@ -1,0 +1,102 @@
+-- STROKES: the places that one token marks in the masks of one kind are a run of states at one depth. `Models.LayOut` has the same places as sets.
+use mathlib.Core.Bool.{Bool, cond, _||_}
+use mathlib.Core.List.{List, [], _∷_}
+use Prim.Native.Nat.{ℕ, _+_}
+use lib.ListN.{length}
+use Rattle.model.specs.Tree.{canLoop, canSkip, Repeat}
+use Rattle.model.specs.Models.LayOut.{entering, Frame, gather-block, gather-source, gather-target, leaving, letter-place, loop-place, Scan, scatter-block, scatter-source, scatter-target}
+use Rattle.model.specs.Models.LayOut as model
+use Rattle.model.specs.Models.Tokens.{aBar, aClose, aLetter, anOpen, Token}
+use Rattle.tape.specs.declared.stroke.Stroke.{Stroke}
+use Rattle.tape.specs.declared.stroke.Which.{Which}
+use Rattle.tape.specs.declared.stroke.Which.the-variants.{Entering, GatherBlock, GatherSource, GatherTarget, Leaving, LetterPlace, LoopPlace, ScatterBlock, ScatterSource, ScatterTarget}
+
+abbrev pub whichOf : Which → model.Which
+whichOf LetterPlace = letter-place
+whichOf LoopPlace = loop-place
+whichOf ScatterBlock = scatter-block
+whichOf ScatterSource = scatter-source
+whichOf ScatterTarget = scatter-target
+whichOf GatherBlock = gather-block
+whichOf GatherSource = gather-source
+whichOf GatherTarget = gather-target
+whichOf Leaving = leaving
+whichOf Entering = entering
+
+-- the states from a to z less 1 at depth k; none; one
+abbrev pub stroke : ℕ → ℕ → ℕ → Stroke
+stroke k a z = record { row = k; from = a; to = z }
+
+abbrev pub noStroke : Stroke
+noStroke = stroke 0 0 0
+
+abbrev pub oneState : ℕ → ℕ → Stroke
+oneState k x = stroke k x (x + 1)
+
+-- a letter from state t at depth d
+abbrev pub letterStroke : Repeat → ℕ → ℕ → model.Which → Stroke
+letterStroke r t d letter-place = oneState 0 (t + 1)
+letterStroke r t d loop-place = cond (canLoop r) (oneState 0 (t + 1)) noStroke
+letterStroke r t d scatter-block = noStroke
+letterStroke r t d scatter-source = noStroke
+letterStroke r t d scatter-target = noStroke
+letterStroke r t d gather-block = noStroke
+letterStroke r t d gather-source = noStroke
+letterStroke r t d gather-target = noStroke
+letterStroke r t d leaving = cond (canSkip r) (oneState d t) noStroke
+letterStroke r t d entering = cond (canSkip r) (oneState d (t + 1)) noStroke
+
+-- the open of a union that starts in t at depth d
+abbrev pub openStroke : ℕ → ℕ → model.Which → Stroke
+openStroke t d letter-place = noStroke
+openStroke t d loop-place = noStroke
+openStroke t d scatter-block = noStroke
+openStroke t d scatter-source = oneState d t
+openStroke t d scatter-target = oneState d (t + 1)
+openStroke t d gather-block = noStroke
+openStroke t d gather-source = noStroke
+openStroke t d gather-target = noStroke
+openStroke t d leaving = noStroke
+openStroke t d entering = noStroke
+
+-- a bar after the alternative that ends in z, of a union at depth d
+abbrev pub barStroke : ℕ → ℕ → model.Which → Stroke
+barStroke z d letter-place = noStroke
+barStroke z d loop-place = noStroke
+barStroke z d scatter-block = noStroke
+barStroke z d scatter-source = noStroke
+barStroke z d scatter-target = oneState d (z + 1)
+barStroke z d gather-block = noStroke
+barStroke z d gather-source = oneState d z
+barStroke z d gather-target = noStroke
+barStroke z d leaving = noStroke
+barStroke z d entering = noStroke
+
+-- the close of the union f at depth d after the alternative that ends in z, where c says whether that alternative can be empty
+abbrev pub closeStroke : Frame → ℕ → ℕ → Bool → model.Which → Stroke
+closeStroke f z d c letter-place = noStroke
+closeStroke f z d c loop-place = noStroke
+closeStroke f z d c scatter-block = oneState d (f .alternative + 1)
+closeStroke f z d c scatter-source = noStroke
+closeStroke f z d c scatter-target = noStroke
+closeStroke f z d c gather-block = stroke d (cond (f .barred) (f .firstEnd) z) (z + 1)
+closeStroke f z d c gather-source = oneState d z
+closeStroke f z d c gather-target = oneState d (z + 1)
+closeStroke f z d c leaving = cond (f .emptyBefore || c) (oneState d (f .start)) noStroke
+closeStroke f z d c entering = cond (f .emptyBefore || c) (oneState d (z + 1)) noStroke
+
+-- by the open unions
+abbrev pub barStrokeIn : ℕ → List Frame → model.Which → Stroke
+barStrokeIn z [] w = noStroke
+barStrokeIn z (f ∷ st) w = barStroke z (length st) w
+
+abbrev pub closeStrokeIn : ℕ → Bool → List Frame → model.Which → Stroke
+closeStrokeIn z c [] w = noStroke
+closeStrokeIn z c (f ∷ st) w = closeStroke f z (length st) c w
+
+-- WHAT A TOKEN MARKS
+abbrev pub strokeOf : Token → Scan → model.Which → Stroke
+strokeOf (aLetter c r) q w = letterStroke r (q .position) (length (q .stack)) w
+strokeOf anOpen q w = openStroke (q .position) (length (q .stack)) w
+strokeOf aBar q w = barStrokeIn (q .position) (q .stack) w
+strokeOf aClose q w = closeStrokeIn (q .position) (q .canBeEmpty) (q .stack) w

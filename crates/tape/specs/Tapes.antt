@@ -1,0 +1,74 @@
+-- TAPES: the tokens on a tape, which tapes are a tree's, and the masks laid out for them.
+use mathlib.Core.Path.{_≡_}
+use mathlib.Core.Bool.{Bool, _&&_, cond}
+use mathlib.Core.List.{List, [], _∷_}
+use Prim.Native.Nat.{ℕ, suc, max}
+use lib.Dec.{leb}
+use lib.ListN.{length, take}
+use Rattle.model.specs.Tree.{once, option, plus, star}
+use Rattle.model.specs.Tree as tree
+use Rattle.model.specs.Models.LayOut.{begin, entering, leaving, reach, valid, Which}
+use Rattle.model.specs.Models.Tokens.{aBar, aClose, aLetter, anOpen}
+use Rattle.model.specs.Models.Tokens as model
+use Rattle.tape.specs.Joins.{joinTables}
+use Rattle.tape.specs.Tables.{blank, paintAll, Table}
+use Rattle.tape.specs.Tokens.{readKind, tokenOf}
+use Rattle.tape.specs.declared.join.Join.the-variants.{Either, Only}
+use Rattle.tape.specs.declared.Shape.{Shape}
+use Rattle.tape.specs.declared.Shape.the-variants.{Other, Tree}
+use Rattle.tape.specs.declared.Tape.{Tape}
+
+abbrev pub readKinds : List ℕ → List model.Token
+readKinds [] = []
+readKinds (k ∷ ks) = tokenOf (readKind k) ∷ readKinds ks
+
+abbrev pub tokensOf : Tape → List model.Token
+tokensOf t = readKinds (take (t .length) (t .kinds))
+
+-- the numbers that stand for a tree's tokens
+abbrev pub kindOf : model.Token → ℕ
+kindOf (aLetter c once) = 0
+kindOf (aLetter c option) = 1
+kindOf (aLetter c star) = 2
+kindOf (aLetter c plus) = 3
+kindOf anOpen = 4
+kindOf aBar = 5
+kindOf aClose = 6
+
+abbrev pub kindsOf : List model.Token → List ℕ
+kindsOf [] = []
+kindsOf (y ∷ ys) = kindOf y ∷ kindsOf ys
+
+-- the tape of a tree
+pub record TapeOf (s : tree.Tree) (t : Tape) : Type 0 where
+  pub long : t .length ≡ length (model.tokens s [])
+  pub kinds-are : take (t .length) (t .kinds) ≡ kindsOf (model.tokens s [])
+
+-- at most 511 tokens, which are those of a tree of depth at most 8
+abbrev pub isTree : Tape → Bool
+isTree t = leb (t .length) 511 && valid (tokensOf t) begin
+
+-- WHAT A TAPE IS: a tree's tokens and their depth, or anything else
+abbrev pub shapeOf : Tape → Shape
+shapeOf t = cond (isTree t) (Tree (reach (tokensOf t) begin)) Other
+
+-- an open leads one deeper
+abbrev pub deeperBy : ℕ → ℕ → model.Token → ℕ
+deeperBy deepest depth (aLetter c r) = deepest
+deeperBy deepest depth anOpen = max deepest (suc depth)
+deeperBy deepest depth aBar = deepest
+deeperBy deepest depth aClose = deepest
+
+-- LAY OUT: the masks of kind w; none has a state where the tape is not a tree's
+abbrev pub tableOf : Tape → Which → Table
+tableOf t w = cond (isTree t) (paintAll (tokensOf t) begin w blank) blank
+
+-- propagate's masks from the states that its edges leave and those that they enter
+abbrev pub propagateBlockTable : Tape → Table
+propagateBlockTable t = joinTables Either (tableOf t leaving) (tableOf t entering)
+
+abbrev pub propagateSourceTable : Tape → Table
+propagateSourceTable t = joinTables Only (tableOf t leaving) (tableOf t entering)
+
+abbrev pub propagateTargetTable : Tape → Table
+propagateTargetTable t = joinTables Only (tableOf t entering) (tableOf t leaving)

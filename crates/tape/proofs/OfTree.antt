@@ -18,7 +18,7 @@ use Rattle.model.proofs.Image.Rows.{set-same}
 use Rattle.model.proofs.Image.Tokens.{length-tokens}
 use Rattle.model.proofs.Image.Valid.{good-valid, GoodUnions}
 use Rattle.model.proofs.Laws.Bool.{and-both, is-not, is-true}
-use Rattle.model.proofs.Words.Full.{NonEmpty}
+use Rattle.model.proofs.Laws.Trees.{NonEmpty}
 use Rattle.tape.specs.Tapes.{isTree, propagateBlockTable, propagateSourceTable, propagateTargetTable, readKinds, shapeOf, tableOf, TapeOf, tokensOf}
 use Rattle.tape.specs.declared.Shape.the-variants.{Other, Tree}
 use Rattle.tape.specs.declared.Tape.{Tape}

@@ -1,0 +1,133 @@
+-- THE MASKS OF WORK HOLD THE TREE'S SETS, for words that are the tree's image: they are the image's own masks with zeros above. And such words
+-- have a shape.
+use mathlib.Core.Path.{_≡_, refl, sym, ap, _∙_, subst}
+use mathlib.Core.Bool.{Bool, true, false}
+use mathlib.Core.List.{List, [], _∷_, _++_}
+use Prim.Native.Nat.{ℕ, zero, suc, _+_, _-_, _*_, _/_, _≤_, _<_}
+use native.Mathlib.Nat.{mul-add, not-suc-le-zero}
+use native.Mathlib.Omega.{arith}
+use lib.Dec.{eqb·suc-zero}
+use lib.ListN.{drop, getD, length, replicate, take}
+use Rattle.model.specs.Answers.{ImageOf}
+use Rattle.model.specs.Bits.{bit}
+use Rattle.model.specs.Edges.{altsEnd, depth, states}
+use Rattle.model.specs.Image.{width}
+use Rattle.model.specs.Models.Apart.{chunk, gatherIn, lettersIn, propagateIn, repeatsIn, scatterIn}
+use Rattle.model.specs.Models.Words.{value}
+use Rattle.model.specs.Tree.{end, letter, Seq, Tree, union}
+use Rattle.model.proofs.Ends.Run.{letterSet, loopSet, startSet}
+use Rattle.model.proofs.Image.OfEdges.{image-is}
+use Rattle.model.proofs.Image.Sections.{length-assembled}
+use Rattle.model.proofs.Image.Sets.{arcImage, treeSet}
+use Rattle.model.proofs.Language.Arcs.{arcs}
+use Rattle.model.proofs.Language.Languages.{altsEnd-lt, seqEnd-le}
+use Rattle.model.proofs.Laws.Bits.{bit-zero}
+use Rattle.model.proofs.Laws.Trees.{NonEmpty}
+use Rattle.model.proofs.Reading.WellFormed.{rule-well}
+use Rattle.model.proofs.Words.Holds.{Holds, pad-holds}
+use Rattle.model.proofs.Words.ImageRun.{image-carry}
+use Rattle.model.proofs.Words.Run.{Carry}
+use Rattle.run.specs.Work.{gatherAt, gatherTable, masksOf, propagateAt, propagateTable, rowAt, scatterAt, scatterTable, shaped, startWords, tableAt}
+use Rattle.run.proofs.Image.Address.{chunk-at, gather-at, propagate-at, repeats-at, scatter-at, three-at}
+use Rattle.run.proofs.Laws.Rows.{table-row}
+use Rattle.run.proofs.Laws.Shape.{Shape, shape-is}
+
+-- the mask of state 0: one word, and zeros above
+start-bit : (x : ℕ) → bit (value (1 ∷ [])) x ≡ startSet x
+start-bit zero = refl
+start-bit (suc x) = bit-zero x ∙ sym (eqb·suc-zero x)
+
+start-holds : (m : ℕ) → 0 < m → Holds m 8 startWords startSet
+start-holds m h = pad-holds m 1 7 (1 ∷ []) startSet (record {
+  near = record { len = refl; fit = (omega arith, tt); bits = λ x l. start-bit x };
+  none = λ x l. go x (omega arith);
+})
+  where
+    go : (x : ℕ) → 0 < x → bit (value (1 ∷ [])) x ≡ false
+    go zero l = absurd (not-suc-le-zero l)
+    go (suc x) l = bit-zero x
+
+module _ (t : Tree) where
+  abbrev m : ℕ
+  m = states t
+
+  abbrev W : ℕ
+  W = width m
+
+  abbrev d : ℕ
+  d = depth t
+
+  abbrev A : List ℕ
+  A = arcImage t
+
+  module _ (few : m ≤ 512) where
+    -- a mask of the image as eight words
+    padded : (xs : List ℕ) (at : ℕ) (f : ℕ → Bool) → xs ≡ take W (drop at A) → Holds m W xs f → Holds m 8 (rowAt A at W) f
+    padded xs at f e H =
+        let eight : W + (8 - W) ≡ 8 = omega arith in
+        subst (λ (n : ℕ). Holds m n (rowAt A at W) f) eight
+        (subst (λ (l : List ℕ). Holds m (W + (8 - W)) (l ++ replicate (8 - W) 0) f) e (pad-holds m W (8 - W) xs f H))
+
+    -- row k of a table that begins where the section S does
+    tabled : (S : List ℕ) (at n k j : ℕ) (f : ℕ → Bool) → S ≡ drop at A → k < n → j < 3
+        → Holds m W (chunk W j (chunk (3 * W) k S)) f → Holds m 8 (getD (tableAt A at W n j) k []) f
+    tabled S at n k j f e h l H =
+        subst (λ (r : List ℕ). Holds m 8 r f) (sym (table-row A at W j n k h))
+        (padded (chunk W j (chunk (3 * W) k S)) (at + W * (3 * k + j)) f (three-at W k j at S A l e) H)
+
+    scattered : (k j : ℕ) (f : ℕ → Bool) → k < d → j < 3 → Holds m W (chunk W j (chunk (3 * W) k (scatterIn A))) f → Holds m 8 (getD (scatterTable A j) k []) f
+    scattered k j f h l = tabled (scatterIn A) (scatterAt W) d k j f (scatter-at A) h l
+
+    gathered : (k j : ℕ) (f : ℕ → Bool) → k < d → j < 3 → Holds m W (chunk W j (chunk (3 * W) k (gatherIn A))) f → Holds m 8 (getD (gatherTable A j) k []) f
+    gathered k j f h l = tabled (gatherIn A) (gatherAt W d) d k j f (gather-at A) h l
+
+    propagated : (k j : ℕ) (f : ℕ → Bool) → k ≤ d → j < 3 → Holds m W (chunk W j (chunk (3 * W) k (propagateIn A))) f → Holds m 8 (getD (propagateTable A j) k []) f
+    propagated k j f h l = tabled (propagateIn A) (propagateAt W d) (d + 1) k j f (propagate-at A) (omega arith) l
+
+    arc-carry : Carry m 8 t (masksOf A)
+    arc-carry =
+        let C = image-carry t in
+        record {
+          room = few;
+          letters = λ b l. padded (chunk W b (lettersIn A)) (5 + W * b) (letterSet (arcs t 0 0) b) (chunk-at W b 5 (lettersIn A) A refl) (C .letters b l);
+          loops = λ b l. padded (chunk W b (repeatsIn A)) (6 + W * (256 + b)) (loopSet (arcs t 0 0) b)
+              (chunk-at W b (6 + W * 256) (repeatsIn A) A (repeats-at A)
+              ∙ ap (λ (n : ℕ). take W (drop n A)) (let e : 6 + W * 256 + W * b ≡ 6 + W * (256 + b) = omega (arith, mul-add W 256 b) in e)) (C .loops b l);
+          scatter-block = λ k l. scattered k 0 _ l (omega arith) (C .scatter-block k l);
+          scatter-source = λ k l. scattered k 1 _ l (omega arith) (C .scatter-source k l);
+          scatter-target = λ k l. scattered k 2 _ l (omega arith) (C .scatter-target k l);
+          gather-block = λ k l. gathered k 0 _ l (omega arith) (C .gather-block k l);
+          gather-source = λ k l. gathered k 1 _ l (omega arith) (C .gather-source k l);
+          gather-target = λ k l. gathered k 2 _ l (omega arith) (C .gather-target k l);
+          propagate-block = λ k l. propagated k 0 _ l (omega arith) (C .propagate-block k l);
+          propagate-source = λ k l. propagated k 1 _ l (omega arith) (C .propagate-source k l);
+          propagate-target = λ k l. propagated k 2 _ l (omega arith) (C .propagate-target k l);
+          start = start-holds m (omega arith);
+        }
+
+  -- a rule's tree has a first item, so at least two states
+  two-states : (s : Seq) → NonEmpty s → 2 ≤ states s
+  two-states end h = absurd h
+  two-states (letter c r s) h = omega (arith, seqEnd-le s 1)
+  two-states (union a s) h = omega (arith, altsEnd-lt a 0, seqEnd-le s (suc (altsEnd a 0)))
+
+  arc-shape : NonEmpty t → m ≤ 512 → d ≤ 8 → Shape A
+  arc-shape f h k = record {
+    some-states = two-states t f;
+    few-states = h;
+    shallow = k;
+    long = length-assembled m W d (letterSet (arcs t 0 0)) (loopSet (arcs t 0 0)) (treeSet t);
+  }
+
+-- ---- words that are an image
+module _ (ws : List ℕ) (t : Tree) (I : ImageOf ws t) where
+  -- they are the image by the arcs
+  pub as-arcs : ws ≡ arcImage t
+  as-arcs = I .laid ∙ image-is t
+
+  pub carried : Carry (states t) 8 t (masksOf ws)
+  carried = subst (λ (z : List ℕ). Carry (states t) 8 t (masksOf z)) (sym as-arcs) (arc-carry t (I .few))
+
+  pub image-shaped : shaped ws ≡ true
+  image-shaped =
+      ap shaped as-arcs ∙ shape-is (arcImage t) (arc-shape t (rule-well (I .is-rule) .full) (I .few) (I .shallow))

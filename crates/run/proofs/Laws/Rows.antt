@@ -1,0 +1,80 @@
+-- MASKS AS THEY LIE IN WORDS, with zeros above, and tables of them: each word of a row, each row of a table, and a table made row by row.
+use mathlib.Core.Path.{_≡_, refl, sym, ap, ap₂, _∙_, subst}
+use mathlib.Core.List.{List, [], _∷_, _++_, append-assoc}
+use Prim.Native.Nat.{ℕ, zero, suc, _+_, _-_, _*_, _≤_, _<_}
+use native.Mathlib.Nat.{add-suc, add-zero, le-of-suc-le-suc, mul-le-mul-left, mul-suc, not-suc-le-zero, suc-add}
+use native.Mathlib.Omega.{arith}
+use lib.ListN.{drop, getD, length, length-append, length-drop, length-replicate, List·getD-eq-default, replicate, set, take}
+use lib.Seq.{getD-drop, getD-take, length-take-le, set-at}
+use Rattle.run.specs.Work.{rowAt, rowsFrom, tableAt}
+
+-- ---- a row: words of zeros above are what lies past the end
+pub pad-word : (xs : List ℕ) (n i : ℕ) → getD (xs ++ replicate n 0) i 0 ≡ getD xs i 0
+pad-word [] zero i = refl
+pad-word [] (suc n) zero = refl
+pad-word [] (suc n) (suc i) = pad-word [] n i
+pad-word (x ∷ xs) n zero = refl
+pad-word (x ∷ xs) n (suc i) = pad-word xs n i
+
+module _ (ws : List ℕ) (at W : ℕ) (fits : at + W ≤ length ws) where
+  own-length : length (take W (drop at ws)) ≡ W
+  own-length = length-take-le W (drop at ws) (omega (arith, length-drop at ws))
+
+  pub row-length : W ≤ 8 → length (rowAt ws at W) ≡ 8
+  row-length h = omega (arith, length-append (take W (drop at ws)) (replicate (8 - W) 0), own-length, length-replicate {A = ℕ} (8 - W) 0)
+
+  pub row-word : (i : ℕ) → i < W → getD (rowAt ws at W) i 0 ≡ getD ws (at + i) 0
+  row-word i h = pad-word (take W (drop at ws)) (8 - W) i ∙ getD-take W (drop at ws) i 0 h ∙ getD-drop at ws i 0
+
+  pub row-above : (i : ℕ) → W ≤ i → getD (rowAt ws at W) i 0 ≡ 0
+  row-above i h = pad-word (take W (drop at ws)) (8 - W) i ∙ List·getD-eq-default (take W (drop at ws)) 0 (let l : length (take W (drop at ws)) ≤ i = omega (arith, own-length) in l)
+
+-- ---- rows one after another
+rows-length : (n k : ℕ) (f : ℕ → List ℕ) → length (rowsFrom n k f) ≡ n
+rows-length zero k f = refl
+rows-length (suc n) k f = ap suc (rows-length n (suc k) f)
+
+rows-last : (n k : ℕ) (f : ℕ → List ℕ) → rowsFrom (suc n) k f ≡ rowsFrom n k f ++ (f (k + n) ∷ [])
+rows-last zero k f = ap (λ (i : ℕ). f i ∷ []) (sym (add-zero k))
+rows-last (suc n) k f =
+    ap (λ (l : List (List ℕ)). f k ∷ l)
+    (rows-last n (suc k) f ∙ ap (λ (i : ℕ). rowsFrom n (suc k) f ++ (f i ∷ [])) (suc-add k n ∙ sym (add-suc k n)))
+
+rows-at : (n a : ℕ) (f : ℕ → List ℕ) (r : List (List ℕ)) (k : ℕ) → k < n → getD (rowsFrom n a f ++ r) k [] ≡ f (a + k)
+rows-at zero a f r k h = absurd (not-suc-le-zero h)
+rows-at (suc n) a f r zero h = ap f (sym (add-zero a))
+rows-at (suc n) a f r (suc k) h = rows-at n (suc a) f r k (le-of-suc-le-suc h) ∙ ap f (suc-add a k ∙ sym (add-suc a k))
+
+-- ---- a table: its rows, and one row more
+module _ (ws : List ℕ) (at W j : ℕ) where
+  abbrev rowOf : ℕ → List ℕ
+  rowOf k = rowAt ws (at + W * (3 * k + j)) W
+
+  pub table-row : (n k : ℕ) → k < n → getD (tableAt ws at W n j) k [] ≡ rowOf k
+  table-row n k h = rows-at n 0 rowOf (replicate (9 - n) (replicate 8 0)) k h ∙ ap rowOf (let e : 0 + k ≡ k = omega arith in e)
+
+  pub table-more : (n : ℕ) → n < 9 → set (tableAt ws at W n j) n (rowOf n) ≡ tableAt ws at W (n + 1) j
+  table-more n h =
+      ap (λ (i : ℕ). set (rowsFrom n 0 rowOf ++ replicate i (replicate 8 0)) n (rowOf n)) left
+      ∙ set-at (rowsFrom n 0 rowOf) (replicate 8 0) rest (rowOf n) n (rows-length n 0 rowOf)
+      ∙ sym (append-assoc (rowsFrom n 0 rowOf) (rowOf n ∷ []) rest)
+      ∙ ap (λ (l : List (List ℕ)). l ++ rest) (ap (λ (i : ℕ). rowsFrom n 0 rowOf ++ (rowOf i ∷ [])) none ∙ sym (rows-last n 0 rowOf))
+      ∙ ap (λ (i : ℕ). rowsFrom i 0 rowOf ++ rest) one
+    where
+      rest : List (List ℕ)
+      rest = replicate (9 - (n + 1)) (replicate 8 0)
+
+      left : 9 - n ≡ suc (9 - (n + 1))
+      left = omega arith
+
+      none : n ≡ 0 + n
+      none = omega arith
+
+      one : suc n ≡ n + 1
+      one = omega arith
+
+-- ---- a row of a table lies within the table's words
+pub within-table : (W n k j : ℕ) → k < n → j < 3 → W * (3 * k + j) + W ≤ W * (3 * n)
+within-table W n k j h l =
+    let le : suc (3 * k + j) ≤ 3 * n = omega arith in
+    omega (arith, mul-suc W (3 * k + j), mul-le-mul-left W le)

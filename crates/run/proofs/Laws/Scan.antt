@@ -1,0 +1,84 @@
+-- THE LOOP OVER A TEXT: what was noted and what is still to come is the whole list of ends, turn by turn.
+use mathlib.Core.Path.{_≡_, refl, sym, ap, ap₂, _∙_, subst}
+use mathlib.Core.Bool.{Bool, true, false}
+use mathlib.Core.List.{List, [], _∷_, _++_}
+use Prim.Native.Nat.{ℕ, zero, suc, _+_, _≤_, _<_}
+use native.Mathlib.Nat.{add-suc, add-zero, suc-add}
+use native.Mathlib.Omega.{arith}
+use lib.ListN.{drop, drop-of-length-le, getD, length, length-append, set}
+use lib.Seq.{drop-cons, length-sets, sets}
+use Rattle.model.specs.Bits.{bit}
+use Rattle.model.specs.Models.Run.{Masks, stepWords}
+use Rattle.model.specs.Models.Words.{value}
+use Rattle.run.specs.Work.{endsFrom, endsWith, noted, Written}
+
+sets-app : (l : List ℕ) (i : ℕ) (xs ys : List ℕ) → sets l i (xs ++ ys) ≡ sets (sets l i xs) (i + length xs) ys
+sets-app l i [] ys = ap (λ (n : ℕ). sets l n ys) (sym (add-zero i))
+sets-app l i (x ∷ xs) ys = sets-app (set l i x) (suc i) xs ys ∙ ap (λ (n : ℕ). sets (sets (set l i x) (suc i) xs) n ys) (suc-add i (length xs) ∙ sym (add-suc i (length xs)))
+
+pub noted-few : (b : Bool) (p : ℕ) → length (noted b p) ≤ 1
+noted-few true p = omega arith
+noted-few false p = omega arith
+
+module _ (M : Masks) (d last : ℕ) (text before : List ℕ) where
+  abbrev to-come : ℕ → List ℕ → List ℕ
+  to-come p live = endsFrom M d last p live (drop p text)
+
+  pub record Scanned (places live : List ℕ) (total p : ℕ) : Type 0 where
+    pub within : p ≤ length text
+    pub few : total ≤ p
+    pub long : length places ≡ length before
+    pub counted : total + length (to-come p live) ≡ length (endsWith M d last text)
+    pub stored : sets places total (to-come p live) ≡ sets before 0 (endsWith M d last text)
+
+  pub scan-begin : (live : List ℕ) → endsFrom M d last 0 live text ≡ endsWith M d last text → Scanned before live 0 0
+  scan-begin live e = record {
+    within = omega arith;
+    few = omega arith;
+    long = refl;
+    counted = (let z : 0 + length (endsFrom M d last 0 live text) ≡ length (endsFrom M d last 0 live text) = omega arith in z) ∙ ap length e;
+    stored = ap (sets before 0) e;
+  }
+
+  -- the place p is noted
+  module _ {places live after : List ℕ} {total p n : ℕ} (hit : Bool) (S : Scanned places live total p) (looked : hit ≡ bit (value live) last)
+      (count : n ≡ length (noted hit p)) (write : after ≡ sets places total (noted hit p)) where
+    abbrev h : Bool
+    h = bit (value live) last
+
+    count′ : n ≡ length (noted h p)
+    count′ = count ∙ ap (λ (b : Bool). length (noted b p)) looked
+
+    write′ : after ≡ sets places total (noted h p)
+    write′ = write ∙ ap (λ (b : Bool). sets places total (noted b p)) looked
+
+    pub scan-next : p < length text → (live′ : List ℕ) → live′ ≡ stepWords M d (getD text p 0) live → Scanned after live′ (total + n) (p + 1)
+    scan-next l live′ e = record {
+      within = omega arith;
+      few = omega (arith, S .few, count′, noted-few h p);
+      long = ap length write′ ∙ length-sets places total (noted h p) ∙ S .long;
+      counted = omega (arith, S .counted, count′, ap length split, length-append (noted h p) rest, ap length same);
+      stored = ap (sets after (total + n)) same ∙ ap₂ (λ (l : List ℕ) (k : ℕ). sets l (total + k) rest) write′ count′
+          ∙ sym (sets-app places total (noted h p) rest) ∙ ap (sets places total) (sym split) ∙ S .stored;
+    }
+      where
+        rest : List ℕ
+        rest = endsFrom M d last (suc p) (stepWords M d (getD text p 0) live) (drop (suc p) text)
+
+        split : to-come p live ≡ noted h p ++ rest
+        split = ap (endsFrom M d last p live) (drop-cons text p 0 l)
+
+        same : to-come (p + 1) live′ ≡ rest
+        same =
+            (let q : p + 1 ≡ suc p = omega arith in ap (λ (k : ℕ). endsFrom M d last k live′ (drop k text)) q)
+            ∙ ap (λ (w : List ℕ). endsFrom M d last (suc p) w (drop (suc p) text)) e
+
+    -- the last place
+    pub scan-end : length text ≤ p → Written (endsWith M d last text) before (total + n) after
+    scan-end l = record {
+      counted = omega (arith, S .counted, count′, ap length whole);
+      stored = write′ ∙ ap (sets places total) (sym whole) ∙ S .stored;
+    }
+      where
+        whole : to-come p live ≡ noted h p
+        whole = ap (endsFrom M d last p live) (drop-of-length-le text l)

@@ -1,0 +1,46 @@
+-- `begin`: the passes from state 0 where there is a shape.
+use mathlib.Core.Path.{_≡_, sym, ap, _∙_}
+use mathlib.Core.Bool.{Bool, cond}
+use Rattle.model.specs.Models.Apart.{depthWord}
+use Rattle.model.specs.Models.Run.{passWords}
+use Rattle.run.specs.Work.{beginWords, masksOf, noWords, startWords}
+use Rattle.run.proofs.Image.Live.{begin-says}
+use borrow.Author.Needs.{needs}
+use Rattle.run.proofs.live.begin.Statement.{statement}
+use Rattle.run.proofs.live.begin.Tie as tie
+
+has-shape-requires : tie.Need-has-shape-requires
+has-shape-requires c κs = search needs
+
+start-requires : tie.Need-start-requires
+start-requires c κs = search needs
+
+pass-of-requires : tie.Need-pass-of-requires
+pass-of-requires c κs = sym (c .before .before .has-shape .ensures) ∙ c .before .if1 .taken
+
+returns : tie.Need-returns
+returns c =
+    let h = c .before .before .before .has-shape in
+    let ws = c .before .before .before .before .before .args .image .now in
+    let X = passWords (masksOf ws) (depthWord ws) in
+    let e : c .pass-of .result .words ≡ beginWords ws =
+    c .pass-of .ensures ∙ ap X (c .before .start .ensures)
+    ∙ sym (ap (λ (b : Bool). cond b (X startWords) noWords) (sym (h .ensures) ∙ c .before .before .if1 .taken)) in
+    (e, begin-says ws (c .pass-of .result .words) e)
+
+none-requires : tie.Need-none-requires
+none-requires c κs = search needs
+
+returns-2 : tie.Need-returns-2
+returns-2 c =
+    let h = c .before .before .has-shape in
+    let ws = c .before .before .before .before .args .image .now in
+    let e : c .none .result .words ≡ beginWords ws =
+    c .none .ensures
+    ∙ sym (ap (λ (b : Bool). cond b (passWords (masksOf ws) (depthWord ws) startWords) noWords) (sym (h .ensures) ∙ c .before .if1 .left)) in
+    (e, begin-says ws (c .none .result .words) e)
+
+pub begin-spec : {M : Type 1} → statement M
+begin-spec =
+    tie.close
+    (tie.spec has-shape-requires start-requires pass-of-requires returns none-requires returns-2)

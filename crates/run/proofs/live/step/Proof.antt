@@ -1,0 +1,65 @@
+-- `step`: the move and the passes where there is a shape.
+use mathlib.Core.Path.{_≡_, refl, sym, ap, _∙_}
+use mathlib.Core.Bool.{Bool, cond}
+use Prim.Native.Nat.{ℕ, _+_, _*_}
+use Rattle.mask.proofs.Laws.Bits.{fit-row}
+use Rattle.model.specs.Models.Apart.{depthWord}
+use Rattle.model.specs.Models.Run.{moveWords, passWords, stepWords}
+use Rattle.run.specs.Work.{masksOf, nextWords, noWords, rowAt, startWords}
+use Rattle.run.proofs.Image.Live.{step-says}
+use Rattle.run.proofs.Laws.Shape.{sections-of}
+use borrow.Author.Needs.{needs}
+use Rattle.run.proofs.live.step.Statement.{statement}
+use Rattle.run.proofs.live.step.Tie as tie
+
+has-shape-requires : tie.Need-has-shape-requires
+has-shape-requires c κs = search needs
+
+width-requires : tie.Need-width-requires
+width-requires c κs = sym (c .before .has-shape .ensures) ∙ c .if1 .taken
+
+moved-requires : tie.Need-moved-requires
+moved-requires c κs =
+    let s = c .before .before .before .before in
+    let S = sections-of (s .args .image .now) (sym (c .before .before .has-shape .ensures) ∙ c .before .if1 .taken) (c .width .ensures) refl in
+    (S .narrow, S .letters)
+
+pass-of-requires : tie.Need-pass-of-requires
+pass-of-requires c κs = sym (c .before .before .before .has-shape .ensures) ∙ c .before .before .if1 .taken
+
+returns : tie.Need-returns
+returns c =
+    let h = c .before .before .before .before .has-shape in
+    let a = c .before .before .before .before .before .before .args in
+    let ws = a .image .now in
+    let e : c .pass-of .result .words ≡ nextWords ws (a .byte) (a .live .words) =
+    c .pass-of .ensures
+    ∙ ap (passWords (masksOf ws) (depthWord ws)) (c .before .moved .ensures
+    ∙ ap (λ (w : ℕ). moveWords (rowAt ws (5 + w * a .byte) w) (rowAt ws (6 + w * (256 + a .byte)) w) startWords (a .live .words)) (c .before .before .width .ensures))
+    ∙ sym (ap (λ (b : Bool). cond b (stepWords (masksOf ws) (depthWord ws) (a .byte) (a .live .words)) noWords) (sym (h .ensures) ∙ c .before .before .before .if1 .taken)) in
+    (e, step-says ws (a .byte) (a .live .words) (c .pass-of .result .words) (search needs) (search needs) (fit-row (a .live .words) (λ k. search needs)) e)
+
+none-requires : tie.Need-none-requires
+none-requires c κs = search needs
+
+returns-2 : tie.Need-returns-2
+returns-2 c =
+    let h = c .before .before .has-shape in
+    let a = c .before .before .before .before .args in
+    let ws = a .image .now in
+    let e : c .none .result .words ≡ nextWords ws (a .byte) (a .live .words) =
+    c .none .ensures
+    ∙ sym (ap (λ (b : Bool). cond b (stepWords (masksOf ws) (depthWord ws) (a .byte) (a .live .words)) noWords) (sym (h .ensures) ∙ c .before .if1 .left)) in
+    (e, step-says ws (a .byte) (a .live .words) (c .none .result .words) (search needs) (search needs) (fit-row (a .live .words) (λ k. search needs)) e)
+
+pub step-spec : {M : Type 1} → statement M
+step-spec =
+    tie.close
+    (tie.spec
+    has-shape-requires
+    width-requires
+    moved-requires
+    pass-of-requires
+    returns
+    none-requires
+    returns-2)

@@ -1,0 +1,26 @@
+use borrow.Author.Needs.{needs}
+use Rattle.run.proofs.passes.gather.Statement.{statement}
+use Rattle.run.proofs.passes.gather.Tie as tie
+use Rattle.run.proofs.passes.gather.Reads as reads
+use Rattle.run.proofs.passes.gather.Lts as lts
+use Rattle.mask.proofs.logic.and.Reads as and-reads
+use Rattle.mask.proofs.logic.or.Reads as or-reads
+use Rattle.mask.proofs.sums.add.Reads as add-reads
+
+and-requires : tie.Need-and-requires
+and-requires c κs = search needs
+
+add-requires : tie.Need-add-requires
+add-requires c κs = search needs
+
+and-requires-2 : tie.Need-and-requires-2
+and-requires-2 c κs = search needs
+
+or-requires : tie.Need-or-requires
+or-requires c κs = search needs
+
+returns : tie.Need-returns
+returns c = cc
+
+pub gather-spec : {M : Type 1} → statement M
+gather-spec = tie.close (tie.spec and-requires add-requires and-requires-2 or-requires returns)

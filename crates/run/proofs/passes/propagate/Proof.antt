@@ -1,0 +1,47 @@
+use borrow.Author.Needs.{needs}
+use Rattle.run.proofs.passes.propagate.Statement.{statement}
+use Rattle.run.proofs.passes.propagate.Tie as tie
+use Rattle.run.proofs.passes.propagate.Reads as reads
+use Rattle.run.proofs.passes.propagate.Lts as lts
+use Rattle.mask.proofs.logic.and.Reads as and-reads
+use Rattle.mask.proofs.logic.complement.Reads as complement-reads
+use Rattle.mask.proofs.logic.or.Reads as or-reads
+use Rattle.mask.proofs.logic.xor.Reads as xor-reads
+use Rattle.mask.proofs.sums.subtract.Reads as subtract-reads
+
+and-requires : tie.Need-and-requires
+and-requires c κs = search needs
+
+or-requires : tie.Need-or-requires
+or-requires c κs = search needs
+
+subtract-requires : tie.Need-subtract-requires
+subtract-requires c κs = search needs
+
+complement-requires : tie.Need-complement-requires
+complement-requires c κs = search needs
+
+xor-requires : tie.Need-xor-requires
+xor-requires c κs = search needs
+
+and-requires-2 : tie.Need-and-requires-2
+and-requires-2 c κs = search needs
+
+or-requires-2 : tie.Need-or-requires-2
+or-requires-2 c κs = search needs
+
+returns : tie.Need-returns
+returns c = cc
+
+pub propagate-spec : {M : Type 1} → statement M
+propagate-spec =
+    tie.close
+    (tie.spec
+    and-requires
+    or-requires
+    subtract-requires
+    complement-requires
+    xor-requires
+    and-requires-2
+    or-requires-2
+    returns)

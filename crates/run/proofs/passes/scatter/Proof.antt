@@ -1,0 +1,27 @@
+use borrow.Author.Needs.{needs}
+use Rattle.run.proofs.passes.scatter.Statement.{statement}
+use Rattle.run.proofs.passes.scatter.Tie as tie
+use Rattle.run.proofs.passes.scatter.Reads as reads
+use Rattle.run.proofs.passes.scatter.Lts as lts
+use Rattle.mask.proofs.logic.and.Reads as and-reads
+use Rattle.mask.proofs.logic.or.Reads as or-reads
+use Rattle.mask.proofs.sums.subtract.Reads as subtract-reads
+
+and-requires : tie.Need-and-requires
+and-requires c κs = search needs
+
+subtract-requires : tie.Need-subtract-requires
+subtract-requires c κs = search needs
+
+and-requires-2 : tie.Need-and-requires-2
+and-requires-2 c κs = search needs
+
+or-requires : tie.Need-or-requires
+or-requires c κs = search needs
+
+returns : tie.Need-returns
+returns c = cc
+
+pub scatter-spec : {M : Type 1} → statement M
+scatter-spec =
+    tie.close (tie.spec and-requires subtract-requires and-requires-2 or-requires returns)

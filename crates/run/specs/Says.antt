@@ -1,0 +1,34 @@
+-- WHAT THE PUBLIC FUNCTIONS SAY OF WORDS THAT ARE AN IMAGE, in the terms of document 01.
+use mathlib.Core.Path.{_≡_}
+use mathlib.Core.Logic.{_↔_}
+use mathlib.Core.Bool.{false}
+use mathlib.Core.List.{List}
+use Prim.Native.Nat.{ℕ, _≤_, _<_}
+use lib.Dec.{T}
+use lib.ListN.{length}
+use Rattle.model.specs.Answers.{done, ImageOf}
+use Rattle.model.specs.Bits.{bit}
+use Rattle.model.specs.Edges.{states}
+use Rattle.model.specs.Ends.{EndsAre}
+use Rattle.model.specs.Live.{After, Before}
+use Rattle.model.specs.Models.Words.{value}
+use Rattle.model.specs.Tree.{Tree}
+
+-- the words have exactly the bits of a set of the tree's states
+pub record StatesAre (t : Tree) (words : List ℕ) (S : ℕ → Type 0) : Type 0 where
+  pub within : (q : ℕ) → q < states t → T (bit (value words) q) ↔ S q
+  pub beyond : (q : ℕ) → states t ≤ q → bit (value words) q ≡ false
+
+-- "The live states before any byte"
+abbrev pub BeginSays : (image words : List ℕ) → Type 0
+BeginSays image words = (t : Tree) → ImageOf image t → StatesAre t words (Before t)
+
+-- "After a byte", from any mask of the tree's states
+abbrev pub StepSays : List ℕ → ℕ → (live words : List ℕ) → Type 0
+StepSays image byte live words =
+    (t : Tree) → ImageOf image t → ((q : ℕ) → states t ≤ q → bit (value live) q ≡ false) → StatesAre t words (After t byte (λ q. T (bit (value live) q)))
+
+-- the total of the ends, and the first that fit written, rising; "Words or bytes past what is written stay as they were"
+abbrev pub FindSays : (image text before : List ℕ) (total : ℕ) (after : List ℕ) → Type 0
+FindSays image text before total after =
+    (t : Tree) → ImageOf image t → length text ≤ 65535 → (ends : List ℕ) → EndsAre t text ends → (total ≡ length ends) × (after ≡ done ends before .lent)

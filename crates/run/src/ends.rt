@@ -1,0 +1,149 @@
+// The ends of a text: the places where the accepting state is live.
+use crate::rows::gather_table;
+use crate::rows::propagate_table;
+use crate::rows::scatter_table;
+use crate::shape::depth;
+use crate::shape::has_shape;
+use crate::shape::states;
+use crate::shape::width;
+use crate::steps::Table;
+use crate::steps::pass;
+use crate::steps::start;
+use crate::steps::step_by;
+use mask::bits::has_bit;
+ghost use mathlib.Core.Bool.{true};
+ghost use mathlib.Core.Path.{_≡_};
+ghost use Prim.Native.Nat.{_+_, _-_, _*_, _≤_};
+ghost use lib.ListN.{length};
+ghost use lib.Seq.{sets};
+ghost use Rattle.model.specs.Models.Apart.{depthWord, stateWord};
+ghost use Rattle.run.specs.Says.{FindSays};
+ghost use Rattle.run.specs.Work.{endsFound, endsWith, masksOf, noted, shaped, threeOf, workMasks, Written};
+
+// An end is written where there is room for it, and counted in any case: what it adds to the total.
+fn note(places: &mut [u32], total: usize, place: u32, hit: bool) -> usize
+    ensures counted { λ r. ⌜ r ≡ length (noted hit place) ⌝ }
+    ensures written { λ r. ⌜ now (places .exit) ≡ sets (now (places .entry)) total (noted hit place) ⌝ }
+{
+    if hit {
+        if total < places.len() {
+            places[total] = place;
+        }
+        return 1;
+    }
+    0
+}
+
+// The ends of the text, with the tables of work: one step for each byte, and the accepting state looked up at each place.
+fn scan(
+    image: &[u64],
+    text: &[u8],
+    places: &mut [u32],
+    width: usize,
+    depth: usize,
+    last: usize,
+    scatter_block: Table,
+    scatter_source: Table,
+    scatter_target: Table,
+    gather_block: Table,
+    gather_source: Table,
+    gather_target: Table,
+    propagate_block: Table,
+    propagate_source: Table,
+    propagate_target: Table,
+) -> u64
+    requires { ⌜ (width ≤ 8) × (6 + 512 * width ≤ length (now image)) × (depth ≤ 8) × (length (now text) ≤ 65535) ⌝ }
+    ensures { λ r. ⌜ Written (endsWith (workMasks (now (image .entry)) width (threeOf «scatter_block» «scatter_source» «scatter_target»)
+        (threeOf «gather_block» «gather_source» «gather_target») (threeOf «propagate_block» «propagate_source» «propagate_target»)) depth last (now (text .entry)))
+        (now (places .entry)) r (now (places .exit)) ⌝ }
+{
+    let first = start();
+    let mut live = pass(
+        first,
+        depth,
+        &scatter_block,
+        &scatter_source,
+        &scatter_target,
+        &gather_block,
+        &gather_source,
+        &gather_target,
+        &propagate_block,
+        &propagate_source,
+        &propagate_target,
+    );
+    let mut total: usize = 0;
+    let mut p: usize = 0;
+    loop {
+        total += note(places, total, p as u32, has_bit(live, last));
+        if p >= text.len() {
+            break;
+        }
+        live = step_by(
+            live,
+            image,
+            width,
+            text[p],
+            depth,
+            &scatter_block,
+            &scatter_source,
+            &scatter_target,
+            &gather_block,
+            &gather_source,
+            &gather_target,
+            &propagate_block,
+            &propagate_source,
+            &propagate_target,
+        );
+        p += 1;
+    }
+    total as u64
+}
+
+// The same with the tables of words that have a shape.
+fn find_in(image: &[u64], text: &[u8], places: &mut [u32]) -> u64
+    requires { ⌜ (shaped (now image) ≡ true) × (length (now text) ≤ 65535) ⌝ }
+    ensures { λ r. ⌜ Written (endsWith (masksOf (now (image .entry))) (depthWord (now (image .entry))) (stateWord (now (image .entry)) - 1) (now (text .entry)))
+        (now (places .entry)) r (now (places .exit)) ⌝ }
+{
+    let scatter_block = scatter_table(image, 0);
+    let scatter_source = scatter_table(image, 1);
+    let scatter_target = scatter_table(image, 2);
+    let gather_block = gather_table(image, 0);
+    let gather_source = gather_table(image, 1);
+    let gather_target = gather_table(image, 2);
+    let propagate_block = propagate_table(image, 0);
+    let propagate_source = propagate_table(image, 1);
+    let propagate_target = propagate_table(image, 2);
+    let last = states(image) - 1;
+    scan(
+        image,
+        text,
+        places,
+        width(image),
+        depth(image),
+        last,
+        scatter_block,
+        scatter_source,
+        scatter_target,
+        gather_block,
+        gather_source,
+        gather_target,
+        propagate_block,
+        propagate_source,
+        propagate_target,
+    )
+}
+
+// The ends of a text: the total, and the first that fit in what is lent, rising. Words without a shape and texts of more than 65,535 bytes give 0
+// and change nothing.
+pub fn find(image: &[u64], text: &[u8], places: &mut [u32]) -> u64
+    ensures computed { λ r. ⌜ Written (endsFound (now (image .entry)) (now (text .entry))) (now (places .entry)) r (now (places .exit)) ⌝ }
+    ensures ends { λ r. ⌜ FindSays (now (image .entry)) (now (text .entry)) (now (places .entry)) r (now (places .exit)) ⌝ }
+{
+    if has_shape(image) {
+        if text.len() <= 65535 {
+            return find_in(image, text, places);
+        }
+    }
+    0
+}

@@ -115,7 +115,8 @@ module _ (k x : ℕ) where
       after : Scan
       after = step (aLetter c r) q
 
-      go : T (letterMarks r (q .position) n w k x) ⊎ T (layOut ys after w k x) → (T (layOut ys after w k x) → Below w (reached ys after)) → Below w (reached (aLetter c r ∷ ys) q)
+      go : T (letterMarks r (q .position) n w k x) ⊎ T (layOut ys after w k x) → (T (layOut ys after w k x) → Below w (reached ys after))
+          → Below w (reached (aLetter c r ∷ ys) q)
       go (inl m) ih = let d = letter-depth r (q .position) n w m in (omega (arith, d .0), λ u. absurd (d .1 u))
       go (inr m) ih = ih m
   deep (anOpen ∷ ys) q w t = go (or-split (openMarks (q .position) n w k x) (layOut ys after w k x) t) (λ m. deep ys after w m)
@@ -126,7 +127,8 @@ module _ (k x : ℕ) where
       after : Scan
       after = step anOpen q
 
-      go : T (openMarks (q .position) n w k x) ⊎ T (layOut ys after w k x) → (T (layOut ys after w k x) → Below w (reached ys after)) → Below w (reached (anOpen ∷ ys) q)
+      go : T (openMarks (q .position) n w k x) ⊎ T (layOut ys after w k x) → (T (layOut ys after w k x) → Below w (reached ys after))
+          → Below w (reached (anOpen ∷ ys) q)
       go (inl m) ih = less w (reached (anOpen ∷ ys) q) (omega (arith, open-depth (q .position) n w m))
       go (inr m) ih = raise w (reached ys after) (reached (anOpen ∷ ys) q) (omega arith) (ih m)
   deep (aBar ∷ ys) q w t = in-bar ys (q .position) (q .noItem) (q .canBeEmpty) (q .stack) w t (λ m. deep ys (step aBar q) w m)
@@ -142,7 +144,8 @@ module _ (k x : ℕ) where
           after : Scan
           after = step aBar (record { position = z; noItem = e; canBeEmpty = c; stack = f ∷ st })
 
-          go : T (barMarks z (length st) w k x) ⊎ T (layOut ys after w k x) → Below w (reached (aBar ∷ ys) (record { position = z; noItem = e; canBeEmpty = c; stack = f ∷ st }))
+          go : T (barMarks z (length st) w k x) ⊎ T (layOut ys after w k x)
+              → Below w (reached (aBar ∷ ys) (record { position = z; noItem = e; canBeEmpty = c; stack = f ∷ st }))
           go (inl m) = less w (max (suc (length st)) (reach ys after)) (omega (arith, bar-depth z (length st) w m))
           go (inr m) = ih m
   deep (aClose ∷ ys) q w t = in-close ys (q .position) (q .noItem) (q .canBeEmpty) (q .stack) w t (λ m. deep ys (step aClose q) w m)
@@ -168,7 +171,8 @@ module _ (k x : ℕ) where
           here (inl m) = close-depth z d first (f .alternative) w m
           here (inr m) = bridge-depth (f .start) (suc z) d w (and-split (f .emptyBefore || c) (bridgeMarks (f .start) (suc z) d w k x) m .1)
 
-          go : T (closeMarksIn z c (f ∷ st) w k x) ⊎ T (layOut ys after w k x) → Below w (reached (aClose ∷ ys) (record { position = z; noItem = e; canBeEmpty = c; stack = f ∷ st }))
+          go : T (closeMarksIn z c (f ∷ st) w k x) ⊎ T (layOut ys after w k x)
+              → Below w (reached (aClose ∷ ys) (record { position = z; noItem = e; canBeEmpty = c; stack = f ∷ st }))
           go (inl m) =
               less w (max (suc d) (reach ys after))
               (omega (arith, here (or-split (closeMarks z d first (f .alternative) w k x) ((f .emptyBefore || c) && bridgeMarks (f .start) (suc z) d w k x) m)))

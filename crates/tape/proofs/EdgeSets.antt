@@ -65,38 +65,53 @@ module _ (s : Tree) where
   laid = layOut (tokens s []) begin
 
   module _ (k : ℕ) (h : k < d) where
-    scatters : three m (width m) (scatterBlock s k) (scatterSource s k) (scatterTarget s k) ≡ three m (width m) (A scatter-block k) (A scatter-source k) (A scatter-target k)
+    scatters : three m (width m) (scatterBlock s k) (scatterSource s k) (scatterTarget s k) ≡ three m (width m) (A scatter-block k)
+        (A scatter-source k) (A scatter-target k)
     scatters =
         sym (part-scatter m (width m) d (letters s) (repeats s) E k h)
         ∙ ap (λ (ws : List ℕ). chunk (3 * width m) k (scatterIn ws)) (image-is s)
         ∙ part-scatter m (width m) d (letterSet (arcs s 0 0)) (loopSet (arcs s 0 0)) A k h
 
-    gathers : three m (width m) (gatherBlock s k) (gatherSource s k) (gatherTarget s k) ≡ three m (width m) (A gather-block k) (A gather-source k) (A gather-target k)
+    gathers : three m (width m) (gatherBlock s k) (gatherSource s k) (gatherTarget s k) ≡ three m (width m) (A gather-block k) (A gather-source k)
+        (A gather-target k)
     gathers =
         sym (part-gather m (width m) d (letters s) (repeats s) E k h)
         ∙ ap (λ (ws : List ℕ). chunk (3 * width m) k (gatherIn ws)) (image-is s)
         ∙ part-gather m (width m) d (letterSet (arcs s 0 0)) (loopSet (arcs s 0 0)) A k h
 
     pub scatter-block-of : (x : ℕ) → x < m → laid scatter-block k x ≡ scatterBlock s k x
-    scatter-block-of x l = tree-sets s scatter-block k x ∙ sym (same-0 m (scatterBlock s k) (scatterSource s k) (scatterTarget s k) (A scatter-block k) (A scatter-source k) (A scatter-target k) scatters x l)
+    scatter-block-of x l =
+        tree-sets s scatter-block k x ∙ sym (same-0 m (scatterBlock s k) (scatterSource s k) (scatterTarget s k) (A scatter-block k)
+        (A scatter-source k) (A scatter-target k) scatters x l)
 
     pub scatter-source-of : (x : ℕ) → x < m → laid scatter-source k x ≡ scatterSource s k x
-    scatter-source-of x l = tree-sets s scatter-source k x ∙ sym (same-1 m (scatterBlock s k) (scatterSource s k) (scatterTarget s k) (A scatter-block k) (A scatter-source k) (A scatter-target k) scatters x l)
+    scatter-source-of x l =
+        tree-sets s scatter-source k x ∙ sym (same-1 m (scatterBlock s k) (scatterSource s k) (scatterTarget s k) (A scatter-block k)
+        (A scatter-source k) (A scatter-target k) scatters x l)
 
     pub scatter-target-of : (x : ℕ) → x < m → laid scatter-target k x ≡ scatterTarget s k x
-    scatter-target-of x l = tree-sets s scatter-target k x ∙ sym (same-2 m (scatterBlock s k) (scatterSource s k) (scatterTarget s k) (A scatter-block k) (A scatter-source k) (A scatter-target k) scatters x l)
+    scatter-target-of x l =
+        tree-sets s scatter-target k x ∙ sym (same-2 m (scatterBlock s k) (scatterSource s k) (scatterTarget s k) (A scatter-block k)
+        (A scatter-source k) (A scatter-target k) scatters x l)
 
     pub gather-block-of : (x : ℕ) → x < m → laid gather-block k x ≡ gatherBlock s k x
-    gather-block-of x l = tree-sets s gather-block k x ∙ sym (same-0 m (gatherBlock s k) (gatherSource s k) (gatherTarget s k) (A gather-block k) (A gather-source k) (A gather-target k) gathers x l)
+    gather-block-of x l =
+        tree-sets s gather-block k x ∙ sym (same-0 m (gatherBlock s k) (gatherSource s k) (gatherTarget s k) (A gather-block k) (A gather-source k)
+        (A gather-target k) gathers x l)
 
     pub gather-source-of : (x : ℕ) → x < m → laid gather-source k x ≡ gatherSource s k x
-    gather-source-of x l = tree-sets s gather-source k x ∙ sym (same-1 m (gatherBlock s k) (gatherSource s k) (gatherTarget s k) (A gather-block k) (A gather-source k) (A gather-target k) gathers x l)
+    gather-source-of x l =
+        tree-sets s gather-source k x ∙ sym (same-1 m (gatherBlock s k) (gatherSource s k) (gatherTarget s k) (A gather-block k) (A gather-source k)
+        (A gather-target k) gathers x l)
 
     pub gather-target-of : (x : ℕ) → x < m → laid gather-target k x ≡ gatherTarget s k x
-    gather-target-of x l = tree-sets s gather-target k x ∙ sym (same-2 m (gatherBlock s k) (gatherSource s k) (gatherTarget s k) (A gather-block k) (A gather-source k) (A gather-target k) gathers x l)
+    gather-target-of x l =
+        tree-sets s gather-target k x ∙ sym (same-2 m (gatherBlock s k) (gatherSource s k) (gatherTarget s k) (A gather-block k) (A gather-source k)
+        (A gather-target k) gathers x l)
 
   module _ (k : ℕ) (h : k < suc d) where
-    propagates : three m (width m) (propagateBlock s k) (propagateSource s k) (propagateTarget s k) ≡ three m (width m) (blockOf A k) (sourceOf A k) (targetOf A k)
+    propagates : three m (width m) (propagateBlock s k) (propagateSource s k) (propagateTarget s k) ≡ three m (width m) (blockOf A k) (sourceOf A k)
+        (targetOf A k)
     propagates =
         sym (part-propagate m (width m) d (letters s) (repeats s) E k h)
         ∙ ap (λ (ws : List ℕ). chunk (3 * width m) k (propagateIn ws)) (image-is s)

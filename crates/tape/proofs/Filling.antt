@@ -22,7 +22,9 @@ module _ {A : Type 0} (d : A) (ys : List A) (n i : ℕ) (xs : List A) where
   filled-step v F h e = record {
     long = length-set xs i v ∙ F .long;
     whole = F .whole;
-    done = below-more (λ (k : ℕ). getD (set xs i v) k d ≡ getD ys k d) i (λ k l. getD-set-other xs i k v d (λ q. omega arith) ∙ F .done k l) (getD-set-same xs i v d (omega (arith, F .long)) ∙ e);
+    done =
+        below-more (λ (k : ℕ). getD (set xs i v) k d ≡ getD ys k d) i (λ k l. getD-set-other xs i k v d (λ q. omega arith) ∙ F .done k l)
+        (getD-set-same xs i v d (omega (arith, F .long)) ∙ e);
   }
 
   pub filled-end : Filled d ys n i xs → n ≤ i → xs ≡ ys

@@ -1,20 +1,26 @@
--- The laws that the functions' proofs cite.
+-- `OfTree` has the results: the tables of a tree's tape in document 01's terms. `Painted` has the same for any tape that is a tree's, by its tokens,
+-- and `FirstWords` what of a row goes into an image. The others in the order in which they are proved.
+pub mod OfTree
+pub mod Painted
+pub mod FirstWords
+-- The code's tokens, scans and strokes are the model's.
 pub mod Tokens
 pub mod Scans
 pub mod Sane
 pub mod Strokes
 pub mod Within
+-- The loops over a tape, as they go.
 pub mod Along
 pub mod Reaching
 pub mod Painting
+-- Two tables made one.
 pub mod Filling
 pub mod Joins
+-- The bits of a table after a stroke, and those that lay out marks.
 pub mod RowBits
 pub mod TableBits
 pub mod Marks
-pub mod Painted
+-- The tokens of a tape and those of a tree; how deep lay out marks; the sets of document 01.
 pub mod Bare
 pub mod Deep
 pub mod EdgeSets
-pub mod OfTree
-pub mod FirstWords

@@ -63,7 +63,13 @@ barred-is q h = sym (ap afterSomeBar (top-is (q .frames) (q .depth) h))
 -- ---- the steps
 module _ (q : Scan) where
   pub opened-scan : (f : Frame) → q .depth < length (q .frames) → frameOf f ≡ opened (scanOf q)
-      → scanOf (record { position = q .position + 1; «no_item» = true; «can_be_empty» = true; frames = set (q .frames) (q .depth) f; depth = q .depth + 1 }) ≡ step anOpen (scanOf q)
+      → scanOf (record {
+        position = q .position + 1;
+        «no_item» = true;
+        «can_be_empty» = true;
+        frames = set (q .frames) (q .depth) f;
+        depth = q .depth + 1;
+      }) ≡ step anOpen (scanOf q)
   opened-scan f h e =
       ap₂ (λ (p : ℕ) (st : List model.Frame). scan p true true st) (add-one (q .position))
       (ap (stackOf (set (q .frames) (q .depth) f)) (add-one (q .depth)) ∙ stack-top (q .frames) (q .depth) f h
@@ -71,16 +77,31 @@ module _ (q : Scan) where
 
   pub barred-scan : (f : Frame) → 0 < q .depth → q .depth ≤ length (q .frames)
       → frameOf f ≡ nextAlternative (frameOf (topFrame (q .frames) (q .depth))) (q .position) (q .«can_be_empty»)
-      → scanOf (record { position = q .position + 1; «no_item» = true; «can_be_empty» = true; frames = set (q .frames) (q .depth - 1) f; depth = q .depth }) ≡ step aBar (scanOf q)
+      → scanOf (record {
+        position = q .position + 1;
+        «no_item» = true;
+        «can_be_empty» = true;
+        frames = set (q .frames) (q .depth - 1) f;
+        depth = q .depth;
+      }) ≡ step aBar (scanOf q)
   barred-scan f h l e =
       ap₂ (λ (p : ℕ) (st : List model.Frame). scan p true true st) (add-one (q .position))
       (top-set (q .frames) (q .depth) f h l ∙ ap (λ (g : model.Frame). g ∷ stackOf (q .frames) (q .depth - 1)) e)
       ∙ sym (ap (model.afterBar (q .position) (q .«can_be_empty»)) (top-is (q .frames) (q .depth) h))
 
   pub closed-scan : 0 < q .depth
-      → scanOf (record { position = q .position + 1; «no_item» = false; «can_be_empty» = topFrame (q .frames) (q .depth) .«empty_outside» && (topFrame (q .frames) (q .depth) .«empty_before» || q .«can_be_empty»); frames = q .frames; depth = q .depth - 1 }) ≡ step aClose (scanOf q)
+      → scanOf (record {
+        position = q .position + 1;
+        «no_item» = false;
+        «can_be_empty» = topFrame (q .frames)
+            (q .depth) .«empty_outside» && (topFrame (q .frames) (q .depth) .«empty_before» || q .«can_be_empty»);
+        frames = q .frames;
+        depth = q .depth - 1;
+      }) ≡ step aClose (scanOf q)
   closed-scan h =
-      ap (λ (p : ℕ). scan p false (topFrame (q .frames) (q .depth) .«empty_outside» && (topFrame (q .frames) (q .depth) .«empty_before» || q .«can_be_empty»)) (stackOf (q .frames) (q .depth - 1))) (add-one (q .position))
+      ap (λ (p : ℕ). scan p false (topFrame (q .frames)
+      (q .depth) .«empty_outside» && (topFrame (q .frames) (q .depth) .«empty_before» || q .«can_be_empty»)) (stackOf (q .frames) (q .depth - 1)))
+      (add-one (q .position))
       ∙ sym (ap (model.afterClose (q .position) (q .«can_be_empty»)) (top-is (q .frames) (q .depth) h))
 
 -- ---- what a token that fits says of the depth
@@ -90,7 +111,11 @@ module _ (q : Scan) (y : Token) (R : Ready q y) where
 
   pub ready-open : y ≡ Open → q .depth < 8
   ready-open e =
-      omega (arith, ltb→lt (length (stackOf (q .frames) (q .depth))) 8 (subst (λ (z : Token). T (check (tokenOf z) (scanOf q))) e (R .fits)), length-stack (q .frames) (q .depth))
+      omega (
+        arith,
+        ltb→lt (length (stackOf (q .frames) (q .depth))) 8 (subst (λ (z : Token). T (check (tokenOf z) (scanOf q))) e (R .fits)),
+        length-stack (q .frames) (q .depth),
+      )
 
   some-open : (n : ℕ) → T (inside (stackOf (q .frames) n)) → 0 < n
   some-open zero t = absurd t
@@ -102,11 +127,13 @@ module _ (q : Scan) (y : Token) (R : Ready q y) where
 
   pub ready-bar : y ≡ Bar → 0 < q .depth
   ready-bar e =
-      some-open (q .depth) (and-split (inside (stackOf (q .frames) (q .depth))) (not (q .«no_item»)) (subst (λ (z : Token). T (check (tokenOf z) (scanOf q))) e (R .fits)) .0)
+      some-open (q .depth) (and-split (inside (stackOf (q .frames) (q .depth))) (not (q .«no_item»))
+      (subst (λ (z : Token). T (check (tokenOf z) (scanOf q))) e (R .fits)) .0)
 
   pub ready-close : y ≡ Close → 0 < q .depth
   ready-close e =
-      barred-open (q .depth) (and-split (afterSomeBar (stackOf (q .frames) (q .depth))) (not (q .«no_item»)) (subst (λ (z : Token). T (check (tokenOf z) (scanOf q))) e (R .fits)) .0)
+      barred-open (q .depth) (and-split (afterSomeBar (stackOf (q .frames) (q .depth))) (not (q .«no_item»))
+      (subst (λ (z : Token). T (check (tokenOf z) (scanOf q))) e (R .fits)) .0)
 
   -- the places of the innermost union lie behind
   pub ready-top : y ≡ Close → (topFrame (q .frames) (q .depth) .alternative < 511) × (topFrame (q .frames) (q .depth) .start < 512)

@@ -1,7 +1,7 @@
--- what the code's tokens, scans and tables stand for, and what is made of them
+-- What the code's tokens, scans and strokes stand for in the model, what is painted into a table, and what a tape is.
 pub mod Tokens
 pub mod Scans
-pub mod Tapes
 pub mod Strokes
 pub mod Tables
 pub mod Joins
+pub mod Tapes

@@ -33,7 +33,8 @@ returns c = search needs
 returns-2 : tie.Need-returns-2
 returns-2 c =
     let a = c .before .before .before .args in
-    c .larger .ensures ∙ ap (max (a .deepest)) (add-one (a .depth)) ∙ sym (ap (λ (y : Token). deeperBy (a .deepest) (a .depth) (tokenOf y)) (c .before .enum-told2 .given .1))
+    c .larger .ensures ∙ ap (max (a .deepest)) (add-one (a .depth))
+    ∙ sym (ap (λ (y : Token). deeperBy (a .deepest) (a .depth) (tokenOf y)) (c .before .enum-told2 .given .1))
 
 returns-3 : tie.Need-returns-3
 returns-3 c = search needs

@@ -45,8 +45,10 @@ loop-holds c =
     let s = c .before .before .before .before in
     let t = s .args .tape in
     let w = whichOf (s .args .which) in
-    let q = c .before .begin-scan in
-    (along-begin t (q .result) (sym (length-map (t .kinds) _) ∙ s .good .0 .1 .1 .0 .1 .0 .1) (c .before .before .if1 .left) (q .ensures), painting-begin t (q .result) w (c .blank-table2 .result) (q .ensures) (c .blank-table2 .ensures))
+    let q = c .before .begin-scan in (
+      along-begin t (q .result) (sym (length-map (t .kinds) _) ∙ s .good .0 .1 .1 .0 .1 .0 .1) (c .before .before .if1 .left) (q .ensures),
+      painting-begin t (q .result) w (c .blank-table2 .result) (q .ensures) (c .blank-table2 .ensures),
+    )
 
 array-read-read-kind : tie.Need-array-read-read-kind Inv-loop μ-loop
 array-read-read-kind c = omega (arith, c .before .loop .inv .0 .short)
@@ -69,13 +71,16 @@ returns-2 c =
     let t = s .args .tape in
     let w = whichOf (s .args .which) in
     let k = c .before .before .before .read-kind in
-    c .blank-table3 .ensures ∙ sym (ap (λ (b : Bool). cond b (paintAll (tokensOf t) begin w blank) blank) (along-misfit t (l .scan) (l .i) (l .inv .0) (k .result) (c .before .before .before .before .loop-test .taken) (k .ensures) (sym (c .before .before .fits2 .ensures) ∙ not-true _ (c .before .if2 .taken))))
+    c .blank-table3 .ensures ∙ sym (ap (λ (b : Bool). cond b (paintAll (tokensOf t) begin w blank) blank)
+    (along-misfit t (l .scan) (l .i) (l .inv .0) (k .result) (c .before .before .before .before .loop-test .taken) (k .ensures)
+    (sym (c .before .before .fits2 .ensures) ∙ not-true _ (c .before .if2 .taken))))
 
 stroke-of-requires : tie.Need-stroke-of-requires Inv-loop μ-loop
 stroke-of-requires c κs =
     let l = c .before .before .before .before .loop in
     let k = c .before .before .read-kind in
-    along-ready (c .before .before .before .before .before .before .before .before .before .args .tape) (l .scan) (l .i) (l .inv .0) (k .result) (c .before .before .before .loop-test .taken) (sym (c .before .fits2 .ensures) ∙ not-false _ (c .if2 .left))
+    along-ready (c .before .before .before .before .before .before .before .before .before .args .tape) (l .scan) (l .i) (l .inv .0) (k .result)
+    (c .before .before .before .loop-test .taken) (sym (c .before .fits2 .ensures) ∙ not-false _ (c .if2 .left))
 
 paint-requires : tie.Need-paint-requires Inv-loop μ-loop
 paint-requires c κs =
@@ -83,13 +88,17 @@ paint-requires c κs =
     let s = c .before .before .before .before .before .before .before .before .before .before in
     let k = c .before .before .before .read-kind in
     let a = l .inv .0 in
-    subst Within (sym (c .stroke-of .ensures)) (stroke-within (tokenOf (k .result)) (scanOf (l .scan)) (whichOf (s .args .which)) (a .sane) (omega (arith, a .at, a .short, c .before .before .before .before .loop-test .taken)))
+    subst Within (sym (c .stroke-of .ensures))
+    (stroke-within (tokenOf (k .result)) (scanOf (l .scan)) (whichOf (s .args .which)) (a .sane)
+    (omega (arith, a .at, a .short, c .before .before .before .before .loop-test .taken)))
 
 step-over-requires : tie.Need-step-over-requires Inv-loop μ-loop
 step-over-requires c κs =
     let l = c .before .before .before .before .before .before .loop in
     let k = c .before .before .before .before .read-kind in
-    along-ready (c .before .before .before .before .before .before .before .before .before .before .before .args .tape) (l .scan) (l .i) (l .inv .0) (k .result) (c .before .before .before .before .before .loop-test .taken) (sym (c .before .before .before .fits2 .ensures) ∙ not-false _ (c .before .before .if2 .left))
+    along-ready (c .before .before .before .before .before .before .before .before .before .before .before .args .tape) (l .scan) (l .i) (l .inv .0)
+    (k .result) (c .before .before .before .before .before .loop-test .taken)
+    (sym (c .before .before .before .fits2 .ensures) ∙ not-false _ (c .before .before .if2 .left))
 
 add-i : tie.Need-add-i Inv-loop μ-loop
 add-i c = omega (arith, c .before .before .before .before .before .before .before .loop .inv .0 .short)
@@ -105,8 +114,12 @@ loop-again c =
     let w = whichOf (s .args .which) in
     let k = c .before .before .before .before .before .read-kind in
     let h = c .before .before .before .before .before .before .loop-test .taken in
-    let painted = c .before .paint .ensures ∙ ap (paintStroke (l .table)) (c .before .before .stroke-of .ensures) in
-    (along-step t (l .scan) (l .i) (l .inv .0) (k .result) h (k .ensures) (c .step-over .result) (sym (c .before .before .before .before .fits2 .ensures) ∙ not-false _ (c .before .before .before .if2 .left)) (c .step-over .ensures), painting-step t (l .scan) (l .i) (l .inv .0) w (l .table) (l .inv .1) (k .result) h (k .ensures) (c .step-over .result) (c .step-over .ensures) (c .before .paint .result) painted)
+    let painted = c .before .paint .ensures ∙ ap (paintStroke (l .table)) (c .before .before .stroke-of .ensures) in (
+      along-step t (l .scan) (l .i) (l .inv .0) (k .result) h (k .ensures) (c .step-over .result)
+          (sym (c .before .before .before .before .fits2 .ensures) ∙ not-false _ (c .before .before .before .if2 .left)) (c .step-over .ensures),
+      painting-step t (l .scan) (l .i) (l .inv .0) w (l .table) (l .inv .1) (k .result) h (k .ensures) (c .step-over .result) (c .step-over .ensures)
+          (c .before .paint .result) painted,
+    )
 
 is-ended-requires : tie.Need-is-ended-requires Inv-loop μ-loop
 is-ended-requires c κs = search needs
@@ -121,7 +134,9 @@ returns-3 c =
     let t = s .args .tape in
     let w = whichOf (s .args .which) in
     let h = c .before .before .loop-test .left in
-    sym (ap₂ (λ (b : Bool) (a : Table). cond b a blank) (along-end t (l .scan) (l .i) (l .inv .0) h ∙ sym (c .before .is-ended .ensures) ∙ c .if3 .taken) (painting-end t (l .scan) (l .i) (l .inv .0) w (l .table) (l .inv .1) h))
+    sym (ap₂ (λ (b : Bool) (a : Table). cond b a blank)
+    (along-end t (l .scan) (l .i) (l .inv .0) h ∙ sym (c .before .is-ended .ensures) ∙ c .if3 .taken)
+    (painting-end t (l .scan) (l .i) (l .inv .0) w (l .table) (l .inv .1) h))
 
 returns-4 : tie.Need-returns-4 Inv-loop μ-loop
 returns-4 c =
@@ -130,7 +145,8 @@ returns-4 c =
     let t = s .args .tape in
     let w = whichOf (s .args .which) in
     let h = c .before .before .before .loop-test .left in
-    c .blank-table4 .ensures ∙ sym (ap (λ (b : Bool). cond b (paintAll (tokensOf t) begin w blank) blank) (along-end t (l .scan) (l .i) (l .inv .0) h ∙ sym (c .before .before .is-ended .ensures) ∙ c .before .if3 .left))
+    c .blank-table4 .ensures ∙ sym (ap (λ (b : Bool). cond b (paintAll (tokensOf t) begin w blank) blank)
+    (along-end t (l .scan) (l .i) (l .inv .0) h ∙ sym (c .before .before .is-ended .ensures) ∙ c .before .if3 .left))
 
 pub lay-spec : {M : Type 1} → statement M
 lay-spec =

@@ -31,8 +31,11 @@ begin-scan-requires c κs = search needs
 loop-holds : tie.Need-loop-holds Inv-loop μ-loop
 loop-holds c =
     let s = c .before .before .before in
-    let t = s .args .tape in
-    (along-begin t (c .begin-scan .result) (sym (length-map (t .kinds) _) ∙ s .good .0 .1 .1 .0 .1 .0 .1) (c .before .if1 .left) (c .begin-scan .ensures), reaching-begin t (c .begin-scan .result) (c .begin-scan .ensures))
+    let t = s .args .tape in (
+      along-begin t (c .begin-scan .result) (sym (length-map (t .kinds) _) ∙ s .good .0 .1 .1 .0 .1 .0 .1) (c .before .if1 .left)
+          (c .begin-scan .ensures),
+      reaching-begin t (c .begin-scan .result) (c .begin-scan .ensures),
+    )
 
 array-read-read-kind : tie.Need-array-read-read-kind Inv-loop μ-loop
 array-read-read-kind c = omega (arith, c .before .loop .inv .0 .short)
@@ -50,7 +53,9 @@ returns-2 c =
     let l = c .before .before .before .before .loop in
     let t = c .before .before .before .before .before .before .before .before .args .tape in
     let k = c .before .before .read-kind in
-    sym (ap (λ (b : Bool). cond b (Tree (reach (tokensOf t) begin)) Other) (along-misfit t (l .scan) (l .i) (l .inv .0) (k .result) (c .before .before .before .loop-test .taken) (k .ensures) (sym (c .before .fits2 .ensures) ∙ not-true _ (c .if2 .taken))))
+    sym (ap (λ (b : Bool). cond b (Tree (reach (tokensOf t) begin)) Other)
+    (along-misfit t (l .scan) (l .i) (l .inv .0) (k .result) (c .before .before .before .loop-test .taken) (k .ensures)
+    (sym (c .before .fits2 .ensures) ∙ not-true _ (c .if2 .taken))))
 
 deeper-requires : tie.Need-deeper-requires Inv-loop μ-loop
 deeper-requires c κs =
@@ -61,7 +66,8 @@ step-over-requires : tie.Need-step-over-requires Inv-loop μ-loop
 step-over-requires c κs =
     let l = c .before .before .before .before .before .loop in
     let k = c .before .before .before .read-kind in
-    along-ready (c .before .before .before .before .before .before .before .before .before .args .tape) (l .scan) (l .i) (l .inv .0) (k .result) (c .before .before .before .before .loop-test .taken) (sym (c .before .before .fits2 .ensures) ∙ not-false _ (c .before .if2 .left))
+    along-ready (c .before .before .before .before .before .before .before .before .before .args .tape) (l .scan) (l .i) (l .inv .0) (k .result)
+    (c .before .before .before .before .loop-test .taken) (sym (c .before .before .fits2 .ensures) ∙ not-false _ (c .before .if2 .left))
 
 add-i : tie.Need-add-i Inv-loop μ-loop
 add-i c = omega (arith, c .before .before .before .before .before .before .loop .inv .0 .short)
@@ -74,8 +80,13 @@ loop-again c =
     let l = c .before .before .before .before .before .before .loop in
     let t = c .before .before .before .before .before .before .before .before .before .before .args .tape in
     let k = c .before .before .before .before .read-kind in
-    let h = c .before .before .before .before .before .loop-test .taken in
-    (along-step t (l .scan) (l .i) (l .inv .0) (k .result) h (k .ensures) (c .step-over .result) (sym (c .before .before .before .fits2 .ensures) ∙ not-false _ (c .before .before .if2 .left)) (c .step-over .ensures), reaching-step t (l .scan) (l .i) (l .inv .0) (l .deepest) (l .inv .1) (k .result) h (k .ensures) (c .step-over .result) (c .step-over .ensures) (c .before .deeper .result) (c .before .deeper .ensures))
+    let h = c .before .before .before .before .before .loop-test .taken in (
+      along-step t (l .scan) (l .i) (l .inv .0) (k .result) h (k .ensures) (c .step-over .result)
+          (sym (c .before .before .before .fits2 .ensures) ∙ not-false _ (c .before .before .if2 .left)) (c .step-over .ensures),
+      reaching-step t (l .scan)
+          (l .i) (l .inv .0) (l .deepest) (l .inv .1) (k .result) h (k .ensures) (c .step-over .result) (c .step-over .ensures) (c .before .deeper .result)
+          (c .before .deeper .ensures),
+    )
 
 is-ended-requires : tie.Need-is-ended-requires Inv-loop μ-loop
 is-ended-requires c κs = search needs
@@ -85,14 +96,17 @@ returns-3 c =
     let l = c .before .before .before .loop in
     let t = c .before .before .before .before .before .before .before .args .tape in
     let h = c .before .before .loop-test .left in
-    sym (ap₂ (λ (b : Bool) (d : ℕ). cond b (Tree d) Other) (along-end t (l .scan) (l .i) (l .inv .0) h ∙ sym (c .before .is-ended .ensures) ∙ c .if3 .taken) (reaching-end t (l .scan) (l .i) (l .inv .0) (l .deepest) (l .inv .1) h))
+    sym (ap₂ (λ (b : Bool) (d : ℕ). cond b (Tree d) Other)
+    (along-end t (l .scan) (l .i) (l .inv .0) h ∙ sym (c .before .is-ended .ensures) ∙ c .if3 .taken)
+    (reaching-end t (l .scan) (l .i) (l .inv .0) (l .deepest) (l .inv .1) h))
 
 returns-4 : tie.Need-returns-4 Inv-loop μ-loop
 returns-4 c =
     let l = c .before .before .before .loop in
     let t = c .before .before .before .before .before .before .before .args .tape in
     let h = c .before .before .loop-test .left in
-    sym (ap (λ (b : Bool). cond b (Tree (reach (tokensOf t) begin)) Other) (along-end t (l .scan) (l .i) (l .inv .0) h ∙ sym (c .before .is-ended .ensures) ∙ c .if3 .left))
+    sym (ap (λ (b : Bool). cond b (Tree (reach (tokensOf t) begin)) Other)
+    (along-end t (l .scan) (l .i) (l .inv .0) h ∙ sym (c .before .is-ended .ensures) ∙ c .if3 .left))
 
 pub well-formed-spec : {M : Type 1} → statement M
 well-formed-spec =

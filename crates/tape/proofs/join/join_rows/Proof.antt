@@ -59,7 +59,8 @@ loop-again c =
     let lb = s .good .1 .1 .0 .1 .0 .1 in
     let f = joinWord (a .join) in
     let h = c .before .loop-test .taken in
-    filled-step 0 (eachWord f (a .t2) (a .t3)) 8 (l .j) (l .joined) (c .join-word .result) (l .inv) h (c .join-word .ensures ∙ each-at f (a .t2) (a .t3) (l .j) (la ∙ sym lb) (omega (arith, la, h)))
+    filled-step 0 (eachWord f (a .t2) (a .t3)) 8 (l .j) (l .joined) (c .join-word .result) (l .inv) h
+    (c .join-word .ensures ∙ each-at f (a .t2) (a .t3) (l .j) (la ∙ sym lb) (omega (arith, la, h)))
 
 returns : tie.Need-returns Inv-loop μ-loop
 returns c =

@@ -58,7 +58,8 @@ loop-again c =
     let la = s .good .1 .0 .1 .0 .1 in
     let lb = s .good .1 .1 .0 .1 .0 .1 in
     let h = c .before .before .before .loop-test .taken in
-    filled-step [] (joinTables (a .join) (a .t2) (a .t3)) 9 (l .k) (l .joined) (c .join-rows .result) (l .inv) h (c .join-rows .ensures ∙ joined-at (a .join) (a .t2) (a .t3) (l .k) (la ∙ sym lb) (omega (arith, la, h)))
+    filled-step [] (joinTables (a .join) (a .t2) (a .t3)) 9 (l .k) (l .joined) (c .join-rows .result) (l .inv) h
+    (c .join-rows .ensures ∙ joined-at (a .join) (a .t2) (a .t3) (l .k) (la ∙ sym lb) (omega (arith, la, h)))
 
 returns : tie.Need-returns Inv-loop μ-loop
 returns c =

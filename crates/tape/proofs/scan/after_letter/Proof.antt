@@ -18,7 +18,8 @@ add-t5 c = search needs
 returns : tie.Need-returns
 returns c =
     let q = c .before .before .before .before .args .scan in
-    ap₂ (λ (p : ℕ) (b : Bool). scan p false (q .«can_be_empty» && b) (stackOf (q .frames) (q .depth))) (add-one (q .position)) (c .before .before .can-skip .ensures)
+    ap₂ (λ (p : ℕ) (b : Bool). scan p false (q .«can_be_empty» && b) (stackOf (q .frames) (q .depth))) (add-one (q .position))
+    (c .before .before .can-skip .ensures)
 
 pub after-letter-spec : {M : Type 1} → statement M
 after-letter-spec = tie.close (tie.spec can-skip-requires add-t5 returns)

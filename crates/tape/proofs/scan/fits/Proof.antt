@@ -39,12 +39,14 @@ returns-2 c =
 returns-3 : tie.Need-returns-3
 returns-3 c =
     let q = c .before .before .before .args .scan in
-    ap (λ (b : Bool). b && not (q .«no_item»)) (inside-is (q .frames) (q .depth)) ∙ sym (ap (λ (y : Token). check (tokenOf y) (scanOf q)) (c .before .enum-told3 .given .1))
+    ap (λ (b : Bool). b && not (q .«no_item»)) (inside-is (q .frames) (q .depth))
+    ∙ sym (ap (λ (y : Token). check (tokenOf y) (scanOf q)) (c .before .enum-told3 .given .1))
 
 returns-4 : tie.Need-returns-4
 returns-4 c =
     let q = c .before .before .before .before .args .scan in
-    ap (λ (b : Bool). b && not (q .«no_item»)) (c .before .is-barred .ensures) ∙ sym (ap (λ (y : Token). check (tokenOf y) (scanOf q)) (c .before .before .enum-told4 .given .1))
+    ap (λ (b : Bool). b && not (q .«no_item»)) (c .before .is-barred .ensures)
+    ∙ sym (ap (λ (y : Token). check (tokenOf y) (scanOf q)) (c .before .before .enum-told4 .given .1))
 
 pub fits-spec : {M : Type 1} → statement M
 fits-spec =

@@ -18,7 +18,15 @@ returns : tie.Need-returns
 returns c =
     let a = c .before .before .args in
     let f = a .frame in
-    ap₂ (λ (m n : ℕ). frameOf (record { start = f .start; barred = true; «first_end» = m; alternative = n; «empty_before» = f .«empty_before» || a .can-be-empty; «empty_outside» = f .«empty_outside» })) (c .before .first-end-of .ensures) (add-one (a .position))
+    ap₂ (λ (m n : ℕ). frameOf (record {
+      start = f .start;
+      barred = true;
+      «first_end» = m;
+      alternative = n;
+      «empty_before» = f .«empty_before» || a .can-be-empty;
+      «empty_outside» = f .«empty_outside»;
+    })) (c .before .first-end-of .ensures)
+    (add-one (a .position))
 
 pub next-frame-spec : {M : Type 1} → statement M
 next-frame-spec = tie.close (tie.spec first-end-of-requires add-t5 returns)

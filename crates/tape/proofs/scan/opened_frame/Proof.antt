@@ -14,7 +14,14 @@ add-t2 c = search needs
 returns : tie.Need-returns
 returns c =
     let q = c .before .args .scan in
-    ap (λ (n : ℕ). frameOf (record { start = q .position; barred = false; «first_end» = 0; alternative = n; «empty_before» = false; «empty_outside» = q .«can_be_empty» })) (add-one (q .position))
+    ap (λ (n : ℕ). frameOf (record {
+      start = q .position;
+      barred = false;
+      «first_end» = 0;
+      alternative = n;
+      «empty_before» = false;
+      «empty_outside» = q .«can_be_empty»;
+    })) (add-one (q .position))
 
 pub opened-frame-spec : {M : Type 1} → statement M
 opened-frame-spec = tie.close (tie.spec add-t2 returns)

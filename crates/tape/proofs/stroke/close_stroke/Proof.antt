@@ -76,7 +76,8 @@ returns-2 c = search needs
 returns-3 : tie.Need-returns-3
 returns-3 c =
     let a = c .before .before .before .before .before .before .args in
-    c .one-state .ensures ∙ sym (ap (λ (w : Which). closeStroke (frameOf (a .frame)) (a .position) (a .depth) (a .can-be-empty) (whichOf w)) (c .before .before .enum-told3 .given .1))
+    c .one-state .ensures ∙ sym (ap (λ (w : Which). closeStroke (frameOf (a .frame)) (a .position) (a .depth) (a .can-be-empty) (whichOf w))
+    (c .before .before .enum-told3 .given .1))
 
 returns-4 : tie.Need-returns-4
 returns-4 c = search needs
@@ -87,27 +88,32 @@ returns-5 c = search needs
 returns-6 : tie.Need-returns-6
 returns-6 c =
     let a = c .before .before .before .before .before .args in
-    c .gather-block-stroke .ensures ∙ sym (ap (λ (w : Which). closeStroke (frameOf (a .frame)) (a .position) (a .depth) (a .can-be-empty) (whichOf w)) (c .before .enum-told6 .given .1))
+    c .gather-block-stroke .ensures ∙ sym (ap (λ (w : Which). closeStroke (frameOf (a .frame)) (a .position) (a .depth) (a .can-be-empty) (whichOf w))
+    (c .before .enum-told6 .given .1))
 
 returns-7 : tie.Need-returns-7
 returns-7 c =
     let a = c .before .before .before .before .before .args in
-    c .one-state2 .ensures ∙ sym (ap (λ (w : Which). closeStroke (frameOf (a .frame)) (a .position) (a .depth) (a .can-be-empty) (whichOf w)) (c .before .enum-told7 .given .1))
+    c .one-state2 .ensures ∙ sym (ap (λ (w : Which). closeStroke (frameOf (a .frame)) (a .position) (a .depth) (a .can-be-empty) (whichOf w))
+    (c .before .enum-told7 .given .1))
 
 returns-8 : tie.Need-returns-8
 returns-8 c =
     let a = c .before .before .before .before .before .args in
-    c .one-state3 .ensures ∙ sym (ap (λ (w : Which). closeStroke (frameOf (a .frame)) (a .position) (a .depth) (a .can-be-empty) (whichOf w)) (c .before .enum-told8 .given .1))
+    c .one-state3 .ensures ∙ sym (ap (λ (w : Which). closeStroke (frameOf (a .frame)) (a .position) (a .depth) (a .can-be-empty) (whichOf w))
+    (c .before .enum-told8 .given .1))
 
 returns-9 : tie.Need-returns-9
 returns-9 c =
     let a = c .before .before .before .before .before .args in
-    c .one-if .ensures ∙ sym (ap (λ (w : Which). closeStroke (frameOf (a .frame)) (a .position) (a .depth) (a .can-be-empty) (whichOf w)) (c .before .enum-told9 .given .1))
+    c .one-if .ensures ∙ sym (ap (λ (w : Which). closeStroke (frameOf (a .frame)) (a .position) (a .depth) (a .can-be-empty) (whichOf w))
+    (c .before .enum-told9 .given .1))
 
 returns-10 : tie.Need-returns-10
 returns-10 c =
     let a = c .before .before .before .before .before .args in
-    c .one-if2 .ensures ∙ sym (ap (λ (w : Which). closeStroke (frameOf (a .frame)) (a .position) (a .depth) (a .can-be-empty) (whichOf w)) (c .before .enum-told10 .given .1))
+    c .one-if2 .ensures ∙ sym (ap (λ (w : Which). closeStroke (frameOf (a .frame)) (a .position) (a .depth) (a .can-be-empty) (whichOf w))
+    (c .before .enum-told10 .given .1))
 
 pub close-stroke-spec : {M : Type 1} → statement M
 close-stroke-spec =

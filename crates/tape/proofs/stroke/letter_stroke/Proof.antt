@@ -80,7 +80,8 @@ returns c =
 returns-2 : tie.Need-returns-2
 returns-2 c =
     let a = c .before .before .before .before .before .args in
-    c .one-if .ensures ∙ ap (λ (b : Bool). cond b (oneState (0) (a .position + 1)) noStroke) (c .before .can-loop .ensures) ∙ sym (ap (λ (w : Which). letterStroke (repeatOf (a .repeat)) (a .position) (a .depth) (whichOf w)) (c .before .before .enum-told2 .given .1))
+    c .one-if .ensures ∙ ap (λ (b : Bool). cond b (oneState (0) (a .position + 1)) noStroke) (c .before .can-loop .ensures)
+    ∙ sym (ap (λ (w : Which). letterStroke (repeatOf (a .repeat)) (a .position) (a .depth) (whichOf w)) (c .before .before .enum-told2 .given .1))
 
 returns-3 : tie.Need-returns-3
 returns-3 c = search needs
@@ -103,12 +104,14 @@ returns-8 c = search needs
 returns-9 : tie.Need-returns-9
 returns-9 c =
     let a = c .before .before .before .before .before .args in
-    c .one-if2 .ensures ∙ ap (λ (b : Bool). cond b (oneState (a .depth) (a .position)) noStroke) (c .before .can-skip .ensures) ∙ sym (ap (λ (w : Which). letterStroke (repeatOf (a .repeat)) (a .position) (a .depth) (whichOf w)) (c .before .before .enum-told9 .given .1))
+    c .one-if2 .ensures ∙ ap (λ (b : Bool). cond b (oneState (a .depth) (a .position)) noStroke) (c .before .can-skip .ensures)
+    ∙ sym (ap (λ (w : Which). letterStroke (repeatOf (a .repeat)) (a .position) (a .depth) (whichOf w)) (c .before .before .enum-told9 .given .1))
 
 returns-10 : tie.Need-returns-10
 returns-10 c =
     let a = c .before .before .before .before .before .args in
-    c .one-if3 .ensures ∙ ap (λ (b : Bool). cond b (oneState (a .depth) (a .position + 1)) noStroke) (c .before .can-skip2 .ensures) ∙ sym (ap (λ (w : Which). letterStroke (repeatOf (a .repeat)) (a .position) (a .depth) (whichOf w)) (c .before .before .enum-told10 .given .1))
+    c .one-if3 .ensures ∙ ap (λ (b : Bool). cond b (oneState (a .depth) (a .position + 1)) noStroke) (c .before .can-skip2 .ensures)
+    ∙ sym (ap (λ (w : Which). letterStroke (repeatOf (a .repeat)) (a .position) (a .depth) (whichOf w)) (c .before .before .enum-told10 .given .1))
 
 pub letter-stroke-spec : {M : Type 1} → statement M
 letter-stroke-spec =

@@ -51,7 +51,12 @@ mul-close-stroke c =
 array-copy-out-close-stroke : tie.Need-array-copy-out-close-stroke
 array-copy-out-close-stroke c =
     let s = c .before .before .before .before in
-    omega (arith, ready-close (s .args .scan) (s .args .token) (s .pre) (c .before .enum-told3 .given .1), ready-depth (s .args .scan) (s .args .token) (s .pre))
+    omega (
+      arith,
+      ready-close (s .args .scan) (s .args .token) (s .pre) (c .before .enum-told3 .given .1),
+      ready-depth (s .args .scan)
+          (s .args .token) (s .pre),
+    )
 
 close-stroke-requires : tie.Need-close-stroke-requires
 close-stroke-requires c κs =
@@ -64,28 +69,32 @@ returns c =
     let s = c .before .before .before .before .before in
     let q = s .args .scan in
     let w = whichOf (s .args .which) in
-    c .letter-stroke .ensures ∙ sym (ap (λ (n : ℕ). letterStroke (repeatOf (c .before .before .token .given .0 .0)) (q .position) n w) (length-stack (q .frames) (q .depth))) ∙ sym (ap (λ (y : Token). strokeOf (tokenOf y) (scanOf q) w) (c .before .before .token .given .1))
+    c .letter-stroke .ensures ∙ sym (ap (λ (n : ℕ). letterStroke (repeatOf (c .before .before .token .given .0 .0)) (q .position) n w)
+    (length-stack (q .frames) (q .depth))) ∙ sym (ap (λ (y : Token). strokeOf (tokenOf y) (scanOf q) w) (c .before .before .token .given .1))
 
 returns-2 : tie.Need-returns-2
 returns-2 c =
     let s = c .before .before .before .before in
     let q = s .args .scan in
     let w = whichOf (s .args .which) in
-    c .open-stroke .ensures ∙ sym (ap (λ (n : ℕ). openStroke (q .position) n w) (length-stack (q .frames) (q .depth))) ∙ sym (ap (λ (y : Token). strokeOf (tokenOf y) (scanOf q) w) (c .before .enum-told .given .1))
+    c .open-stroke .ensures ∙ sym (ap (λ (n : ℕ). openStroke (q .position) n w) (length-stack (q .frames) (q .depth)))
+    ∙ sym (ap (λ (y : Token). strokeOf (tokenOf y) (scanOf q) w) (c .before .enum-told .given .1))
 
 returns-3 : tie.Need-returns-3
 returns-3 c =
     let s = c .before .before .before .before .before in
     let q = s .args .scan in
     let w = whichOf (s .args .which) in
-    c .bar-stroke .ensures ∙ bar-is q w (ready-bar q (s .args .token) (s .pre) (c .before .before .enum-told2 .given .1)) ∙ sym (ap (λ (y : Token). strokeOf (tokenOf y) (scanOf q) w) (c .before .before .enum-told2 .given .1))
+    c .bar-stroke .ensures ∙ bar-is q w (ready-bar q (s .args .token) (s .pre) (c .before .before .enum-told2 .given .1))
+    ∙ sym (ap (λ (y : Token). strokeOf (tokenOf y) (scanOf q) w) (c .before .before .enum-told2 .given .1))
 
 returns-4 : tie.Need-returns-4
 returns-4 c =
     let s = c .before .before .before .before .before .before in
     let q = s .args .scan in
     let w = whichOf (s .args .which) in
-    c .close-stroke .ensures ∙ close-is q w (ready-close q (s .args .token) (s .pre) (c .before .before .before .enum-told3 .given .1)) ∙ sym (ap (λ (y : Token). strokeOf (tokenOf y) (scanOf q) w) (c .before .before .before .enum-told3 .given .1))
+    c .close-stroke .ensures ∙ close-is q w (ready-close q (s .args .token) (s .pre) (c .before .before .before .enum-told3 .given .1))
+    ∙ sym (ap (λ (y : Token). strokeOf (tokenOf y) (scanOf q) w) (c .before .before .before .enum-told3 .given .1))
 
 pub stroke-of-spec : {M : Type 1} → statement M
 stroke-of-spec =

@@ -30,7 +30,8 @@ loop-again c =
     let l = c .before .before .loop in
     let s = c .before .before .before .args .stroke in
     let h : l .state < s .to = search needs in
-    ap (λ (a : Table). markRun (s .to - (l .state + 1)) a (s .row) (l .state + 1)) (c .mark-state .ensures) ∙ run-step (l .painted) (s .row) (l .state) (s .to) h ∙ l .inv
+    ap (λ (a : Table). markRun (s .to - (l .state + 1)) a (s .row) (l .state + 1)) (c .mark-state .ensures)
+    ∙ run-step (l .painted) (s .row) (l .state) (s .to) h ∙ l .inv
 
 returns : tie.Need-returns Inv-loop μ-loop
 returns c =

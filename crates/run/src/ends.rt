@@ -26,12 +26,14 @@ fn note(places: &mut [u32], total: usize, place: u32, hit: bool) -> usize
     ensures written { λ r. ⌜ now (places .exit) ≡ sets (now (places .entry)) total (noted hit place) ⌝ }
 {
     if hit {
-        if total < places.len() {
-            places[total] = place;
+        if total >= places.len() {
+            return 1;
         }
-        return 1;
+        places[total] = place;
+        1
+    } else {
+        0
     }
-    0
 }
 
 // The ends of the text, with the tables of work: one step for each byte, and the accepting state looked up at each place.

@@ -112,17 +112,18 @@ fn fall(
         (now («propagate_block» .entry)) (now («propagate_source» .entry)) (now («propagate_target» .entry))) depth 0 (live .words) ⌝ }
 {
     let mut r = live;
-    let mut k = 0;
-    while k < depth {
+    let mut left = depth;
+    while left > 0 {
+        let k = depth - left;
         let started = scatter_at(r, k, scatter_block, scatter_source, scatter_target);
-        k += 1;
         r = propagate_at(
             started,
-            k,
+            k + 1,
             propagate_block,
             propagate_source,
             propagate_target,
         );
+        left -= 1;
     }
     r
 }

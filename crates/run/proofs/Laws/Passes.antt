@@ -1,5 +1,5 @@
 -- ONE TURN OF THE LOOPS OVER THE DEPTHS; that each half looks at its own masks alone; and the masks that the tables of words make.
-use mathlib.Core.Path.{_≡_, refl, ap, _∙_}
+use mathlib.Core.Path.{_≡_, refl, ap, ap₂, _∙_}
 use mathlib.Core.List.{List, []}
 use Prim.Native.Nat.{ℕ, zero, suc, _+_, _-_, _≤_, _<_}
 use native.Mathlib.Nat.{not-suc-le-zero}
@@ -14,12 +14,16 @@ module _ (M : Masks) where
       let e : suc k - 1 ≡ k = omega arith in
       ap (λ (j : ℕ). riseWords M j (gatherBy M j (propagateBy M (suc k) live))) e
 
-  pub fall-one : (d k : ℕ) → k < d → (live : List ℕ) → fallWords M (d - (k + 1)) (k + 1) (propagateBy M (k + 1) (scatterBy M k live)) ≡ fallWords M (d - k) k live
-  fall-one d k h live =
-      let e : k + 1 ≡ suc k = omega arith in
-      let l : suc (d - (k + 1)) ≡ d - k = omega arith in
-      ap (λ (j : ℕ). fallWords M (d - (k + 1)) j (propagateBy M j (scatterBy M k live))) e
-      ∙ ap (λ (n : ℕ). fallWords M n k live) l
+  -- with n depths of d left
+  pub fall-one : (d n : ℕ) → 0 < n → n ≤ d → (live : List ℕ)
+      → fallWords M (n - 1) (d - (n - 1)) (propagateBy M (d - n + 1) (scatterBy M (d - n) live)) ≡ fallWords M n (d - n) live
+  fall-one d zero h l live = absurd (not-suc-le-zero h)
+  fall-one d (suc n) h l live =
+      let e : suc n - 1 ≡ n = omega arith in
+      let f : d - (suc n - 1) ≡ suc (d - suc n) = omega arith in
+      let g : d - suc n + 1 ≡ suc (d - suc n) = omega arith in
+      ap₂ (λ (i j : ℕ). fallWords M i j (propagateBy M (d - suc n + 1) (scatterBy M (d - suc n) live))) e f
+      ∙ ap (λ (j : ℕ). fallWords M n (suc (d - suc n)) (propagateBy M j (scatterBy M (d - suc n) live))) g
 
 -- the way up looks at no letter and no scatter mask, the way down at no letter and no gather mask
 module _ (ws ws′ : List ℕ) (W W′ : ℕ) where

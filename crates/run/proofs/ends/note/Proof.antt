@@ -8,6 +8,12 @@ use borrow.Author.Needs.{needs}
 use Rattle.run.proofs.ends.note.Statement.{statement}
 use Rattle.run.proofs.ends.note.Tie as tie
 
+returns : tie.Need-returns
+returns c =
+    let a = c .before .before .args in
+    let e = sym (c .before .if1 .taken) in
+    (ap (λ (h : Bool). length (noted h (a .place))) e, sym (set-out (a .places .now) (a .total) (a .place) (c .if2 .taken)) ∙ ap (λ (h : Bool). sets (a .places .now) (a .total) (noted h (a .place))) e)
+
 mul-places : tie.Need-mul-places
 mul-places c = search needs
 
@@ -17,17 +23,11 @@ slice-write-places c = search needs
 same-length : tie.Need-same-length
 same-length c = search needs
 
-returns : tie.Need-returns
-returns c =
-    let a = c .before .before .args in
-    let e = sym (c .before .if1 .taken) in
-    (ap (λ (h : Bool). length (noted h (a .place))) e, ap (λ (h : Bool). sets (a .places .now) (a .total) (noted h (a .place))) e)
-
 returns-2 : tie.Need-returns-2
 returns-2 c =
     let a = c .before .before .args in
     let e = sym (c .before .if1 .taken) in
-    (ap (λ (h : Bool). length (noted h (a .place))) e, sym (set-out (a .places .now) (a .total) (a .place) (c .if2 .left)) ∙ ap (λ (h : Bool). sets (a .places .now) (a .total) (noted h (a .place))) e)
+    (ap (λ (h : Bool). length (noted h (a .place))) e, ap (λ (h : Bool). sets (a .places .now) (a .total) (noted h (a .place))) e)
 
 returns-3 : tie.Need-returns-3
 returns-3 c =
@@ -37,4 +37,4 @@ returns-3 c =
 
 pub note-spec : {M : Type 1} → statement M
 note-spec =
-    tie.close (tie.spec mul-places slice-write-places same-length returns returns-2 returns-3)
+    tie.close (tie.spec returns mul-places slice-write-places same-length returns-2 returns-3)

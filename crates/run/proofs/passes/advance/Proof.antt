@@ -1,11 +1,7 @@
+-- `advance` is what its steps give, put together.
 use borrow.Author.Needs.{needs}
 use Rattle.run.proofs.passes.advance.Statement.{statement}
 use Rattle.run.proofs.passes.advance.Tie as tie
-use Rattle.run.proofs.passes.advance.Reads as reads
-use Rattle.run.proofs.passes.advance.Lts as lts
-use Rattle.mask.proofs.logic.and.Reads as and-reads
-use Rattle.mask.proofs.logic.or.Reads as or-reads
-use Rattle.mask.proofs.sums.shift.Reads as shift-reads
 
 shift-requires : tie.Need-shift-requires
 shift-requires c κs = search needs

@@ -1,11 +1,7 @@
+-- `gather` is what its steps give, put together.
 use borrow.Author.Needs.{needs}
 use Rattle.run.proofs.passes.gather.Statement.{statement}
 use Rattle.run.proofs.passes.gather.Tie as tie
-use Rattle.run.proofs.passes.gather.Reads as reads
-use Rattle.run.proofs.passes.gather.Lts as lts
-use Rattle.mask.proofs.logic.and.Reads as and-reads
-use Rattle.mask.proofs.logic.or.Reads as or-reads
-use Rattle.mask.proofs.sums.add.Reads as add-reads
 
 and-requires : tie.Need-and-requires
 and-requires c κs = search needs

@@ -1,13 +1,7 @@
+-- `propagate` is what its steps give, put together.
 use borrow.Author.Needs.{needs}
 use Rattle.run.proofs.passes.propagate.Statement.{statement}
 use Rattle.run.proofs.passes.propagate.Tie as tie
-use Rattle.run.proofs.passes.propagate.Reads as reads
-use Rattle.run.proofs.passes.propagate.Lts as lts
-use Rattle.mask.proofs.logic.and.Reads as and-reads
-use Rattle.mask.proofs.logic.complement.Reads as complement-reads
-use Rattle.mask.proofs.logic.or.Reads as or-reads
-use Rattle.mask.proofs.logic.xor.Reads as xor-reads
-use Rattle.mask.proofs.sums.subtract.Reads as subtract-reads
 
 and-requires : tie.Need-and-requires
 and-requires c κs = search needs

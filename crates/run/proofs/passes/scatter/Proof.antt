@@ -1,11 +1,7 @@
+-- `scatter` is what its steps give, put together.
 use borrow.Author.Needs.{needs}
 use Rattle.run.proofs.passes.scatter.Statement.{statement}
 use Rattle.run.proofs.passes.scatter.Tie as tie
-use Rattle.run.proofs.passes.scatter.Reads as reads
-use Rattle.run.proofs.passes.scatter.Lts as lts
-use Rattle.mask.proofs.logic.and.Reads as and-reads
-use Rattle.mask.proofs.logic.or.Reads as or-reads
-use Rattle.mask.proofs.sums.subtract.Reads as subtract-reads
 
 and-requires : tie.Need-and-requires
 and-requires c κs = search needs

@@ -1,4 +1,4 @@
--- `fall`: what is left of the way down from depth k gives what the whole way gives.
+-- `fall`: what is left of the way down gives what the whole way gives.
 use mathlib.Core.Path.{_≡_, refl, ap, sym, _∙_}
 use native.Mathlib.Omega.{arith}
 use Prim.Native.Nat.{ℕ, _+_, _-_, _≤_}
@@ -10,25 +10,31 @@ use Rattle.run.proofs.steps.fall.Statement.{statement}
 use Rattle.run.proofs.steps.fall.Tie as tie
 
 abbrev Inv-loop : tie.InvT-loop
-Inv-loop depth sb ss st pb ps pt live k₀ r k = (k ≤ depth) × (fallWords (fallMasks sb ss st pb ps pt) (depth - k) k (r .words) ≡ fallWords (fallMasks sb ss st pb ps pt) depth 0 (live .words))
+Inv-loop depth sb ss st pb ps pt live left₀ r left = (left ≤ depth) × (fallWords (fallMasks sb ss st pb ps pt) left (depth - left) (r .words) ≡ fallWords (fallMasks sb ss st pb ps pt) depth 0 (live .words))
 
 abbrev μ-loop : tie.MeasureT-loop
-μ-loop depth sb ss st pb ps pt live k₀ r k = depth - k
+μ-loop depth sb ss st pb ps pt live left₀ r left = left
 
 loop-holds : tie.Need-loop-holds Inv-loop μ-loop
 loop-holds c =
     let a = c .args in
-    let e : a .depth - 0 ≡ a .depth = omega arith in
-    (omega arith, ap (λ (n : ℕ). fallWords (fallMasks (a .scatter-block .now) (a .scatter-source .now) (a .scatter-target .now) (a .propagate-block .now) (a .propagate-source .now) (a .propagate-target .now)) n 0 (a .live .words)) e)
+    let e : a .depth - a .depth ≡ 0 = omega arith in
+    (omega arith, ap (λ (k : ℕ). fallWords (fallMasks (a .scatter-block .now) (a .scatter-source .now) (a .scatter-target .now) (a .propagate-block .now) (a .propagate-source .now) (a .propagate-target .now)) (a .depth) k (a .live .words)) e)
+
+sub-k : tie.Need-sub-k Inv-loop μ-loop
+sub-k c = search needs
 
 scatter-at-requires : tie.Need-scatter-at-requires Inv-loop μ-loop
 scatter-at-requires c κs = search needs
 
-add-k : tie.Need-add-k Inv-loop μ-loop
-add-k c = search needs
+add-propagate-at : tie.Need-add-propagate-at Inv-loop μ-loop
+add-propagate-at c = search needs
 
 propagate-at-requires : tie.Need-propagate-at-requires Inv-loop μ-loop
 propagate-at-requires c κs = search needs
+
+sub-left : tie.Need-sub-left Inv-loop μ-loop
+sub-left c = search needs
 
 loop-less : tie.Need-loop-less Inv-loop μ-loop
 loop-less c = search needs
@@ -39,8 +45,8 @@ loop-again c =
     let a = c .before .before .before .before .args in
     let M = fallMasks (a .scatter-block .now) (a .scatter-source .now) (a .scatter-target .now) (a .propagate-block .now) (a .propagate-source .now) (a .propagate-target .now) in (
       omega arith,
-      ap (fallWords M (a .depth - (l .k + 1)) (l .k + 1)) (c .propagate-at .ensures ∙ ap (propagateBy M (l .k + 1)) (c .before .scatter-at .ensures))
-          ∙ fall-one M (a .depth) (l .k) (c .before .before .loop-test .taken) (l .r .words) ∙ l .inv .1,
+      ap (fallWords M (l .left - 1) (a .depth - (l .left - 1))) (c .propagate-at .ensures ∙ ap (propagateBy M (a .depth - l .left + 1)) (c .before .scatter-at .ensures))
+          ∙ fall-one M (a .depth) (l .left) (c .before .before .loop-test .taken) (l .inv .0) (l .r .words) ∙ l .inv .1,
     )
 
 returns : tie.Need-returns Inv-loop μ-loop
@@ -48,8 +54,8 @@ returns c =
     let l = c .before .loop in
     let a = c .before .before .args in
     let M = fallMasks (a .scatter-block .now) (a .scatter-source .now) (a .scatter-target .now) (a .propagate-block .now) (a .propagate-source .now) (a .propagate-target .now) in
-    let e : 0 ≡ a .depth - l .k = omega arith in
-    ap (λ (n : ℕ). fallWords M n (l .k) (l .r .words)) e ∙ l .inv .1
+    let e : 0 ≡ l .left = omega arith in
+    ap (λ (n : ℕ). fallWords M n (a .depth - l .left) (l .r .words)) e ∙ l .inv .1
 
 pub fall-spec : {M : Type 1} → statement M
 fall-spec =
@@ -58,9 +64,11 @@ fall-spec =
     Inv-loop
     μ-loop
     loop-holds
+    sub-k
     scatter-at-requires
-    add-k
+    add-propagate-at
     propagate-at-requires
+    sub-left
     loop-less
     loop-again
     returns)

@@ -1,30 +1,12 @@
--- A token and the number that stands for it do the same: only the letters' classes are lost, which neither the scan nor lay out looks at.
+-- A token without its class does the same: neither the scan nor lay out looks at the classes.
 use mathlib.Core.Path.{_≡_, refl, ap, ap₂, _∙_}
 use mathlib.Core.Bool.{_&&_, _||_}
 use mathlib.Core.List.{List, [], _∷_}
 use Prim.Native.Nat.{ℕ, suc, max}
 use lib.ListN.{length}
-use Rattle.model.specs.Tree.{once, option, plus, star}
 use Rattle.model.specs.Models.LayOut.{check, layOut, mark, reach, Scan, step, valid, Which}
 use Rattle.model.specs.Models.Tokens.{aBar, aClose, aLetter, anOpen, Token}
-use Rattle.tape.specs.Tapes.{kindOf, kindsOf, readKinds}
-use Rattle.tape.specs.Tokens.{readKind, tokenOf}
-
--- the token without its class
-abbrev pub bare : Token → Token
-bare (aLetter c r) = aLetter 0 r
-bare anOpen = anOpen
-bare aBar = aBar
-bare aClose = aClose
-
-read-back : (y : Token) → tokenOf (readKind (kindOf y)) ≡ bare y
-read-back (aLetter c once) = refl
-read-back (aLetter c option) = refl
-read-back (aLetter c star) = refl
-read-back (aLetter c plus) = refl
-read-back anOpen = refl
-read-back aBar = refl
-read-back aClose = refl
+use Rattle.tape.specs.Tapes.{bare, bares}
 
 bare-step : (y : Token) (q : Scan) → step (bare y) q ≡ step y q
 bare-step (aLetter c r) q = refl
@@ -43,14 +25,6 @@ bare-check (aLetter c r) q = refl
 bare-check anOpen q = refl
 bare-check aBar q = refl
 bare-check aClose q = refl
-
-abbrev pub bares : List Token → List Token
-bares [] = []
-bares (y ∷ ys) = bare y ∷ bares ys
-
-pub read-kinds : (l : List Token) → readKinds (kindsOf l) ≡ bares l
-read-kinds [] = refl
-read-kinds (y ∷ ys) = ap₂ (λ (z : Token) (m : List Token). z ∷ m) (read-back y) (read-kinds ys)
 
 -- ---- so do rows of them
 pub bares-length : (l : List Token) → length (bares l) ≡ length l

@@ -1,6 +1,7 @@
--- `OfTree` has the results: the tables of a tree's tape in document 01's terms. `Painted` has the same for any tape that is a tree's, by its tokens,
+-- `OfTree` and `Told` have the results: the tables of a tree's tape in document 01's terms, and which tapes are a tree's. `Painted` has the same for any tape that is a tree's, by its tokens,
 -- and `FirstWords` what of a row goes into an image. The others in the order in which they are proved.
 pub mod OfTree
+pub mod Told
 pub mod Painted
 pub mod FirstWords
 -- The code's tokens, scans and strokes are the model's.

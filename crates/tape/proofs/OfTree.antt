@@ -13,16 +13,20 @@ use Rattle.model.specs.Image.{gatherBlock, gatherSource, gatherTarget, propagat
 use Rattle.model.specs.Models.LayOut.{begin, blockOf, entering, gather-block, gather-source, gather-target, layOut, leaving, reach, scatter-block, scatter-source, scatter-target, set, sourceOf, targetOf, valid, Which}
 use Rattle.model.specs.Models.Tokens.{Token, tokens}
 use Rattle.model.specs.Tree as tree
+use Rattle.model.proofs.Image.Classes.{AllFine}
 use Rattle.model.proofs.Image.Depth.{reach-is}
 use Rattle.model.proofs.Image.Rows.{set-same}
 use Rattle.model.proofs.Image.Tokens.{length-tokens}
 use Rattle.model.proofs.Image.Valid.{good-valid, GoodUnions}
+use Rattle.model.proofs.Image.WellFormed.{well-formed}
 use Rattle.model.proofs.Laws.Bool.{and-both, is-not, is-true}
 use Rattle.model.proofs.Laws.Trees.{NonEmpty}
-use Rattle.tape.specs.Tapes.{isTree, propagateBlockTable, propagateSourceTable, propagateTargetTable, readKinds, shapeOf, tableOf, TapeOf, tokensOf}
+use Rattle.model.proofs.Reading.WellFormed.{rule-well}
+use Rattle.tape.specs.Says.{PropagateSays, TreeOnTape, UnionsSay}
+use Rattle.tape.specs.Tapes.{bares, isTree, propagateBlockTable, propagateSourceTable, propagateTargetTable, shapeOf, tableOf, tokensOf}
 use Rattle.tape.specs.declared.Shape.the-variants.{Other, Tree}
 use Rattle.tape.specs.declared.Tape.{Tape}
-use Rattle.tape.proofs.Bare.{bares, bares-lay, bares-length, bares-reach, bares-valid, read-kinds}
+use Rattle.tape.proofs.Bare.{bares-lay, bares-length, bares-reach, bares-valid}
 use Rattle.tape.proofs.Deep.{deep, ofUnion}
 use Rattle.tape.proofs.EdgeSets.{gather-block-of, gather-source-of, gather-target-of, propagate-block-of, propagate-source-of, propagate-target-of, scatter-block-of, scatter-source-of, scatter-target-of}
 use Rattle.tape.proofs.Painted.{propagate-block-is, propagate-source-is, propagate-target-is, row-is}
@@ -35,17 +39,12 @@ none-zero (suc m) = ap (λ (n : ℕ). digit false + 2 * n) (none-zero m)
 none-words : (m : ℕ) (f : ℕ → Bool) → ((x : ℕ) → f x ≡ false) → set m 8 f ≡ replicate 8 0
 none-words m f h = set-same m 8 f (λ x. false) (λ x l. h x) ∙ ap (words 8) (none-zero m)
 
--- a tree of a rule, within the limits, and its tape
-pub record TreeOnTape (s : tree.Tree) (t : Tape) : Type 0 where
-  pub some-item : NonEmpty s
-  pub good : GoodUnions s
-  pub small : states s ≤ 512
-  pub shallow : depth s ≤ 8
-  pub tape : TapeOf s t
-
 module _ (s : tree.Tree) (t : Tape) (O : TreeOnTape s t) where
+  good : NonEmpty s × GoodUnions s × AllFine (tokens s [])
+  good = well-formed s .0 (rule-well (O .is-rule))
+
   tokens-are : tokensOf t ≡ bares (tokens s [])
-  tokens-are = ap readKinds (O .tape .kinds-are) ∙ read-kinds (tokens s [])
+  tokens-are = O .tape .tokens-are
 
   states-are : suc (length (tokensOf t)) ≡ states s
   states-are = ap suc (ap length tokens-are ∙ bares-length (tokens s []) ∙ length-tokens s)
@@ -54,8 +53,8 @@ module _ (s : tree.Tree) (t : Tape) (O : TreeOnTape s t) where
   pub is-tree : T (isTree t)
   is-tree =
       and-both (leb (t .length) 511) (valid (tokensOf t) begin)
-      (le→leb (t .length) 511 (omega (arith, O .tape .long, length-tokens s, O .small)))
-      (subst T (sym (ap (λ (l : List Token). valid l begin) tokens-are ∙ bares-valid (tokens s []) begin)) (good-valid s (O .some-item) (O .good) (O .shallow)))
+      (le→leb (t .length) 511 (omega (arith, O .tape .long, length-tokens s, O .few)))
+      (subst T (sym (ap (λ (l : List Token). valid l begin) tokens-are ∙ bares-valid (tokens s []) begin)) (good-valid s (good .0) (good .1) (O .shallow)))
 
   pub shape-is : shapeOf t ≡ Tree (depth s)
   shape-is =
@@ -152,3 +151,31 @@ module _ (s : tree.Tree) (t : Tape) (O : TreeOnTape s t) where
           propagate-target-is t is-tree k h
           ∙ none-words (suc (length (tokensOf t))) (targetOf (layOut (tokensOf t) begin) k)
           (λ x. ap₂ (λ (a b : Bool). a && not b) (nothing entering x) (nothing leaving x))
+
+-- ---- WHAT THE PUBLIC FUNCTIONS SAY
+pub scatter-block-says : (t : Tape) → UnionsSay scatterBlock t (tableOf t scatter-block)
+scatter-block-says t s O = record { row = scatter-block-row s t O; past = λ k p h. union-row-past s t O k h scatter-block tt p }
+
+pub scatter-source-says : (t : Tape) → UnionsSay scatterSource t (tableOf t scatter-source)
+scatter-source-says t s O = record { row = scatter-source-row s t O; past = λ k p h. union-row-past s t O k h scatter-source tt p }
+
+pub scatter-target-says : (t : Tape) → UnionsSay scatterTarget t (tableOf t scatter-target)
+scatter-target-says t s O = record { row = scatter-target-row s t O; past = λ k p h. union-row-past s t O k h scatter-target tt p }
+
+pub gather-block-says : (t : Tape) → UnionsSay gatherBlock t (tableOf t gather-block)
+gather-block-says t s O = record { row = gather-block-row s t O; past = λ k p h. union-row-past s t O k h gather-block tt p }
+
+pub gather-source-says : (t : Tape) → UnionsSay gatherSource t (tableOf t gather-source)
+gather-source-says t s O = record { row = gather-source-row s t O; past = λ k p h. union-row-past s t O k h gather-source tt p }
+
+pub gather-target-says : (t : Tape) → UnionsSay gatherTarget t (tableOf t gather-target)
+gather-target-says t s O = record { row = gather-target-row s t O; past = λ k p h. union-row-past s t O k h gather-target tt p }
+
+pub propagate-block-says : (t : Tape) → PropagateSays propagateBlock t (propagateBlockTable t)
+propagate-block-says t s O = record { row = propagate-block-row s t O; past = λ k p h. propagate-block-past s t O k h p }
+
+pub propagate-source-says : (t : Tape) → PropagateSays propagateSource t (propagateSourceTable t)
+propagate-source-says t s O = record { row = propagate-source-row s t O; past = λ k p h. propagate-source-past s t O k h p }
+
+pub propagate-target-says : (t : Tape) → PropagateSays propagateTarget t (propagateTargetTable t)
+propagate-target-says t s O = record { row = propagate-target-row s t O; past = λ k p h. propagate-target-past s t O k h p }

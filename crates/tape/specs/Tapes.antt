@@ -25,24 +25,21 @@ readKinds (k ∷ ks) = tokenOf (readKind k) ∷ readKinds ks
 abbrev pub tokensOf : Tape → List model.Token
 tokensOf t = readKinds (take (t .length) (t .kinds))
 
--- the numbers that stand for a tree's tokens
-abbrev pub kindOf : model.Token → ℕ
-kindOf (aLetter c once) = 0
-kindOf (aLetter c option) = 1
-kindOf (aLetter c star) = 2
-kindOf (aLetter c plus) = 3
-kindOf anOpen = 4
-kindOf aBar = 5
-kindOf aClose = 6
+-- the token without its class
+abbrev pub bare : model.Token → model.Token
+bare (aLetter c r) = aLetter 0 r
+bare anOpen = anOpen
+bare aBar = aBar
+bare aClose = aClose
 
-abbrev pub kindsOf : List model.Token → List ℕ
-kindsOf [] = []
-kindsOf (y ∷ ys) = kindOf y ∷ kindsOf ys
+abbrev pub bares : List model.Token → List model.Token
+bares [] = []
+bares (y ∷ ys) = bare y ∷ bares ys
 
--- the tape of a tree
+-- the tape of a tree: its tokens, without the classes
 pub record TapeOf (s : tree.Tree) (t : Tape) : Type 0 where
   pub long : t .length ≡ length (model.tokens s [])
-  pub kinds-are : take (t .length) (t .kinds) ≡ kindsOf (model.tokens s [])
+  pub tokens-are : tokensOf t ≡ bares (model.tokens s [])
 
 -- at most 511 tokens, which are those of a tree of depth at most 8
 abbrev pub isTree : Tape → Bool

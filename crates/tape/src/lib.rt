@@ -26,6 +26,8 @@ ghost use mathlib.Core.List.{[]};
 ghost use Prim.Native.Nat.{_<_, max};
 ghost use lib.ListN.{getD};
 ghost use Rattle.model.specs.Models.LayOut.{gather-block, gather-source, gather-target, letter-place, loop-place, scatter-block, scatter-source, scatter-target};
+ghost use Rattle.model.specs.Image.{gatherBlock, gatherSource, gatherTarget, propagateBlock, propagateSource, propagateTarget, scatterBlock, scatterSource, scatterTarget};
+ghost use Rattle.tape.specs.Says.{PropagateSays, ShapeSays, UnionsSay};
 ghost use Rattle.tape.specs.Tapes.{deeperBy, propagateBlockTable, propagateSourceTable, propagateTargetTable, shapeOf, tableOf};
 ghost use Rattle.tape.specs.Strokes.{whichOf};
 ghost use Rattle.tape.specs.Tokens.{tokenOf};
@@ -61,8 +63,8 @@ fn deeper(deepest: usize, depth: usize, token: Token) -> usize
     }
 }
 
-// Whether the tape is the tokens of a tree, and how deep that is.
-pub fn well_formed(tape: Tape) -> Shape
+// The scan over the whole tape.
+fn scan_shape(tape: Tape) -> Shape
     ensures { λ r. ⌜ r ≡ shapeOf tape ⌝ }
 {
     let kinds = tape.kinds;
@@ -89,6 +91,14 @@ pub fn well_formed(tape: Tape) -> Shape
     } else {
         Shape::Other
     }
+}
+
+// Whether the tape is the tokens of a tree, and how deep that is.
+pub fn well_formed(tape: Tape) -> Shape
+    ensures computed { λ r. ⌜ r ≡ shapeOf tape ⌝ }
+    ensures shape { λ r. ⌜ ShapeSays tape r ⌝ }
+{
+    scan_shape(tape)
 }
 
 // Lay out: the masks of one kind, for each depth. Where the tape is not a tree's, none of them has a state.
@@ -120,49 +130,56 @@ fn lay(tape: Tape, which: Which) -> [[u64; 8]; 9]
 
 // Scatter: the last alternative's start, plus 1.
 pub fn scatter_block(tape: Tape) -> [[u64; 8]; 9]
-    ensures { λ r. ⌜ r ≡ tableOf tape scatter-block ⌝ }
+    ensures computed { λ r. ⌜ r ≡ tableOf tape scatter-block ⌝ }
+    ensures rows { λ r. ⌜ UnionsSay scatterBlock tape r ⌝ }
 {
     lay(tape, Which::ScatterBlock)
 }
 
 // Scatter: union starts.
 pub fn scatter_source(tape: Tape) -> [[u64; 8]; 9]
-    ensures { λ r. ⌜ r ≡ tableOf tape scatter-source ⌝ }
+    ensures computed { λ r. ⌜ r ≡ tableOf tape scatter-source ⌝ }
+    ensures rows { λ r. ⌜ UnionsSay scatterSource tape r ⌝ }
 {
     lay(tape, Which::ScatterSource)
 }
 
 // Scatter: alternative starts.
 pub fn scatter_target(tape: Tape) -> [[u64; 8]; 9]
-    ensures { λ r. ⌜ r ≡ tableOf tape scatter-target ⌝ }
+    ensures computed { λ r. ⌜ r ≡ tableOf tape scatter-target ⌝ }
+    ensures rows { λ r. ⌜ UnionsSay scatterTarget tape r ⌝ }
 {
     lay(tape, Which::ScatterTarget)
 }
 
 // Gather: every state from the first alternative's end to the union's end less 1.
 pub fn gather_block(tape: Tape) -> [[u64; 8]; 9]
-    ensures { λ r. ⌜ r ≡ tableOf tape gather-block ⌝ }
+    ensures computed { λ r. ⌜ r ≡ tableOf tape gather-block ⌝ }
+    ensures rows { λ r. ⌜ UnionsSay gatherBlock tape r ⌝ }
 {
     lay(tape, Which::GatherBlock)
 }
 
 // Gather: alternative ends.
 pub fn gather_source(tape: Tape) -> [[u64; 8]; 9]
-    ensures { λ r. ⌜ r ≡ tableOf tape gather-source ⌝ }
+    ensures computed { λ r. ⌜ r ≡ tableOf tape gather-source ⌝ }
+    ensures rows { λ r. ⌜ UnionsSay gatherSource tape r ⌝ }
 {
     lay(tape, Which::GatherSource)
 }
 
 // Gather: union ends.
 pub fn gather_target(tape: Tape) -> [[u64; 8]; 9]
-    ensures { λ r. ⌜ r ≡ tableOf tape gather-target ⌝ }
+    ensures computed { λ r. ⌜ r ≡ tableOf tape gather-target ⌝ }
+    ensures rows { λ r. ⌜ UnionsSay gatherTarget tape r ⌝ }
 {
     lay(tape, Which::GatherTarget)
 }
 
 // Propagate: the states of the chains of propagate edges, those that an edge leaves or enters.
 pub fn propagate_block(tape: Tape) -> [[u64; 8]; 9]
-    ensures { λ r. ⌜ r ≡ propagateBlockTable tape ⌝ }
+    ensures computed { λ r. ⌜ r ≡ propagateBlockTable tape ⌝ }
+    ensures rows { λ r. ⌜ PropagateSays propagateBlock tape r ⌝ }
 {
     let first = lay(tape, Which::Leaving);
     let second = lay(tape, Which::Entering);
@@ -171,7 +188,8 @@ pub fn propagate_block(tape: Tape) -> [[u64; 8]; 9]
 
 // Propagate: the smallest of each chain, which no edge enters.
 pub fn propagate_source(tape: Tape) -> [[u64; 8]; 9]
-    ensures { λ r. ⌜ r ≡ propagateSourceTable tape ⌝ }
+    ensures computed { λ r. ⌜ r ≡ propagateSourceTable tape ⌝ }
+    ensures rows { λ r. ⌜ PropagateSays propagateSource tape r ⌝ }
 {
     let first = lay(tape, Which::Leaving);
     let second = lay(tape, Which::Entering);
@@ -180,7 +198,8 @@ pub fn propagate_source(tape: Tape) -> [[u64; 8]; 9]
 
 // Propagate: the largest of each chain, which no edge leaves.
 pub fn propagate_target(tape: Tape) -> [[u64; 8]; 9]
-    ensures { λ r. ⌜ r ≡ propagateTargetTable tape ⌝ }
+    ensures computed { λ r. ⌜ r ≡ propagateTargetTable tape ⌝ }
+    ensures rows { λ r. ⌜ PropagateSays propagateTarget tape r ⌝ }
 {
     let first = lay(tape, Which::Entering);
     let second = lay(tape, Which::Leaving);

@@ -1,0 +1,42 @@
+-- WHAT THE PUBLIC FUNCTIONS SAY OF THE TAPE OF A RULE'S TREE, in the terms of document 01.
+use mathlib.Core.Path.{_≡_}
+use mathlib.Core.Bool.{Bool}
+use mathlib.Core.List.{List, []}
+use Prim.Native.Nat.{ℕ, suc, _≤_, _<_}
+use lib.ListN.{getD, replicate}
+use Rattle.model.specs.Bits.{mask}
+use Rattle.model.specs.Edges.{depth, states}
+use Rattle.model.specs.Grammar.{IsRule}
+use Rattle.model.specs.Image.{words}
+use Rattle.model.specs.Tree as tree
+use Rattle.tape.specs.Tables.{Table}
+use Rattle.tape.specs.Tapes.{TapeOf}
+use Rattle.tape.specs.declared.Shape.{Shape}
+use Rattle.tape.specs.declared.Shape.the-variants.{Tree}
+use Rattle.tape.specs.declared.Tape.{Tape}
+
+-- the tree of a rule, "within 512 states and depth 8", and its tape
+pub record TreeOnTape (s : tree.Tree) (t : Tape) : Type 0 where
+  pub rule : List ℕ
+  pub is-rule : IsRule rule s
+  pub few : states s ≤ 512
+  pub shallow : depth s ≤ 8
+  pub tape : TapeOf s t
+
+-- a tape is told to be a tree's exactly if it is one, with the tree's depth
+pub record ShapeSays (t : Tape) (shape : Shape) : Type 0 where
+  pub of-tree : (s : tree.Tree) → TreeOnTape s t → shape ≡ Tree (depth s)
+  pub some-tree : (d : ℕ) → shape ≡ Tree d → (s : tree.Tree) × TreeOnTape s t
+
+-- the first rows are, in eight words, the masks of sets of the tree's states, one for each depth; the rows past them are 0
+pub record RowsAre (s : tree.Tree) (table : Table) (rows : ℕ) (sets : ℕ → ℕ → Bool) : Type 0 where
+  pub row : (k : ℕ) → k < rows → getD table k [] ≡ words 8 (mask (states s) (sets k))
+  pub past : (k : ℕ) → rows ≤ k → k < 9 → getD table k [] ≡ replicate 8 0
+
+-- "For each union depth 0 to d-1": scatter and gather
+abbrev pub UnionsSay : (tree.Tree → ℕ → ℕ → Bool) → Tape → Table → Type 0
+UnionsSay sets t table = (s : tree.Tree) → TreeOnTape s t → RowsAre s table (depth s) (sets s)
+
+-- "For each depth 0 to d": propagate
+abbrev pub PropagateSays : (tree.Tree → ℕ → ℕ → Bool) → Tape → Table → Type 0
+PropagateSays sets t table = (s : tree.Tree) → TreeOnTape s t → RowsAre s table (suc (depth s)) (sets s)

@@ -21,7 +21,6 @@ pub mod Joins
 pub mod RowBits
 pub mod TableBits
 pub mod Marks
--- The tokens of a tape and those of a tree; how deep lay out marks; the sets of document 01.
+-- The tokens of a tape and those of a tree; how deep lay out marks.
 pub mod Bare
 pub mod Deep
-pub mod EdgeSets

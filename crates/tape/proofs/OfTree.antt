@@ -7,28 +7,34 @@ use Prim.Native.Nat.{ℕ, zero, suc, _+_, _*_, _≤_, _<_}
 use native.Mathlib.Omega.{arith}
 use lib.Dec.{T, le→leb, leb}
 use lib.ListN.{getD, length, replicate}
-use Rattle.model.specs.Bits.{digit, mask}
+use Rattle.model.specs.Bits.{bit, digit, mask}
 use Rattle.model.specs.Edges.{depth, states}
-use Rattle.model.specs.Image.{gatherBlock, gatherSource, gatherTarget, propagateBlock, propagateSource, propagateTarget, scatterBlock, scatterSource, scatterTarget, words}
-use Rattle.model.specs.Models.LayOut.{begin, blockOf, entering, gather-block, gather-source, gather-target, layOut, leaving, reach, scatter-block, scatter-source, scatter-target, set, sourceOf, targetOf, valid, Which}
+use Rattle.model.specs.Image.{gatherBlock, gatherSource, gatherTarget, letters, propagateBlock, propagateSource, propagateTarget, repeats, scatterBlock, scatterSource, scatterTarget, words}
+use Rattle.model.specs.Models.Apart.{anyBelow}
+use Rattle.model.specs.Models.LayOut.{begin, blockOf, entering, gather-block, gather-source, gather-target, layOut, leaving, letter-place, loop-place, reach, scatter-block, scatter-source, scatter-target, set, sourceOf, targetOf, tokenLetters, valid, Which}
 use Rattle.model.specs.Models.Tokens.{Token, tokens}
+use Rattle.model.specs.Models.Words.{value}
 use Rattle.model.specs.Tree as tree
 use Rattle.model.proofs.Image.Classes.{AllFine}
 use Rattle.model.proofs.Image.Depth.{reach-is}
-use Rattle.model.proofs.Image.Rows.{set-same}
+use Rattle.model.proofs.Image.LetterPlaces.{or-is-places, repeats-by-letters}
+use Rattle.model.proofs.Image.OfEdges.{edge-sets, edgeSet, letters-of, repeats-of}
+use Rattle.model.proofs.Image.Places.{tree-sets}
+use Rattle.model.proofs.Image.Rows.{set-bit, set-same}
+use Rattle.model.proofs.Image.Shown.{letters-are, loops-are}
 use Rattle.model.proofs.Image.Tokens.{length-tokens}
 use Rattle.model.proofs.Image.Valid.{good-valid, GoodUnions}
 use Rattle.model.proofs.Image.WellFormed.{well-formed}
+use Rattle.model.proofs.Laws.Bits.{below-same}
 use Rattle.model.proofs.Laws.Bool.{and-both, is-not, is-true}
 use Rattle.model.proofs.Laws.Trees.{NonEmpty}
 use Rattle.model.proofs.Reading.WellFormed.{rule-well}
-use Rattle.tape.specs.Says.{PropagateSays, TreeOnTape, UnionsSay}
+use Rattle.tape.specs.Says.{LettersSay, LoopsSay, PropagateSays, TreeOnTape, UnionsSay}
 use Rattle.tape.specs.Tapes.{bares, isTree, propagateBlockTable, propagateSourceTable, propagateTargetTable, shapeOf, tableOf, tokensOf}
 use Rattle.tape.specs.declared.Shape.the-variants.{Other, Tree}
 use Rattle.tape.specs.declared.Tape.{Tape}
 use Rattle.tape.proofs.Bare.{bares-lay, bares-length, bares-reach, bares-valid}
 use Rattle.tape.proofs.Deep.{deep, ofUnion}
-use Rattle.tape.proofs.EdgeSets.{gather-block-of, gather-source-of, gather-target-of, propagate-block-of, propagate-source-of, propagate-target-of, scatter-block-of, scatter-source-of, scatter-target-of}
 use Rattle.tape.proofs.Painted.{propagate-block-is, propagate-source-is, propagate-target-is, row-is}
 
 -- no state
@@ -75,6 +81,9 @@ module _ (s : tree.Tree) (t : Tape) (O : TreeOnTape s t) where
   pub laid-row : (w : Which) (k : ℕ) → k < 9 → getD (tableOf t w) k [] ≡ words 8 (mask (states s) (laid w k))
   laid-row w k h = row-is t is-tree w k h ∙ as-states (layOut (tokensOf t) begin w k) (laid w k) (λ x l. laid-is w k x)
 
+  is-set : (w : Which) (k x : ℕ) → laid w k x ≡ edgeSet s w k x
+  is-set w k x = tree-sets s w k x ∙ sym (edge-sets s w k x)
+
   row-as : (w : Which) (k : ℕ) (f : ℕ → Bool) → k < 9 → ((x : ℕ) → x < states s → laid w k x ≡ f x) → getD (tableOf t w) k [] ≡ words 8 (mask (states s) f)
   row-as w k f h e = laid-row w k h ∙ set-same (states s) 8 (laid w k) f e
 
@@ -84,22 +93,22 @@ module _ (s : tree.Tree) (t : Tape) (O : TreeOnTape s t) where
     nine = omega (arith, O .shallow)
 
     pub scatter-block-row : getD (tableOf t scatter-block) k [] ≡ words 8 (mask (states s) (scatterBlock s k))
-    scatter-block-row = row-as scatter-block k (scatterBlock s k) nine (scatter-block-of s k h)
+    scatter-block-row = row-as scatter-block k (scatterBlock s k) nine (λ x l. is-set scatter-block k x)
 
     pub scatter-source-row : getD (tableOf t scatter-source) k [] ≡ words 8 (mask (states s) (scatterSource s k))
-    scatter-source-row = row-as scatter-source k (scatterSource s k) nine (scatter-source-of s k h)
+    scatter-source-row = row-as scatter-source k (scatterSource s k) nine (λ x l. is-set scatter-source k x)
 
     pub scatter-target-row : getD (tableOf t scatter-target) k [] ≡ words 8 (mask (states s) (scatterTarget s k))
-    scatter-target-row = row-as scatter-target k (scatterTarget s k) nine (scatter-target-of s k h)
+    scatter-target-row = row-as scatter-target k (scatterTarget s k) nine (λ x l. is-set scatter-target k x)
 
     pub gather-block-row : getD (tableOf t gather-block) k [] ≡ words 8 (mask (states s) (gatherBlock s k))
-    gather-block-row = row-as gather-block k (gatherBlock s k) nine (gather-block-of s k h)
+    gather-block-row = row-as gather-block k (gatherBlock s k) nine (λ x l. is-set gather-block k x)
 
     pub gather-source-row : getD (tableOf t gather-source) k [] ≡ words 8 (mask (states s) (gatherSource s k))
-    gather-source-row = row-as gather-source k (gatherSource s k) nine (gather-source-of s k h)
+    gather-source-row = row-as gather-source k (gatherSource s k) nine (λ x l. is-set gather-source k x)
 
     pub gather-target-row : getD (tableOf t gather-target) k [] ≡ words 8 (mask (states s) (gatherTarget s k))
-    gather-target-row = row-as gather-target k (gatherTarget s k) nine (gather-target-of s k h)
+    gather-target-row = row-as gather-target k (gatherTarget s k) nine (λ x l. is-set gather-target k x)
 
   -- ---- PROPAGATE
   module _ (k : ℕ) (h : k < suc (depth s)) where
@@ -110,19 +119,19 @@ module _ (s : tree.Tree) (t : Tape) (O : TreeOnTape s t) where
     propagate-block-row =
         propagate-block-is t is-tree k nine-too
         ∙ as-states (blockOf (layOut (tokensOf t) begin) k) (propagateBlock s k)
-        (λ x l. ap₂ _||_ (laid-is leaving k x) (laid-is entering k x) ∙ propagate-block-of s k h x l)
+        (λ x l. ap₂ _||_ (laid-is leaving k x ∙ is-set leaving k x) (laid-is entering k x ∙ is-set entering k x))
 
     pub propagate-source-row : getD (propagateSourceTable t) k [] ≡ words 8 (mask (states s) (propagateSource s k))
     propagate-source-row =
         propagate-source-is t is-tree k nine-too
         ∙ as-states (sourceOf (layOut (tokensOf t) begin) k) (propagateSource s k)
-        (λ x l. ap₂ (λ (a b : Bool). a && not b) (laid-is leaving k x) (laid-is entering k x) ∙ propagate-source-of s k h x l)
+        (λ x l. ap₂ (λ (a b : Bool). a && not b) (laid-is leaving k x ∙ is-set leaving k x) (laid-is entering k x ∙ is-set entering k x))
 
     pub propagate-target-row : getD (propagateTargetTable t) k [] ≡ words 8 (mask (states s) (propagateTarget s k))
     propagate-target-row =
         propagate-target-is t is-tree k nine-too
         ∙ as-states (targetOf (layOut (tokensOf t) begin) k) (propagateTarget s k)
-        (λ x l. ap₂ (λ (a b : Bool). a && not b) (laid-is entering k x) (laid-is leaving k x) ∙ propagate-target-of s k h x l)
+        (λ x l. ap₂ (λ (a b : Bool). a && not b) (laid-is entering k x ∙ is-set entering k x) (laid-is leaving k x ∙ is-set leaving k x))
 
   -- ---- ROWS PAST THE DEPTH ARE 0
   module _ (k : ℕ) (h : k < 9) where
@@ -152,6 +161,29 @@ module _ (s : tree.Tree) (t : Tape) (O : TreeOnTape s t) where
           ∙ none-words (suc (length (tokensOf t))) (targetOf (layOut (tokensOf t) begin) k)
           (λ x. ap₂ (λ (a b : Bool). a && not b) (nothing entering x) (nothing leaving x))
 
+  -- ---- LETTERS AND LOOPS
+  within : (x : ℕ) → x < states s → x < suc (length (tokens s []))
+  within x h = omega (arith, length-tokens s)
+
+  letter-token : (b x : ℕ) → x < states s → tokenLetters (tokens s []) b x ≡ letters s b x
+  letter-token b x h = letters-are s b x h ∙ sym (letters-of s b x)
+
+  pub letters-row : getD (tableOf t letter-place) 0 [] ≡ words 8 (mask (states s) (λ x. anyBelow 256 (λ b. letters s b x)))
+  letters-row =
+      row-as letter-place 0 (λ x. anyBelow 256 (λ b. letters s b x)) (omega arith)
+      (λ x h. sym (or-is-places (tokens s []) (good .2) x (within x h))
+      ∙ below-same 256 (λ b. tokenLetters (tokens s []) b x) (λ b. letters s b x) (λ b l. letter-token b x h))
+
+  loop-bit : (x : ℕ) → x < states s → bit (value (getD (tableOf t loop-place) 0 [])) x ≡ laid loop-place 0 x
+  loop-bit x h = ap (λ (ws : List ℕ). bit (value ws) x) (laid-row loop-place 0 (omega arith)) ∙ set-bit (states s) 8 (laid loop-place 0) (omega (arith, O .few)) x h
+
+  pub loops-row : (b x : ℕ) → x < states s → (letters s b x && bit (value (getD (tableOf t loop-place) 0 [])) x) ≡ repeats s b x
+  loops-row b x h =
+      ap₂ _&&_ (sym (letter-token b x h)) (loop-bit x h)
+      ∙ repeats-by-letters (tokens s []) b x (within x h)
+      ∙ loops-are s b x h
+      ∙ sym (repeats-of s b x)
+
 -- ---- WHAT THE PUBLIC FUNCTIONS SAY
 pub scatter-block-says : (t : Tape) → UnionsSay scatterBlock t (tableOf t scatter-block)
 scatter-block-says t s O = record { row = scatter-block-row s t O; past = λ k p h. union-row-past s t O k h scatter-block tt p }
@@ -179,3 +211,9 @@ propagate-source-says t s O = record { row = propagate-source-row s t O; past = 
 
 pub propagate-target-says : (t : Tape) → PropagateSays propagateTarget t (propagateTargetTable t)
 propagate-target-says t s O = record { row = propagate-target-row s t O; past = λ k p h. propagate-target-past s t O k h p }
+
+pub letters-say : (t : Tape) → LettersSay t (getD (tableOf t letter-place) 0 [])
+letters-say t s O = letters-row s t O
+
+pub loops-say : (t : Tape) → LoopsSay t (getD (tableOf t loop-place) 0 [])
+loops-say t s O = loops-row s t O

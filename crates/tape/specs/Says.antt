@@ -1,13 +1,15 @@
 -- WHAT THE PUBLIC FUNCTIONS SAY OF THE TAPE OF A RULE'S TREE, in the terms of document 01.
 use mathlib.Core.Path.{_≡_}
-use mathlib.Core.Bool.{Bool}
+use mathlib.Core.Bool.{Bool, _&&_}
 use mathlib.Core.List.{List, []}
 use Prim.Native.Nat.{ℕ, suc, _≤_, _<_}
 use lib.ListN.{getD, replicate}
-use Rattle.model.specs.Bits.{mask}
+use Rattle.model.specs.Bits.{bit, mask}
 use Rattle.model.specs.Edges.{depth, states}
 use Rattle.model.specs.Grammar.{IsRule}
-use Rattle.model.specs.Image.{words}
+use Rattle.model.specs.Image.{letters, repeats, words}
+use Rattle.model.specs.Models.Apart.{anyBelow}
+use Rattle.model.specs.Models.Words.{value}
 use Rattle.model.specs.Tree as tree
 use Rattle.tape.specs.Tables.{Table}
 use Rattle.tape.specs.Tapes.{TapeOf}
@@ -40,3 +42,11 @@ UnionsSay sets t table = (s : tree.Tree) → TreeOnTape s t → RowsAre s table 
 -- "For each depth 0 to d": propagate
 abbrev pub PropagateSays : (tree.Tree → ℕ → ℕ → Bool) → Tape → Table → Type 0
 PropagateSays sets t table = (s : tree.Tree) → TreeOnTape s t → RowsAre s table (suc (depth s)) (sets s)
+
+-- the states that a letter leads to, with any byte
+abbrev pub LettersSay : Tape → List ℕ → Type 0
+LettersSay t row = (s : tree.Tree) → TreeOnTape s t → row ≡ words 8 (mask (states s) (λ x. anyBelow 256 (λ b. letters s b x)))
+
+-- "repeats: likewise, the bit of each loop": of the states that a byte's letters lead to, those with a loop
+abbrev pub LoopsSay : Tape → List ℕ → Type 0
+LoopsSay t row = (s : tree.Tree) → TreeOnTape s t → (b x : ℕ) → x < states s → (letters s b x && bit (value row) x) ≡ repeats s b x

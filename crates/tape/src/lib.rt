@@ -27,7 +27,7 @@ ghost use Prim.Native.Nat.{_<_, max};
 ghost use lib.ListN.{getD};
 ghost use Rattle.model.specs.Models.LayOut.{gather-block, gather-source, gather-target, letter-place, loop-place, scatter-block, scatter-source, scatter-target};
 ghost use Rattle.model.specs.Image.{gatherBlock, gatherSource, gatherTarget, propagateBlock, propagateSource, propagateTarget, scatterBlock, scatterSource, scatterTarget};
-ghost use Rattle.tape.specs.Says.{PropagateSays, ShapeSays, UnionsSay};
+ghost use Rattle.tape.specs.Says.{LettersSay, LoopsSay, PropagateSays, ShapeSays, UnionsSay};
 ghost use Rattle.tape.specs.Tapes.{deeperBy, propagateBlockTable, propagateSourceTable, propagateTargetTable, shapeOf, tableOf};
 ghost use Rattle.tape.specs.Strokes.{whichOf};
 ghost use Rattle.tape.specs.Tokens.{tokenOf};
@@ -208,7 +208,8 @@ pub fn propagate_target(tape: Tape) -> [[u64; 8]; 9]
 
 // The states that letters lead to.
 pub fn letter_places(tape: Tape) -> [u64; 8]
-    ensures { λ r. ⌜ r ≡ getD (tableOf tape letter-place) 0 [] ⌝ }
+    ensures computed { λ r. ⌜ r ≡ getD (tableOf tape letter-place) 0 [] ⌝ }
+    ensures places { λ r. ⌜ LettersSay tape r ⌝ }
 {
     let table = lay(tape, Which::LetterPlace);
     table[0]
@@ -216,7 +217,8 @@ pub fn letter_places(tape: Tape) -> [u64; 8]
 
 // The states that loops stand on.
 pub fn loop_places(tape: Tape) -> [u64; 8]
-    ensures { λ r. ⌜ r ≡ getD (tableOf tape loop-place) 0 [] ⌝ }
+    ensures computed { λ r. ⌜ r ≡ getD (tableOf tape loop-place) 0 [] ⌝ }
+    ensures places { λ r. ⌜ LoopsSay tape r ⌝ }
 {
     let table = lay(tape, Which::LoopPlace);
     table[0]

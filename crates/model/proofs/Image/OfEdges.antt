@@ -74,12 +74,12 @@ module _ (h : Edge → Bool) (g : Arc → Bool) (at-letter : (c k i j : ℕ) →
   edges-any s = any-each edgesOf h (parts s 0 0) ∙ parts-any (λ p. any h (edgesOf p)) g letter-edges union-edges s
 
 -- ---- the sets
-letters-of : (s : Seq) (b x : ℕ) → letters s b x ≡ letterSet (arcs s 0 0) b x
+pub letters-of : (s : Seq) (b x : ℕ) → letters s b x ≡ letterSet (arcs s 0 0) b x
 letters-of s b x =
     edges-any (λ e. byLetter b (e .kind) && eqb x (e .to)) (λ e. takesByte b (e .kind) && eqb x (e .to)) (λ c k i j. refl) (λ c k i j. refl) (λ k i j. refl)
     (λ k i j. refl) (λ k i j. refl) (λ xs k i j. refl) s
 
-repeats-of : (s : Seq) (b x : ℕ) → repeats s b x ≡ loopSet (arcs s 0 0) b x
+pub repeats-of : (s : Seq) (b x : ℕ) → repeats s b x ≡ loopSet (arcs s 0 0) b x
 repeats-of s b x =
     edges-any (λ e. byLoop b (e .kind) && eqb x (e .to)) (λ e. loopsByte b (e .kind) && eqb x (e .to)) (λ c k i j. refl) (λ c k i j. refl) (λ k i j. refl)
     (λ k i j. refl) (λ k i j. refl) (λ xs k i j. refl) s
@@ -110,7 +110,7 @@ unions-of w f s k x no-letter no-propagate at-fork = parts-any (unionTest k f) (
         at-fork ws d t u ∙ ap (λ (v : Bool). v || on w k x (arc (forkArc ws) d t u)) (sym (ap (λ (v : Bool). b && v) (no-propagate d t u) ∙ and-false b))
 
 -- the sets of the image; letter and loop places have no mask there
-abbrev edgeSet : Seq → Which → ℕ → ℕ → Bool
+abbrev pub edgeSet : Seq → Which → ℕ → ℕ → Bool
 edgeSet s letter-place = treeSet s letter-place
 edgeSet s loop-place = treeSet s loop-place
 edgeSet s scatter-block = scatterBlock s
@@ -122,7 +122,7 @@ edgeSet s gather-target = gatherTarget s
 edgeSet s leaving = leaves s
 edgeSet s entering = enters s
 
-edge-sets : (s : Seq) (w : Which) (k x : ℕ) → edgeSet s w k x ≡ treeSet s w k x
+pub edge-sets : (s : Seq) (w : Which) (k x : ℕ) → edgeSet s w k x ≡ treeSet s w k x
 edge-sets s letter-place k x = refl
 edge-sets s loop-place k x = refl
 edge-sets s scatter-block k x =

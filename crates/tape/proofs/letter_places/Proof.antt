@@ -1,10 +1,12 @@
 -- `letter_places` is the first row of its table.
 use mathlib.Core.List.{[]}
-use mathlib.Core.Path.{ap}
+use mathlib.Core.Path.{sym, ap, subst}
 use borrow.Author.Needs.{needs}
 use lib.ListN.{getD}
+use Rattle.tape.proofs.OfTree.{letters-say}
 use Rattle.tape.proofs.letter_places.Statement.{statement}
 use Rattle.tape.proofs.letter_places.Tie as tie
+use Rattle.tape.specs.Says.{LettersSay}
 use Rattle.tape.specs.Tables.{Table}
 
 lay-requires : tie.Need-lay-requires
@@ -14,7 +16,10 @@ array-copy-out-result : tie.Need-array-copy-out-result
 array-copy-out-result c = search needs
 
 returns : tie.Need-returns
-returns c = ap (λ (a : Table). getD a 0 []) (c .before .lay .ensures)
+returns c =
+    let t = c .before .before .args .tape in
+    let e = ap (λ (a : Table). getD a 0 []) (c .before .lay .ensures) in
+    (e, subst (LettersSay t) (sym e) (letters-say t))
 
 pub letter-places-spec : {M : Type 1} → statement M
 letter-places-spec = tie.close (tie.spec lay-requires array-copy-out-result returns)

@@ -1,0 +1,2 @@
+-- The images that the program runs.
+pub mod Images

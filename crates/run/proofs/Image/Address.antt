@@ -1,8 +1,8 @@
 -- WHERE THE MASKS OF AN IMAGE LIE: a part of a section is words from one place on.
-use mathlib.Core.Path.{_≡_, refl, sym, ap, _∙_}
+use mathlib.Core.Path.{_≡_, refl, ap, _∙_}
 use mathlib.Core.List.{List, [], _∷_}
 use Prim.Native.Nat.{ℕ, zero, suc, _+_, _*_, _≤_, _<_}
-use native.Mathlib.Nat.{le-of-suc-le-suc, mul-add, mul-assoc, mul-left-comm, not-suc-le-zero}
+use native.Mathlib.Nat.{mul-add, mul-assoc, mul-left-comm}
 use native.Mathlib.Omega.{arith}
 use lib.ListN.{drop, take}
 use lib.Seq.{drop-drop, take-take}

@@ -7,13 +7,12 @@ use Prim.Native.Nat.{ℕ, zero, suc, _+_, _-_, _≤_, _<_}
 use native.Mathlib.Nat.{add-zero, le-refl}
 use native.Mathlib.Omega.{arith}
 use lib.Dec.{T, leb}
-use lib.ListN.{drop, getD, length, set, take}
+use lib.ListN.{getD, length, set, take}
 use lib.Seq.{sets, take-nil}
 use Rattle.model.specs.Answers.{done, ImageOf}
 use Rattle.model.specs.Bits.{bit}
 use Rattle.model.specs.Edges.{accepting, depth, states}
-use Rattle.model.specs.Ends.{End, EndsAre}
-use Rattle.model.specs.Lists.{All}
+use Rattle.model.specs.Ends.{EndsAre}
 use Rattle.model.specs.Models.Apart.{depthWord, stateWord}
 use Rattle.model.specs.Models.Run.{Masks, runWords}
 use Rattle.model.specs.Models.Words.{value}

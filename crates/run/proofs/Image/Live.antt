@@ -2,7 +2,7 @@
 -- give what the edges reach (`before-is`, `after-is`).
 use mathlib.Core.Path.{_≡_, refl, sym, ap, _∙_, subst}
 use mathlib.Core.Logic.{_↔_}
-use mathlib.Core.Bool.{Bool, true, false, cond}
+use mathlib.Core.Bool.{Bool, false, cond}
 use mathlib.Core.List.{List}
 use Prim.Native.Nat.{ℕ, _≤_, _<_}
 use lib.Dec.{T}
@@ -24,7 +24,7 @@ use Rattle.model.proofs.Words.Holds.{Holds}
 use Rattle.model.proofs.Words.Passes.{passed}
 use Rattle.model.proofs.Words.Run.{passes-words, step-words}
 use Rattle.run.specs.Says.{BeginSays, StatesAre, StepSays}
-use Rattle.run.specs.Work.{beginWords, masksOf, nextWords, noWords, shaped, startWords}
+use Rattle.run.specs.Work.{beginWords, masksOf, nextWords, noWords, startWords}
 use Rattle.run.proofs.Image.Carry.{as-arcs, carried, image-shaped}
 
 -- a row that holds a set has exactly the states of what the set means

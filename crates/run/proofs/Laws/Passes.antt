@@ -1,6 +1,6 @@
 -- ONE TURN OF THE LOOPS OVER THE DEPTHS; that each half looks at its own masks alone; and the masks that the tables of words make.
 use mathlib.Core.Path.{_≡_, refl, ap, ap₂, _∙_}
-use mathlib.Core.List.{List, []}
+use mathlib.Core.List.{List}
 use Prim.Native.Nat.{ℕ, zero, suc, _+_, _-_, _≤_, _<_}
 use native.Mathlib.Nat.{not-suc-le-zero}
 use native.Mathlib.Omega.{arith}

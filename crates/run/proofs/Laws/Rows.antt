@@ -1,5 +1,5 @@
 -- MASKS AS THEY LIE IN WORDS, with zeros above, and tables of them: each word of a row, each row of a table, and a table made row by row.
-use mathlib.Core.Path.{_≡_, refl, sym, ap, ap₂, _∙_, subst}
+use mathlib.Core.Path.{_≡_, refl, sym, ap, _∙_}
 use mathlib.Core.List.{List, [], _∷_, _++_, append-assoc}
 use Prim.Native.Nat.{ℕ, zero, suc, _+_, _-_, _*_, _≤_, _<_}
 use native.Mathlib.Nat.{add-suc, add-zero, le-of-suc-le-suc, mul-le-mul-left, mul-suc, not-suc-le-zero, suc-add}

@@ -1,5 +1,5 @@
 -- `find_in`: the nine tables are those of the words.
-use mathlib.Core.Path.{ap, ap₂, _∙_, subst, refl}
+use mathlib.Core.Path.{ap, ap₂, _∙_, subst}
 use mathlib.Core.List.{List}
 use Prim.Native.Nat.{ℕ, _-_}
 use native.Mathlib.Omega.{arith}

@@ -1,8 +1,8 @@
 -- `fall`: what is left of the way down gives what the whole way gives.
-use mathlib.Core.Path.{_≡_, refl, ap, sym, _∙_}
+use mathlib.Core.Path.{_≡_, ap, _∙_}
 use native.Mathlib.Omega.{arith}
 use Prim.Native.Nat.{ℕ, _+_, _-_, _≤_}
-use Rattle.model.specs.Models.Run.{fallWords, Masks, propagateBy}
+use Rattle.model.specs.Models.Run.{fallWords, propagateBy}
 use Rattle.run.specs.Work.{fallMasks}
 use Rattle.run.proofs.Laws.Passes.{fall-one}
 use borrow.Author.Needs.{needs}

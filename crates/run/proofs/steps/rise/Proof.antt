@@ -2,7 +2,7 @@
 use mathlib.Core.Path.{_≡_, refl, ap, sym, _∙_}
 use native.Mathlib.Omega.{arith}
 use Prim.Native.Nat.{ℕ, _-_, _≤_}
-use Rattle.model.specs.Models.Run.{gatherBy, Masks, riseWords}
+use Rattle.model.specs.Models.Run.{gatherBy, riseWords}
 use Rattle.run.specs.Work.{riseMasks}
 use Rattle.run.proofs.Laws.Passes.{rise-one}
 use borrow.Author.Needs.{needs}

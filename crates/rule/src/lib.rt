@@ -1,0 +1,2 @@
+// Rules read: document 01, "The grammar".
+pub mod kinds;

@@ -1,11 +1,8 @@
 // Sets of bytes, word by word.
 use crate::Class;
-ghost use mathlib.Core.Bool.{_&&_};
 ghost use mathlib.Core.Path.{_≡_};
-ghost use Prim.Native.Nat.{ℕ, _+_, _^_, _≤_};
+ghost use Prim.Native.Nat.{_+_, _^_, _≤_};
 ghost use lib.Bits.{bitOr};
-ghost use lib.Dec.{leb, ltb};
-ghost use Rattle.model.specs.Bits.{mask};
 ghost use Rattle.model.specs.Grammar.{every as everyByte, span as spanOf};
 ghost use Rattle.rule.specs.Classes.{bytesOf, belowWord, spanWord};
 

@@ -62,13 +62,13 @@ const KINDS: [u8; 256] = [
     PLAIN,
     PLAIN,
     PLAIN,
-    SIGN,
-    SIGN,
-    SIGN,
-    SIGN,
+    SIGN, // (
+    SIGN, // )
+    SIGN, // *
+    SIGN, // +
     PLAIN,
     PLAIN,
-    SIGN,
+    SIGN, // .
     PLAIN,
     // 48 to 63: 0 1 2 3 4 5 6 7 8 9 : ; < = > ?
     DIGIT,
@@ -86,7 +86,7 @@ const KINDS: [u8; 256] = [
     PLAIN,
     PLAIN,
     PLAIN,
-    SIGN,
+    SIGN, // ?
     // 64 to 79: @ A B C D E F G H I J K L M N O
     PLAIN,
     HEX,
@@ -116,9 +116,9 @@ const KINDS: [u8; 256] = [
     PLAIN,
     PLAIN,
     PLAIN,
-    SIGN,
-    SIGN,
-    SIGN,
+    SIGN, // [
+    SIGN, // \
+    SIGN, // ]
     PLAIN,
     PLAIN,
     // 96 to 111: ` a b c d e f g h i j k l m n o
@@ -150,9 +150,9 @@ const KINDS: [u8; 256] = [
     PLAIN,
     PLAIN,
     PLAIN,
-    SIGN,
-    SIGN,
-    SIGN,
+    SIGN, // {
+    SIGN, // |
+    SIGN, // }
     PLAIN,
     OTHER,
     // 128 to 143

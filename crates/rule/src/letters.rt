@@ -10,7 +10,6 @@ use crate::classes::span;
 use crate::escapes::read_escape;
 use crate::kinds::is_bare;
 use crate::kinds::is_plain;
-ghost use mathlib.Core.Path.{_≡_};
 ghost use Prim.Native.Nat.{_≤_};
 ghost use lib.ListN.{drop, length};
 ghost use Rattle.model.specs.Models.Reader.{readLetter, readMember, readSingle};

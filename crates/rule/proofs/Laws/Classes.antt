@@ -1,14 +1,14 @@
 -- CLASSES AS FOUR WORDS: a mask by its words, the words of a span by two runs from 0 on, one byte, and the bytes of either of two classes.
 use mathlib.Core.Path.{_≡_, refl, sym, ap, ap₂, _∙_, subst}
 use mathlib.Core.Logic.{_⊎_, inl, inr}
-use mathlib.Core.Bool.{Bool, true, false, _&&_, _||_, and-false}
+use mathlib.Core.Bool.{Bool, false, _&&_, _||_, and-false}
 use mathlib.Core.List.{List, [], _∷_}
 use Prim.Native.Nat.{ℕ, zero, suc, _+_, _-_, _*_, _%_, _^_, _≤_, _<_}
 use native.Mathlib.Nat.{mul-assoc, mul-comm, pow-suc}
 use native.Mathlib.Numerals.{add-one}
 use native.Mathlib.Omega.{arith}
 use lib.Bits.{bitOr, or-lt}
-use lib.Dec.{T, leb, ltb, ltb→lt, lt→ltb, leb·suc-suc, leb·suc-zero}
+use lib.Dec.{leb, ltb, ltb→lt, lt→ltb, leb·suc-suc, leb·suc-zero}
 use lib.ListN.{length}
 use lib.Pow.{pow-lt}
 use Rattle.model.specs.Bits.{bit, digit, mask}

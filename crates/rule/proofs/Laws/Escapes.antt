@@ -1,15 +1,15 @@
 -- HEX DIGITS AND ESCAPES: what the models make of a list by its first byte.
-use mathlib.Core.Path.{_≡_, refl, sym, ap, _∙_}
-use mathlib.Core.Bool.{Bool, true, false, not, _&&_, _||_, and-false, cond}
+use mathlib.Core.Path.{_≡_}
+use mathlib.Core.Bool.{Bool, true, false, _&&_, and-false, cond}
 use mathlib.Core.List.{List, _∷_}
 use Prim.Native.Nat.{ℕ, _+_, _-_, _*_, _≤_, _<_}
 use native.Mathlib.Omega.{arith}
-use lib.Dec.{T, eqb, leb, leb→le}
+use lib.Dec.{T, leb, leb→le}
 use Rattle.model.specs.Lists.{within}
 use Rattle.model.specs.Bytes.{byte, digital, hexadecimal, signs}
 use Rattle.model.specs.Models.Reader.{bad, got, hexValue, readEscape, readHex, readHexes}
 use Rattle.model.proofs.Laws.Bool.{and-split, le-false, le-true, unequal}
-use Rattle.rule.proofs.Laws.Table.{allBelow, each-below}
+use Rattle.rule.proofs.Laws.Table.{each-below}
 
 -- ---- the value of a hex digit: one test of all bytes
 abbrev valued : ℕ → Bool

@@ -1,13 +1,12 @@
 -- WHAT A KIND'S NUMBER TELLS OF ITS BYTE: one test of all 256 bytes, which the checker computes.
-use mathlib.Core.Path.{_≡_, refl, sym}
-use mathlib.Core.Bool.{Bool, true, false, not, _&&_}
+use mathlib.Core.Path.{_≡_, refl}
+use mathlib.Core.Bool.{Bool, true, false, not}
 use Prim.Native.Nat.{ℕ, _<_}
 use lib.Dec.{T, eqb, leb}
 use Rattle.model.specs.Bytes.{digital, hexadecimal, kind, plain, signs}
 use Rattle.model.specs.Lists.{within}
-use Rattle.model.proofs.Laws.Bool.{and-split}
 use Rattle.rule.specs.Kinds.{number}
-use Rattle.rule.proofs.Laws.Table.{allBelow, each-below}
+use Rattle.rule.proofs.Laws.Table.{each-below}
 
 abbrev agree : Bool → Bool → Bool
 agree true b = b

@@ -1,7 +1,7 @@
 -- THE LOOP OVER A CLASS'S MEMBERS: what the model reads from the class's first member on is what it reads from the member at hand on, with the
 -- bytes of the members before it. The model counts down a bound on their number, which stays above the number of bytes that are left.
 use mathlib.Core.Path.{_≡_, refl, sym, ap, _∙_}
-use mathlib.Core.List.{List, [], _∷_}
+use mathlib.Core.List.{List}
 use Prim.Native.Nat.{ℕ, zero, suc, _+_, _≤_, _<_}
 use native.Mathlib.Omega.{arith}
 use lib.Bits.{bitOr}
@@ -40,7 +40,7 @@ module _ {rule : List ℕ} {at : ℕ} where
 
     module _ {d q : ℕ} (t : Took rule (readMember (drop p rule)) d q) where
       pub members-on : p < q
-      members-on = further rule p t (member-falls (drop p rule))
+      members-on = further rule t p (member-falls (drop p rule))
 
       -- the member is read, and what follows it decides
       then : afterBracket (drop at rule) ≡ afterMember (M .left) c d (drop q rule)

@@ -43,7 +43,8 @@ module _ (rule : List ℕ) (at : ℕ) {x : ℕ} (e : x ≡ getD rule at 0) where
     pub takes : {a : A} → at < length rule → ((xs : List ℕ) → f (x ∷ xs) ≡ got a xs) → Took rule (f (drop at rule)) a (at + 1)
     takes h k = record { reads = ap f (here h) ∙ k (drop (at + 1) rule); inside = omega arith }
 
-    pub goes : (g : List ℕ → Read A) (S : Read A → Type 0) → at < length rule → ((xs : List ℕ) → f (x ∷ xs) ≡ g xs) → S (g (drop (at + 1) rule)) → S (f (drop at rule))
+    pub goes : (g : List ℕ → Read A) (S : Read A → Type 0) → at < length rule → ((xs : List ℕ) → f (x ∷ xs) ≡ g xs)
+        → S (g (drop (at + 1) rule)) → S (f (drop at rule))
     goes g S h k s = subst S (sym (ap f (here h) ∙ k (drop (at + 1) rule))) s
 
     module _ (h : at ≤ length rule) where
@@ -61,5 +62,6 @@ module _ (rule : List ℕ) (at : ℕ) {x : ℕ} (e : x ≡ getD rule at 0) where
       leaves a n k = record { reads = stays (got a) n k; inside = h }
 
       -- the byte decides that g reads here
-      pub turns : (g : List ℕ → Read A) (S : Read A → Type 0) → f [] ≡ g [] → ((xs : List ℕ) → f (x ∷ xs) ≡ g (x ∷ xs)) → S (g (drop at rule)) → S (f (drop at rule))
+      pub turns : (g : List ℕ → Read A) (S : Read A → Type 0) → f [] ≡ g [] → ((xs : List ℕ) → f (x ∷ xs) ≡ g (x ∷ xs))
+          → S (g (drop at rule)) → S (f (drop at rule))
       turns g S n k s = subst S (sym (stays g n k)) s

@@ -1,5 +1,5 @@
 -- WHAT THE CHECKER COMPUTES FOR EVERY NUMBER BELOW n, said of each of them: the entries of a table that is written out, and a test.
-use mathlib.Core.Path.{_≡_, refl, sym, ap, _∙_, subst}
+use mathlib.Core.Path.{_≡_, sym, ap, _∙_, subst}
 use mathlib.Core.Logic.{_⊎_, inl, inr}
 use mathlib.Core.Bool.{Bool, true, _&&_}
 use mathlib.Core.List.{List, [], _∷_}

@@ -1,5 +1,4 @@
 -- `read_escaped`: the byte of the escape alone.
-use mathlib.Core.Path.{_≡_}
 use Prim.Native.Nat.{ℕ, _^_}
 use borrow.Author.Needs.{needs}
 use Rattle.model.specs.Models.Reader.{got}

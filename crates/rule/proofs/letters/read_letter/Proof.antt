@@ -1,7 +1,6 @@
 -- `read_letter`: the first byte decides which of the four letters it is.
-use mathlib.Core.Path.{_≡_, refl, sym, _∙_}
-use mathlib.Core.Bool.{true}
-use Prim.Native.Nat.{ℕ, _^_, _<_}
+use mathlib.Core.Path.{refl, sym, _∙_}
+use Prim.Native.Nat.{_<_}
 use native.Mathlib.Omega.{arith}
 use borrow.Author.Needs.{needs}
 use lib.ListN.{length}
@@ -55,7 +54,8 @@ returns-2 c =
     let b = c .before .before .before .before in
     let a = b .before .before .args in
     took-as (c .every .ensures) (takes (a .rule .now) (a .at) (b .byte-at .ensures) readLetter
-    (inside (a .rule .now) (a .at) (b .byte-at .ensures) (λ z. omega (arith, c .before .if2 .taken))) (λ xs. letter-dot (b .byte-at .result) xs (c .before .if2 .taken)))
+    (inside (a .rule .now) (a .at) (b .byte-at .ensures) (λ z. omega (arith, c .before .if2 .taken)))
+    (λ xs. letter-dot (b .byte-at .result) xs (c .before .if2 .taken)))
 
 add-read-members : tie.Need-add-read-members
 add-read-members c = search needs

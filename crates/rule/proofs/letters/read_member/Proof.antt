@@ -1,6 +1,4 @@
 -- `read_member`: a single, and what follows it.
-use mathlib.Core.Path.{_≡_}
-use native.Mathlib.Omega.{arith}
 use borrow.Author.Needs.{needs}
 use lib.ListN.{drop}
 use Rattle.model.specs.Models.Reader.{readSingle}
@@ -10,7 +8,8 @@ use Rattle.rule.proofs.Laws.Binds.{bind-goes, bind-stops}
 use Rattle.rule.proofs.letters.read_member.Statement.{statement}
 use Rattle.rule.proofs.letters.read_member.Tie as tie
 
-lower : (c : tie.After-known-told) → let a = c .before .before .before .before .before .args in let g = c .before .lower .given .0 in Took (a .rule .now) (readSingle 0 (drop (a .at) (a .rule .now))) (g .0) (g .1 .0)
+lower : (c : tie.After-known-told) → let a = c .before .before .before .before .before .args in let g = c .before .lower .given .0 in
+    Took (a .rule .now) (readSingle 0 (drop (a .at) (a .rule .now))) (g .0) (g .1 .0)
 lower c = rw (c .before .lower .given .1) at (c .before .before .before .read-single .ensures)
 
 read-single-requires : tie.Need-read-single-requires

@@ -1,6 +1,5 @@
 -- `read_members`: the loop keeps what is left to read the same as the whole (`Members`); each member takes a byte, so it ends.
-use mathlib.Core.Path.{_≡_}
-use Prim.Native.Nat.{ℕ, _-_}
+use Prim.Native.Nat.{_-_}
 use native.Mathlib.Omega.{arith}
 use borrow.Author.Needs.{needs}
 use lib.ListN.{drop, length}

@@ -1,5 +1,5 @@
 -- `read_upper`: the single alone, or the range up to the second one.
-use mathlib.Core.Path.{_≡_, refl, sym, _∙_}
+use mathlib.Core.Path.{refl}
 use Prim.Native.Nat.{_<_}
 use native.Mathlib.Omega.{arith}
 use borrow.Author.Needs.{needs}
@@ -26,7 +26,8 @@ returns : tie.Need-returns
 returns c =
     let s = c .before .before .before .before in
     let b = c .before .before .byte-at in
-    took-as (c .span .ensures) (leaves (s .args .rule .now) (s .args .at) (b .ensures) (afterLower (s .args .lo)) (s .pre) (span (s .args .lo) (s .args .lo)) refl
+    took-as (c .span .ensures)
+    (leaves (s .args .rule .now) (s .args .at) (b .ensures) (afterLower (s .args .lo)) (s .pre) (span (s .args .lo) (s .args .lo)) refl
     (λ xs. lower-alone (s .args .lo) (b .result) xs (c .before .if1 .taken)))
 
 add-read-single : tie.Need-add-read-single
@@ -67,4 +68,5 @@ returns-3 c =
 pub read-upper-spec : {M : Type 1} → statement M
 read-upper-spec =
     tie.close
-    (tie.spec byte-at-requires span-requires returns add-read-single read-single-requires enum-known-upper span-requires-2 enum-known-upper-2 returns-2 returns-3)
+    (tie.spec byte-at-requires span-requires returns add-read-single read-single-requires enum-known-upper span-requires-2
+    enum-known-upper-2 returns-2 returns-3)

@@ -1,5 +1,4 @@
 -- `close`: the second number is not 0, and `}` comes next.
-use mathlib.Core.Path.{refl}
 use native.Mathlib.Omega.{arith}
 use borrow.Author.Needs.{needs}
 use lib.ListN.{drop}

@@ -1,5 +1,4 @@
 -- `read_braces`: the two numbers, and `}` after them.
-use mathlib.Core.Path.{_≡_}
 use borrow.Author.Needs.{needs}
 use lib.ListN.{drop}
 use Rattle.model.specs.Models.Reader.{close, readBounds}

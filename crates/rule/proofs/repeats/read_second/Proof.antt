@@ -61,7 +61,8 @@ returns-2 c =
     let b = e .before .before in
     let a = b .before .before .args in
     let n = 10 * a .v + c .before .before .digit-value .result in
-    goes (a .rule .now) (a .at) (b .byte-at .ensures) (readDigits 2 (a .least) (a .v)) (readDigits 1 (a .least) n) (λ m. NumberSays (a .rule .now) m (c .read-third .result))
+    goes (a .rule .now) (a .at) (b .byte-at .ensures) (readDigits 2 (a .least) (a .v)) (readDigits 1 (a .least) n)
+    (λ m. NumberSays (a .rule .now) m (c .read-third .result))
     (inside e) (λ xs. digits-go 1 (a .least) (a .v) (b .byte-at .result) xs (is-digit e)
     (ap (λ (d : ℕ). 10 * a .v + d) (c .before .before .digit-value .ensures .0)) (c .before .if2 .left)) (c .read-third .ensures)
 
@@ -69,17 +70,22 @@ returns-3 : tie.Need-returns-3
 returns-3 c =
     let b = c .before .before .before in
     let s = b .before .before in
-    stops (s .args .rule .now) (s .args .at) (b .byte-at .ensures) (readDigits 2 (s .args .least) (s .args .v)) (s .pre .0) (digits-none-low 1 (s .args .least) (s .args .v) (c .if3 .taken))
-    (λ xs. digits-over-low 1 (s .args .least) (s .args .v) (b .byte-at .result) xs (sym (c .before .before .is-digit .ensures) ∙ c .before .if1 .left) (c .if3 .taken))
+    stops (s .args .rule .now) (s .args .at) (b .byte-at .ensures) (readDigits 2 (s .args .least) (s .args .v)) (s .pre .0)
+    (digits-none-low 1 (s .args .least) (s .args .v) (c .if3 .taken))
+    (λ xs. digits-over-low 1 (s .args .least) (s .args .v) (b .byte-at .result) xs
+    (sym (c .before .before .is-digit .ensures) ∙ c .before .if1 .left) (c .if3 .taken))
 
 returns-4 : tie.Need-returns-4
 returns-4 c =
     let b = c .before .before .before in
     let s = b .before .before in
-    leaves (s .args .rule .now) (s .args .at) (b .byte-at .ensures) (readDigits 2 (s .args .least) (s .args .v)) (s .pre .0) (s .args .v) (digits-none 1 (s .args .least) (s .args .v) (c .if3 .left))
-    (λ xs. digits-over 1 (s .args .least) (s .args .v) (b .byte-at .result) xs (sym (c .before .before .is-digit .ensures) ∙ c .before .if1 .left) (c .if3 .left))
+    leaves (s .args .rule .now) (s .args .at) (b .byte-at .ensures) (readDigits 2 (s .args .least) (s .args .v)) (s .pre .0) (s .args .v)
+    (digits-none 1 (s .args .least) (s .args .v) (c .if3 .left))
+    (λ xs. digits-over 1 (s .args .least) (s .args .v) (b .byte-at .result) xs
+    (sym (c .before .before .is-digit .ensures) ∙ c .before .if1 .left) (c .if3 .left))
 
 pub read-second-spec : {M : Type 1} → statement M
 read-second-spec =
     tie.close
-    (tie.spec byte-at-requires is-digit-requires mul-n digit-value-requires add-n mul-if2 add-if2 returns add-read-third read-third-requires returns-2 returns-3 returns-4)
+    (tie.spec byte-at-requires is-digit-requires mul-n digit-value-requires add-n mul-if2 add-if2 returns add-read-third
+    read-third-requires returns-2 returns-3 returns-4)

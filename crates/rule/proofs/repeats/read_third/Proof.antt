@@ -58,15 +58,19 @@ returns-3 : tie.Need-returns-3
 returns-3 c =
     let b = c .before .before .before in
     let s = b .before .before in
-    stops (s .args .rule .now) (s .args .at) (b .byte-at .ensures) (readDigits 1 (s .args .least) (s .args .v)) (s .pre .0) (digits-none-low 0 (s .args .least) (s .args .v) (c .if3 .taken))
-    (λ xs. digits-over-low 0 (s .args .least) (s .args .v) (b .byte-at .result) xs (sym (c .before .before .is-digit .ensures) ∙ c .before .if1 .left) (c .if3 .taken))
+    stops (s .args .rule .now) (s .args .at) (b .byte-at .ensures) (readDigits 1 (s .args .least) (s .args .v)) (s .pre .0)
+    (digits-none-low 0 (s .args .least) (s .args .v) (c .if3 .taken))
+    (λ xs. digits-over-low 0 (s .args .least) (s .args .v) (b .byte-at .result) xs
+    (sym (c .before .before .is-digit .ensures) ∙ c .before .if1 .left) (c .if3 .taken))
 
 returns-4 : tie.Need-returns-4
 returns-4 c =
     let b = c .before .before .before in
     let s = b .before .before in
-    leaves (s .args .rule .now) (s .args .at) (b .byte-at .ensures) (readDigits 1 (s .args .least) (s .args .v)) (s .pre .0) (s .args .v) (digits-none 0 (s .args .least) (s .args .v) (c .if3 .left))
-    (λ xs. digits-over 0 (s .args .least) (s .args .v) (b .byte-at .result) xs (sym (c .before .before .is-digit .ensures) ∙ c .before .if1 .left) (c .if3 .left))
+    leaves (s .args .rule .now) (s .args .at) (b .byte-at .ensures) (readDigits 1 (s .args .least) (s .args .v)) (s .pre .0) (s .args .v)
+    (digits-none 0 (s .args .least) (s .args .v) (c .if3 .left))
+    (λ xs. digits-over 0 (s .args .least) (s .args .v) (b .byte-at .result) xs
+    (sym (c .before .before .is-digit .ensures) ∙ c .before .if1 .left) (c .if3 .left))
 
 pub read-third-spec : {M : Type 1} → statement M
 read-third-spec =

@@ -1,0 +1,4 @@
+pub mod Kinds
+pub mod Classes
+pub mod Repeats
+pub mod Answers

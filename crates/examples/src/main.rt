@@ -26,11 +26,21 @@ fn show_masks(tape: tape::Tape) {
     let scatter_block = tape::scatter_block(tape);
     let scatter_source = tape::scatter_source(tape);
     let scatter_target = tape::scatter_target(tape);
-    line(b"scatter 0: ", scatter_block[0][0], scatter_source[0][0], scatter_target[0][0]);
+    line(
+        b"scatter 0: ",
+        scatter_block[0][0],
+        scatter_source[0][0],
+        scatter_target[0][0],
+    );
     let gather_block = tape::gather_block(tape);
     let gather_source = tape::gather_source(tape);
     let gather_target = tape::gather_target(tape);
-    line(b"gather 0: ", gather_block[0][0], gather_source[0][0], gather_target[0][0]);
+    line(
+        b"gather 0: ",
+        gather_block[0][0],
+        gather_source[0][0],
+        gather_target[0][0],
+    );
     let block = tape::propagate_block(tape);
     let source = tape::propagate_source(tape);
     let target = tape::propagate_target(tape);
@@ -130,7 +140,12 @@ fn main() {
     kinds[14] = 6;
     let tape = tape::Tape { kinds, length: 16 };
     show_masks(tape);
-    let letters = Letters { states: 17, other: 0, named: [8210, 81928, 1088, 2176], repeats: 0 };
+    let letters = Letters {
+        states: 17,
+        other: 0,
+        named: [8210, 81928, 1088, 2176],
+        repeats: 0,
+    };
     let image = image_of(letters, tape);
     show_ends(image, b"ABACDB");
     show_ends(image, b"ABACDBACDABB");
@@ -151,7 +166,12 @@ fn second() {
     kinds[13] = 6;
     let tape = tape::Tape { kinds, length: 15 };
     show_masks(tape);
-    let letters = Letters { states: 16, other: 1024, named: [5130, 9808, 33792, 1024], repeats: 1024 };
+    let letters = Letters {
+        states: 16,
+        other: 1024,
+        named: [5130, 9808, 33792, 1024],
+        repeats: 1024,
+    };
     let image = image_of(letters, tape);
     show_ends(image, b"AC");
     show_ends(image, b"ABBCxxC");

@@ -7,9 +7,8 @@ use native.Mathlib.Omega.{arith}
 use lib.Dec.{T, leb, leb→le}
 use lib.ListN.{length, length-take, take}
 use lib.Pow.{pow-pos}
-use Rattle.model.specs.Edges.{depth, states}
 use Rattle.model.specs.Models.LayOut.{begin, reach, valid}
-use Rattle.model.specs.Models.Tokens.{aBar, aClose, aLetter, anOpen, Token, tokens}
+use Rattle.model.specs.Models.Tokens.{aBar, aClose, aLetter, anOpen, Token}
 use Rattle.model.specs.Tree as tree
 use Rattle.model.proofs.Image.Classes.{AllFine, Fine}
 use Rattle.model.proofs.Image.Depth.{reach-is, valid-reach}
@@ -93,14 +92,16 @@ module _ (t : Tape) (room : length (t .kinds) ≡ 512) (is : T (isTree t)) where
   tree-there =
       let s = R .tree in
       let e = R .of-tokens in
-      let w = reading.well-formed s .0 (image.well-formed s .1 (R .begun, R .good, subst AllFine (sym e) (all-fine (tokensOf t)))) in
-      (s, record {
-        rule = w .0;
-        is-rule = w .1;
-        few = omega (arith, length-tokens s, ap length e, long, short);
-        shallow = omega (arith, sym (reach-is s) ∙ ap (λ (m : List Token). reach m begin) e, valid-reach l begin is-valid);
-        tape = record { long = long ∙ ap length (sym e); tokens-are = sym (ap bares e ∙ bare-l) };
-      })
+      let w = reading.well-formed s .0 (image.well-formed s .1 (R .begun, R .good, subst AllFine (sym e) (all-fine (tokensOf t)))) in (
+        s,
+        record {
+          rule = w .0;
+          is-rule = w .1;
+          few = omega (arith, length-tokens s, ap length e, long, short);
+          shallow = omega (arith, sym (reach-is s) ∙ ap (λ (m : List Token). reach m begin) e, valid-reach l begin is-valid);
+          tape = record { long = long ∙ ap length (sym e); tokens-are = sym (ap bares e ∙ bare-l) };
+        },
+      )
 
 abbrev isOther : Shape → Type 0
 isOther Other = Unit

@@ -5,7 +5,6 @@ use mathlib.Core.List.{List, [], _∷_}
 use Prim.Native.Nat.{ℕ, suc, max}
 use lib.Dec.{leb}
 use lib.ListN.{length, take}
-use Rattle.model.specs.Tree.{once, option, plus, star}
 use Rattle.model.specs.Tree as tree
 use Rattle.model.specs.Models.LayOut.{begin, entering, leaving, reach, valid, Which}
 use Rattle.model.specs.Models.Tokens.{aBar, aClose, aLetter, anOpen}

@@ -3,7 +3,6 @@ use mathlib.Core.Path.{_≡_, refl, ap, _∙_}
 use mathlib.Core.List.{List}
 use Prim.Native.Nat.{ℕ, suc, _+_, _-_, _≤_}
 use native.Mathlib.Omega.{arith}
-use borrow.Author.Needs.{needs}
 use lib.ListN.{set}
 use Rattle.examples.proofs.masks_of_bytes.Statement.{statement}
 use Rattle.examples.proofs.masks_of_bytes.Tie as tie

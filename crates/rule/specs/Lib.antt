@@ -2,3 +2,4 @@ pub mod Kinds
 pub mod Classes
 pub mod Repeats
 pub mod Answers
+pub mod Tokens

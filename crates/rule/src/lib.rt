@@ -7,7 +7,12 @@ pub mod classes;
 mod escapes;
 pub mod kinds;
 mod letters;
+mod readers;
 mod repeats;
+pub mod tokens;
+
+use crate::readers::bracket;
+use crate::readers::read_alternatives;
 
 // One byte that was read.
 pub enum Byte {
@@ -56,9 +61,73 @@ pub enum Sign {
     Bad(usize),
 }
 
+// An item or a sequence: the place after it and the number of the token after its own.
+pub enum Part {
+    Got(usize, usize),
+    Bad(usize),
+}
+
+// Alternatives, one or several: likewise.
+pub enum Alternatives {
+    One(usize, usize),
+    Several(usize, usize),
+    Bad(usize),
+}
+
+// What a rule is: refused with 1, 2 or 3 (document 01, "Numbers given back"), or the rule of a tree of so many states.
+pub enum Outcome {
+    TooLong,
+    NotARule,
+    TooManyStates,
+    Tree(usize),
+}
+
+// What was read, and the tokens of its tree, five words for each; 0 after them, and everywhere after a refusal.
+pub struct Reading {
+    pub outcome: Outcome,
+    pub tokens: [u64; 2555],
+}
+
 // The byte at a place; at the rule's end 0, which no reader takes.
 pub fn byte_at(rule: &[u8], at: usize) -> u8
     ensures { λ r. ⌜ r ≡ getD (now (rule .entry)) at 0 ⌝ }
 {
     if at < rule.len() { rule[at] } else { 0 }
+}
+
+// Of what a rule's alternatives are, as one item, and the whole rule's length.
+fn outcome_of(whole: Part, length: usize) -> Outcome {
+    match whole {
+        Part::Got(p, next) => {
+            if p < length {
+                return Outcome::NotARule;
+            }
+            if next > 511 {
+                return Outcome::TooManyStates;
+            }
+            Outcome::Tree(next + 1)
+        }
+        Part::Bad(_) => Outcome::NotARule,
+    }
+}
+
+// A reading that gives no tokens.
+fn refuse(outcome: Outcome) -> Reading {
+    let tokens = [0; 2555];
+    Reading { outcome, tokens }
+}
+
+// A rule, from its first byte to its last.
+pub fn read_rule(rule: &[u8]) -> Reading {
+    if rule.len() > 1024 {
+        return refuse(Outcome::TooLong);
+    }
+    let mut tokens = [0; 2555];
+    let alternatives = read_alternatives(rule, 0, &mut tokens, 0);
+    let whole = bracket(&mut tokens, 0, alternatives);
+    let outcome = outcome_of(whole, rule.len());
+    let Outcome::Tree(_) = outcome else {
+        return refuse(outcome);
+    };
+    Reading { outcome, tokens }
 }

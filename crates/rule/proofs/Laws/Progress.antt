@@ -15,6 +15,7 @@ use Rattle.model.proofs.Reading.Letters.{sound-letter}
 use Rattle.model.proofs.Reading.Signs.{sound-sign}
 use Rattle.rule.specs.Answers.{Took}
 use Rattle.rule.specs.Classes.{afterLower, afterMinus}
+use Rattle.rule.specs.Repeats.{Bounded}
 
 -- fewer bytes are left than l has
 abbrev pub Falls : {A : Type 0} → List ℕ → Read A → Type 0
@@ -70,11 +71,6 @@ bounds-small : {w : List ℕ} {x y : ℕ} → IsBounds w x y → y ≤ 999
 bounds-small (both p a b) = number-small b
 bounds-small (same p a) = omega (arith, number-small a)
 bounds-small (upto p q b) = number-small b
-
--- how far the numbers of a sign go
-abbrev pub Bounded : Sign → Type 0
-Bounded (plainly r) = Unit {0}
-Bounded (times x y) = (x ≤ y) × (1 ≤ y) × (y ≤ 999)
 
 bounded : {w : List ℕ} {q : Sign} → IsSign w q → Bounded q
 bounded (absent p q) = rw q tt

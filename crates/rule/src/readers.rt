@@ -1,0 +1,122 @@
+// The three readers that call each other: "Alternatives hold sequences, sequences hold items, items hold alternatives" (document 01). Each writes
+// the tokens of what it reads from token n on. The bytes that remain fall from call to call, so brackets may nest as deep as the rule is long.
+use crate::Alternatives;
+use crate::Class;
+use crate::Letter;
+use crate::Part;
+use crate::Sign;
+use crate::byte_at;
+use crate::classes::none;
+use crate::letters::read_letter;
+use crate::repeats::read_sign;
+use crate::tokens::BAR;
+use crate::tokens::CLOSE;
+use crate::tokens::insert_open;
+use crate::tokens::put;
+use crate::tokens::put_letter;
+
+// The repeat sign of a letter.
+fn read_repeated(rule: &[u8], at: usize, class: Class, tokens: &mut [u64; 2555], n: usize) -> Part {
+    let sign = read_sign(rule, at);
+    match sign {
+        Sign::Got(repeat, p) => {
+            let next = put_letter(tokens, n, class, repeat);
+            Part::Got(p, next)
+        }
+        Sign::Bad(p) => Part::Bad(p),
+    }
+}
+
+// A letter with at most one repeat sign.
+fn read_piece(rule: &[u8], at: usize, tokens: &mut [u64; 2555], n: usize) -> Part {
+    let letter = read_letter(rule, at);
+    match letter {
+        Letter::Got(class, p) => read_repeated(rule, p, class, tokens, n),
+        Letter::Bad(p) => Part::Bad(p),
+    }
+}
+
+// Alternatives as one item: several are a union, and get its open and its close.
+pub fn bracket(tokens: &mut [u64; 2555], n: usize, alternatives: Alternatives) -> Part {
+    match alternatives {
+        Alternatives::One(p, next) => Part::Got(p, next),
+        Alternatives::Several(p, next) => {
+            insert_open(tokens, n, next);
+            put(tokens, next + 1, CLOSE, none());
+            Part::Got(p, next + 2)
+        }
+        Alternatives::Bad(p) => Part::Bad(p),
+    }
+}
+
+// Bracketed alternatives, before their `)`.
+fn close_item(rule: &[u8], tokens: &mut [u64; 2555], n: usize, alternatives: Alternatives) -> Part {
+    let item = bracket(tokens, n, alternatives);
+    let Part::Got(p, next) = item else {
+        return item;
+    };
+    if byte_at(rule, p) != b')' {
+        return Part::Bad(p);
+    }
+    Part::Got(p + 1, next)
+}
+
+// Whether a sequence is over here: before `|`, before `)` and at the end.
+fn is_over(rule: &[u8], at: usize) -> bool {
+    if at >= rule.len() {
+        return true;
+    }
+    let x = rule[at];
+    x == b'|' || x == b')'
+}
+
+// Alternatives after a bar, as those of the union that the bar is of.
+fn several(rest: Alternatives) -> Alternatives {
+    match rest {
+        Alternatives::One(p, next) => Alternatives::Several(p, next),
+        Alternatives::Several(p, next) => Alternatives::Several(p, next),
+        Alternatives::Bad(p) => Alternatives::Bad(p),
+    }
+}
+
+// A letter with at most one repeat sign, or bracketed alternatives without one.
+fn read_item(rule: &[u8], at: usize, tokens: &mut [u64; 2555], n: usize) -> Part {
+    if byte_at(rule, at) != b'(' {
+        return read_piece(rule, at, tokens, n);
+    }
+    let alternatives = read_alternatives(rule, at + 1, tokens, n);
+    close_item(rule, tokens, n, alternatives)
+}
+
+// One or more items. "An item that isn't read ends the whole reading at once."
+fn read_sequence(rule: &[u8], at: usize, tokens: &mut [u64; 2555], n: usize) -> Part {
+    let item = read_item(rule, at, tokens, n);
+    let Part::Got(p, next) = item else {
+        return item;
+    };
+    if is_over(rule, p) {
+        return item;
+    }
+    read_sequence(rule, p, tokens, next)
+}
+
+// One or more sequences, with `|` between them.
+pub fn read_alternatives(
+    rule: &[u8],
+    at: usize,
+    tokens: &mut [u64; 2555],
+    n: usize,
+) -> Alternatives {
+    let sequence = read_sequence(rule, at, tokens, n);
+    match sequence {
+        Part::Got(p, next) => {
+            if byte_at(rule, p) != b'|' {
+                return Alternatives::One(p, next);
+            }
+            put(tokens, next, BAR, none());
+            let rest = read_alternatives(rule, p + 1, tokens, next + 1);
+            several(rest)
+        }
+        Part::Bad(p) => Alternatives::Bad(p),
+    }
+}

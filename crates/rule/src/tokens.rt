@@ -1,0 +1,111 @@
+// Tokens, written down as they are read: five words for each, its kind and its class. There is room for the 511 tokens between 512 states; what
+// lies past them is counted by the readers, and not written.
+use crate::Class;
+use crate::Repeat;
+use crate::classes::none;
+ghost use mathlib.Core.Path.{_≡_};
+ghost use mathlib.Core.List.{[], _∷_};
+ghost use Prim.Native.Nat.{_+_, _-_, _*_, _^_, _≤_, _<_};
+ghost use lib.ListN.{drop, length, take};
+ghost use lib.Seq.{sets};
+ghost use Rattle.model.specs.Grammar.{repeated};
+ghost use Rattle.model.specs.Models.Tokens.{anOpen, tokens as tokensOf};
+ghost use Rattle.rule.specs.Answers.{signOf};
+ghost use Rattle.rule.specs.Classes.{bytesOf, wordsOf};
+ghost use Rattle.rule.specs.Repeats.{Bounded};
+ghost use Rattle.rule.specs.Tokens.{opened, rowWords, timesWords, tokenWords};
+
+// The kinds of tokens: a letter taken once, `?`, `*` or `+`; a union's open, bar and close.
+pub const ONCE: u64 = 0;
+
+pub const OPTION: u64 = 1;
+
+pub const STAR: u64 = 2;
+
+pub const PLUS: u64 = 3;
+
+pub const OPEN: u64 = 4;
+
+pub const BAR: u64 = 5;
+
+pub const CLOSE: u64 = 6;
+
+// Token n.
+pub fn put(tokens: &mut [u64; 2555], n: usize, kind: u64, class: Class)
+    ensures { λ r. ⌜ now (tokens .exit) ≡ sets (now (tokens .entry)) (5 * n) (kind ∷ wordsOf class) ⌝ }
+{
+    if n >= 511 {
+        return;
+    }
+    let at = 5 * n;
+    tokens[at] = kind;
+    tokens[at + 1] = class.word0;
+    tokens[at + 2] = class.word1;
+    tokens[at + 3] = class.word2;
+    tokens[at + 4] = class.word3;
+}
+
+// The token n and those after it up to n + count - 1, all alike.
+pub fn put_many(tokens: &mut [u64; 2555], n: usize, count: usize, kind: u64, class: Class)
+    requires { ⌜ n + count < 2 ^ 32 ⌝ }
+    ensures { λ r. ⌜ now (tokens .exit) ≡ sets (now (tokens .entry)) (5 * n) (timesWords count (kind ∷ wordsOf class)) ⌝ }
+{
+    let mut i: usize = 0;
+    while i < count {
+        put(tokens, n + i, kind, class);
+        i += 1;
+    }
+}
+
+// Tokens `from` to `to` less 1 each one further.
+fn shift(tokens: &mut [u64; 2555], from: usize, to: usize)
+    requires { ⌜ (from ≤ to) × (to < 2 ^ 32) ⌝ }
+    ensures { λ r. ⌜ now (tokens .exit) ≡ sets (now (tokens .entry)) (5 * from + 5) (take (5 * (to - from)) (drop (5 * from) (now (tokens .entry)))) ⌝ }
+{
+    let mut i = if to < 511 { 5 * to + 5 } else { 2555 };
+    let stop = 5 * from + 5;
+    while i > stop {
+        i -= 1;
+        tokens[i] = tokens[i - 5];
+    }
+}
+
+// An open before the tokens `from` to `to` less 1.
+pub fn insert_open(tokens: &mut [u64; 2555], from: usize, to: usize)
+    requires { ⌜ (from ≤ to) × (to < 2 ^ 32) ⌝ }
+    ensures { λ r. ⌜ now (tokens .exit) ≡ opened (now (tokens .entry)) from (to - from) (tokenWords anOpen) ⌝ }
+{
+    shift(tokens, from, to);
+    put(tokens, from, OPEN, none());
+}
+
+// A letter with its repeat sign, from token n on; and the number of the token after it.
+pub fn put_letter(tokens: &mut [u64; 2555], n: usize, class: Class, repeat: Repeat) -> usize
+    requires { ⌜ (n < 2 ^ 31) × Bounded (signOf repeat) ⌝ }
+    ensures count { λ r. ⌜ r ≡ n + length (tokensOf (repeated (bytesOf class) (signOf repeat)) []) ⌝ }
+    ensures written { λ r. ⌜ now (tokens .exit) ≡ sets (now (tokens .entry)) (5 * n) (rowWords (tokensOf (repeated (bytesOf class) (signOf repeat)) [])) ⌝ }
+{
+    match repeat {
+        Repeat::Once => {
+            put(tokens, n, ONCE, class);
+            n + 1
+        }
+        Repeat::Option => {
+            put(tokens, n, OPTION, class);
+            n + 1
+        }
+        Repeat::Star => {
+            put(tokens, n, STAR, class);
+            n + 1
+        }
+        Repeat::Plus => {
+            put(tokens, n, PLUS, class);
+            n + 1
+        }
+        Repeat::Times(x, y) => {
+            put_many(tokens, n, y - x, OPTION, class);
+            put_many(tokens, n + (y - x), x, ONCE, class);
+            n + y
+        }
+    }
+}

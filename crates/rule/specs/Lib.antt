@@ -3,3 +3,4 @@ pub mod Classes
 pub mod Repeats
 pub mod Answers
 pub mod Tokens
+pub mod Parts

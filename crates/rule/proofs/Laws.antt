@@ -12,3 +12,7 @@ pub mod Letters
 pub mod Repeats
 pub mod Progress
 pub mod Members
+pub mod Writes
+pub mod Written
+pub mod Rows
+pub mod Cycle

@@ -12,3 +12,5 @@ pub mod Letters
 pub mod Repeats
 pub mod Progress
 pub mod Members
+pub mod Writes
+pub mod Written

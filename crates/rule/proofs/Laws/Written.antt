@@ -1,0 +1,94 @@
+-- TOKENS WRITTEN ONE AFTER ANOTHER: a token is five words, so a row of n is 5 * n words; and a class's four words are those of its number.
+use mathlib.Core.Path.{_≡_, refl, sym, ap, ap₂, _∙_}
+use mathlib.Core.List.{List, [], _∷_, _++_, append-assoc, append-nil}
+use Prim.Native.Nat.{ℕ, zero, suc, _+_, _*_, _/_, _%_, _^_}
+use native.Mathlib.Omega.{arith}
+use lib.ListN.{length, take, drop, length-append}
+use lib.Seq.{sets}
+use Rattle.model.specs.Grammar.{copies}
+use Rattle.model.specs.Image.{words}
+use Rattle.model.specs.Models.Tokens.{aLetter, Token, tokens}
+use Rattle.model.specs.Models.Words.{Fit, value}
+use Rattle.model.specs.Tree.{Repeat, Seq}
+use Rattle.model.proofs.Laws.Each.{each-app}
+use Rattle.rule.specs.Classes.{bytesOf, wordsOf}
+use Rattle.rule.specs.Tokens.{opened, repeatKind, rowWords, timesWords, tokenWords}
+use Rattle.rule.specs.declared.Class.{Class}
+use Rattle.rule.proofs.Laws.Writes.{sets-append, sets-opened}
+
+-- ---- rows of tokens
+pub row-append : (a b : List Token) → rowWords (a ++ b) ≡ rowWords a ++ rowWords b
+row-append a b = each-app tokenWords a b
+
+pub row-length : (a : List Token) → length (rowWords a) ≡ 5 * length a
+row-length [] = refl
+row-length (y ∷ a) = omega (arith, row-length a)
+
+pub sets-row-append : (l : List ℕ) (n : ℕ) (a b : List Token)
+    → sets l (5 * n) (rowWords (a ++ b)) ≡ sets (sets l (5 * n) (rowWords a)) (5 * (n + length a)) (rowWords b)
+sets-row-append l n a b =
+    let e : 5 * n + length (rowWords a) ≡ 5 * (n + length a) = omega (arith, row-length a) in
+    ap (sets l (5 * n)) (row-append a b)
+    ∙ sets-append l (5 * n) (rowWords a) (rowWords b)
+    ∙ ap (λ (k : ℕ). sets (sets l (5 * n) (rowWords a)) k (rowWords b)) e
+
+-- the words ws before a row that is written
+pub opened-row : (l : List ℕ) (n : ℕ) (a : List Token) (ws : List ℕ) → opened (sets l (5 * n) (rowWords a)) n (length a) ws ≡ sets l (5 * n) (ws ++ rowWords a)
+opened-row l n a ws =
+    let old = sets l (5 * n) (rowWords a) in
+    ap (λ (k : ℕ). sets old (5 * n) (ws ++ take k (drop (5 * n) old))) (sym (row-length a)) ∙ sets-opened l (5 * n) (rowWords a) ws
+
+-- ---- a token many times
+pub times-length : (n : ℕ) (ws : List ℕ) → length ws ≡ 5 → length (timesWords n ws) ≡ 5 * n
+times-length zero ws h = refl
+times-length (suc n) ws h = length-append ws (timesWords n ws) ∙ (let e : length ws + length (timesWords n ws) ≡ 5 * suc n = omega (arith, times-length n ws h) in e)
+
+times-last : (n : ℕ) (ws : List ℕ) → timesWords (suc n) ws ≡ timesWords n ws ++ ws
+times-last zero ws = append-nil ws
+times-last (suc n) ws = ap (λ (r : List ℕ). ws ++ r) (times-last n ws) ∙ sym (append-assoc ws (timesWords n ws) ws)
+
+-- one time more
+pub sets-times : (l : List ℕ) (n i : ℕ) (ws : List ℕ) → length ws ≡ 5
+    → sets (sets l (5 * n) (timesWords i ws)) (5 * (n + i)) ws ≡ sets l (5 * n) (timesWords (suc i) ws)
+sets-times l n i ws h =
+    let e : 5 * (n + i) ≡ 5 * n + length (timesWords i ws) = omega (arith, times-length i ws h) in
+    ap (λ (k : ℕ). sets (sets l (5 * n) (timesWords i ws)) k ws) e
+    ∙ sym (sets-append l (5 * n) (timesWords i ws) ws)
+    ∙ ap (sets l (5 * n)) (sym (times-last i ws))
+
+pub row-copies : (n c : ℕ) (r : Repeat) (s : Seq) → rowWords (tokens (copies n c r s) []) ≡ timesWords n (tokenWords (aLetter c r)) ++ rowWords (tokens s [])
+row-copies zero c r s = refl
+row-copies (suc n) c r s =
+    let ws = tokenWords (aLetter c r) in
+    ap (λ (k : List ℕ). ws ++ k) (row-copies n c r s) ∙ sym (append-assoc ws (timesWords n ws) (rowWords (tokens s [])))
+
+pub copies-length : (n c : ℕ) (r : Repeat) (s : Seq) → length (tokens (copies n c r s) []) ≡ n + length (tokens s [])
+copies-length zero c r s = omega arith
+copies-length (suc n) c r s = omega (arith, copies-length n c r s)
+
+-- ---- a class's words
+words-value : (ws : List ℕ) → Fit ws → words (length ws) (value ws) ≡ ws
+words-value [] f = refl
+words-value (w ∷ ws) f =
+    let low : (w + 2 ^ 64 * value ws) % 2 ^ 64 ≡ w = omega arith in
+    let high : (w + 2 ^ 64 * value ws) / 2 ^ 64 ≡ value ws = omega arith in
+    ap₂ (λ (x : ℕ) (xs : List ℕ). x ∷ xs) low (ap (words (length ws)) high ∙ words-value ws (f .1))
+
+pub class-words : (c : Class) → Fit (wordsOf c) → words 4 (bytesOf c) ≡ wordsOf c
+unfolding bytesOf
+class-words c f = words-value (wordsOf c) f
+
+pub letter-words : (c : Class) (r : Repeat) → Fit (wordsOf c) → tokenWords (aLetter (bytesOf c) r) ≡ repeatKind r ∷ wordsOf c
+letter-words c r f = ap (λ (ws : List ℕ). repeatKind r ∷ ws) (class-words c f)
+
+-- no byte
+words-none : (ws : List ℕ) → value ws ≡ 0 → ws ≡ words (length ws) 0
+words-none [] h = refl
+words-none (w ∷ ws) h =
+    let low : w ≡ 0 = omega arith in
+    let high : value ws ≡ 0 = omega arith in
+    ap₂ (λ (x : ℕ) (xs : List ℕ). x ∷ xs) low (words-none ws high)
+
+pub no-words : (c : Class) → bytesOf c ≡ 0 → wordsOf c ≡ words 4 0
+unfolding bytesOf
+no-words c h = words-none (wordsOf c) h

@@ -30,11 +30,18 @@ pub const BAR: u64 = 5;
 
 pub const CLOSE: u64 = 6;
 
+// How many words there is room for.
+fn room(tokens: &[u64]) -> usize
+    ensures { λ r. do ⌜ r ≡ (← ⟦tokens.len()⟧ .entry) ⌝ }
+{
+    tokens.len()
+}
+
 // Token n.
 pub fn put(tokens: &mut [u64; 2555], n: usize, kind: u64, class: Class)
     ensures { λ r. ⌜ now (tokens .exit) ≡ sets (now (tokens .entry)) (5 * n) (kind ∷ wordsOf class) ⌝ }
 {
-    if n >= 511 {
+    if n >= room(tokens) / 5 {
         return;
     }
     let at = 5 * n;
@@ -62,7 +69,8 @@ fn shift(tokens: &mut [u64; 2555], from: usize, to: usize)
     requires { ⌜ (from ≤ to) × (to < 2 ^ 32) ⌝ }
     ensures { λ r. ⌜ now (tokens .exit) ≡ sets (now (tokens .entry)) (5 * from + 5) (take (5 * (to - from)) (drop (5 * from) (now (tokens .entry)))) ⌝ }
 {
-    let mut i = if to < 511 { 5 * to + 5 } else { 2555 };
+    let all = room(tokens);
+    let mut i = if to < all / 5 { 5 * to + 5 } else { all };
     let stop = 5 * from + 5;
     while i > stop {
         i -= 1;

@@ -30,7 +30,7 @@ pub const BAR: u64 = 5;
 
 pub const CLOSE: u64 = 6;
 
-// How many words there is room for.
+// How many words there is room for: behind a reference to an array only the slice of all of it tells its length.
 fn room(tokens: &[u64]) -> usize
     ensures { λ r. do ⌜ r ≡ (← ⟦tokens.len()⟧ .entry) ⌝ }
 {

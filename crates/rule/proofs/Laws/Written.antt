@@ -1,15 +1,15 @@
 -- TOKENS WRITTEN ONE AFTER ANOTHER: a token is five words, so a row of n is 5 * n words; and a class's four words are those of its number.
 use mathlib.Core.Path.{_≡_, refl, sym, ap, ap₂, _∙_}
 use mathlib.Core.List.{List, [], _∷_, _++_, append-assoc, append-nil}
-use Prim.Native.Nat.{ℕ, zero, suc, _+_, _*_, _/_, _%_, _^_}
+use Prim.Native.Nat.{ℕ, zero, suc, _+_, _-_, _*_, _/_, _%_, _^_}
 use native.Mathlib.Omega.{arith}
 use lib.ListN.{length, take, drop, length-append}
 use lib.Seq.{sets}
-use Rattle.model.specs.Grammar.{copies}
+use Rattle.model.specs.Grammar.{copies, repeated, times}
 use Rattle.model.specs.Image.{words}
 use Rattle.model.specs.Models.Tokens.{aLetter, Token, tokens}
 use Rattle.model.specs.Models.Words.{Fit, value}
-use Rattle.model.specs.Tree.{Repeat, Seq}
+use Rattle.model.specs.Tree.{end, once, option, Repeat, Seq}
 use Rattle.model.proofs.Laws.Each.{each-app}
 use Rattle.rule.specs.Classes.{bytesOf, wordsOf}
 use Rattle.rule.specs.Tokens.{opened, repeatKind, rowWords, timesWords, tokenWords}
@@ -33,7 +33,8 @@ sets-row-append l n a b =
     ∙ ap (λ (k : ℕ). sets (sets l (5 * n) (rowWords a)) k (rowWords b)) e
 
 -- the words ws before a row that is written
-pub opened-row : (l : List ℕ) (n : ℕ) (a : List Token) (ws : List ℕ) → opened (sets l (5 * n) (rowWords a)) n (length a) ws ≡ sets l (5 * n) (ws ++ rowWords a)
+pub opened-row : (l : List ℕ) (n : ℕ) (a : List Token) (ws : List ℕ)
+    → opened (sets l (5 * n) (rowWords a)) n (length a) ws ≡ sets l (5 * n) (ws ++ rowWords a)
 opened-row l n a ws =
     let old = sets l (5 * n) (rowWords a) in
     ap (λ (k : ℕ). sets old (5 * n) (ws ++ take k (drop (5 * n) old))) (sym (row-length a)) ∙ sets-opened l (5 * n) (rowWords a) ws
@@ -41,7 +42,7 @@ opened-row l n a ws =
 -- ---- a token many times
 pub times-length : (n : ℕ) (ws : List ℕ) → length ws ≡ 5 → length (timesWords n ws) ≡ 5 * n
 times-length zero ws h = refl
-times-length (suc n) ws h = length-append ws (timesWords n ws) ∙ (let e : length ws + length (timesWords n ws) ≡ 5 * suc n = omega (arith, times-length n ws h) in e)
+times-length (suc n) ws h = omega (arith, length-append ws (timesWords n ws), times-length n ws h)
 
 times-last : (n : ℕ) (ws : List ℕ) → timesWords (suc n) ws ≡ timesWords n ws ++ ws
 times-last zero ws = append-nil ws
@@ -56,7 +57,8 @@ sets-times l n i ws h =
     ∙ sym (sets-append l (5 * n) (timesWords i ws) ws)
     ∙ ap (sets l (5 * n)) (sym (times-last i ws))
 
-pub row-copies : (n c : ℕ) (r : Repeat) (s : Seq) → rowWords (tokens (copies n c r s) []) ≡ timesWords n (tokenWords (aLetter c r)) ++ rowWords (tokens s [])
+pub row-copies : (n c : ℕ) (r : Repeat) (s : Seq)
+    → rowWords (tokens (copies n c r s) []) ≡ timesWords n (tokenWords (aLetter c r)) ++ rowWords (tokens s [])
 row-copies zero c r s = refl
 row-copies (suc n) c r s =
     let ws = tokenWords (aLetter c r) in
@@ -80,6 +82,14 @@ class-words c f = words-value (wordsOf c) f
 
 pub letter-words : (c : Class) (r : Repeat) → Fit (wordsOf c) → tokenWords (aLetter (bytesOf c) r) ≡ repeatKind r ∷ wordsOf c
 letter-words c r f = ap (λ (ws : List ℕ). repeatKind r ∷ ws) (class-words c f)
+
+-- y - x times the letter with `?`, then x times the letter
+pub times-row : (c : Class) (x y : ℕ) → Fit (wordsOf c)
+    → rowWords (tokens (repeated (bytesOf c) (times x y)) []) ≡ timesWords (y - x) (1 ∷ wordsOf c) ++ timesWords x (0 ∷ wordsOf c)
+times-row c x y f =
+    row-copies (y - x) (bytesOf c) option (copies x (bytesOf c) once end)
+    ∙ ap₂ _++_ (ap (timesWords (y - x)) (letter-words c option f))
+    (row-copies x (bytesOf c) once end ∙ append-nil (timesWords x (tokenWords (aLetter (bytesOf c) once))) ∙ ap (timesWords x) (letter-words c once f))
 
 -- no byte
 words-none : (ws : List ℕ) → value ws ≡ 0 → ws ≡ words (length ws) 0

@@ -8,14 +8,15 @@ use lib.Dec.{eqb, eqb-refl}
 use lib.ListN.{drop, getD, length, length-append}
 use lib.Seq.{sets}
 use Rattle.model.specs.Bytes.{byte}
-use Rattle.model.specs.Grammar.{bracket}
+use Rattle.model.specs.Grammar.{bracket, copies, plainly, repeated, Sign, times}
 use Rattle.model.specs.Models.Reader.{bad, bind, case, got, over, past, Read, readPiece}
 use Rattle.model.specs.Models.Tokens.{aBar, aClose, anOpen, Token}
-use Rattle.model.specs.Tree.{Alts, glue, last, more, Seq}
+use Rattle.model.specs.Tree.{Alts, end, glue, last, more, once, option, Seq}
 use Rattle.model.proofs.Laws.Bool.{is-true, unequal}
 use Rattle.model.proofs.Reading.Cycle.{alts, alts-is, item, item-falls, item-is, seq, seq-falls, seq-is}
 use Rattle.rule.specs.Answers.{Stopped, Took}
-use Rattle.rule.specs.Parts.{AlternativesSay, bracketWords, closed, PartSays, seqTokens, severalOf, Wrote}
+use Rattle.rule.specs.Parts.{AlternativesSay, bracketed, bracketWords, closed, Countable, PartSays, Sane, seqTokens, severalOf, Wrote}
+use Rattle.rule.specs.Repeats.{Bounded}
 use Rattle.rule.specs.Tokens.{between, opened, rowWords, tokenWords}
 use Rattle.rule.specs.declared.Alternatives.{Alternatives}
 use Rattle.rule.specs.declared.Alternatives.the-variants.{Bad as noAlternatives, One, Several}
@@ -25,7 +26,7 @@ use Rattle.rule.proofs.Laws.Binds.{bind-stops}
 use Rattle.rule.proofs.Laws.Places.{here, inside, stays}
 use Rattle.rule.proofs.Laws.Progress.{further}
 use Rattle.rule.proofs.Laws.Rows.{glue-tokens, union-tokens}
-use Rattle.rule.proofs.Laws.Written.{opened-row, sets-row-append}
+use Rattle.rule.proofs.Laws.Written.{copies-length, opened-row, sets-row-append}
 
 -- ---- the byte x, and no other
 module _ (rule : List ℕ) (p : ℕ) {y : ℕ} (e : y ≡ getD rule p 0) (x : ℕ) where
@@ -45,6 +46,11 @@ module _ {A B : Type 0} {row : A → List Token} {row′ : B → List Token} {ru
     written = rw r (w .written);
     few = w .few;
   }
+
+-- ---- a letter is written down at most 999 times
+pub repeated-few : (c : ℕ) (q : Sign) → Bounded q → length (seqTokens (repeated c q)) ≤ 999
+repeated-few c (plainly r) h = omega arith
+repeated-few c (times x y) h = omega (arith, copies-length (y - x) c option (copies x c once end), copies-length x c once end)
 
 -- ---- a callee that stops
 module _ (rule : List ℕ) (at : ℕ) {p : ℕ} where
@@ -72,15 +78,17 @@ module _ (rule : List ℕ) (at n : ℕ) {before : List ℕ} where
 
     pub sequence-goes : over (drop p rule) ≡ false → (final : List ℕ) (r : Part) → PartSays rule next (seq (drop p rule)) after final r
         → PartSays rule n (seq (drop at rule)) before final r
-    sequence-goes o final (aPart q k) (t, v) =
-        (glue h t, record {
-          took = record { reads = after-item ∙ rw (o, v .took .reads); inside = v .took .inside };
-          count = rw (glue-tokens h t) (omega (arith, v .count, w .count, length-append (seqTokens h) (seqTokens t)));
-          written =
+    sequence-goes o final (aPart q k) (t, v) = (
+      glue h t,
+      record {
+        took = record { reads = after-item ∙ rw (o, v .took .reads); inside = v .took .inside };
+        count = rw (glue-tokens h t) (omega (arith, v .count, w .count, length-append (seqTokens h) (seqTokens t)));
+        written =
             v .written
             ∙ rw (w .written, w .count, glue-tokens h t) (sym (sets-row-append before n (seqTokens h) (seqTokens t)));
-          few = v .few;
-        })
+        few = v .few;
+      },
+    )
     sequence-goes o final (noPart q) v = record { reads = after-item ∙ rw (o, v .reads); inside = v .inside }
 
   -- ---- alternatives, after the first sequence
@@ -106,14 +114,14 @@ module _ (rule : List ℕ) (at n : ℕ) {before : List ℕ} where
       after-bar : alts (drop at rule) ≡ bind (alts (drop (p + 1) rule)) (λ a r. got (more s a) r)
       after-bar = after-sequence ∙ rw (past-one rule p e (byte "|") bar-inside o)
 
-      one-more : {end : List ℕ} {a : Alts} {q k : ℕ} → Wrote between rule (next + 1) (alts (drop (p + 1) rule)) (sets after (5 * next) (tokenWords aBar)) end a q k
-          → Wrote between rule n (alts (drop at rule)) before end (more s a) q k
+      one-more : {final : List ℕ} {a : Alts} {q k : ℕ} → Wrote between rule (next + 1) (alts (drop (p + 1) rule)) (sets after (5 * next) (tokenWords aBar)) final a q k
+          → Wrote between rule n (alts (drop at rule)) before final (more s a) q k
       one-more {a = a} v = record {
         took = record { reads = after-bar ∙ rw (v .took .reads); inside = v .took .inside };
         count = omega (arith, v .count, w .count, length-append (seqTokens s) (aBar ∷ between a));
         written =
-          v .written
-          ∙ rw (w .written, w .count) (bar-written (seqTokens s) (between a));
+            v .written
+            ∙ rw (w .written, w .count) (bar-written (seqTokens s) (between a));
         few = v .few;
       }
         where
@@ -123,12 +131,12 @@ module _ (rule : List ℕ) (at n : ℕ) {before : List ℕ} where
           bar-written u v =
               sym (sets-row-append before n u (aBar ∷ v) ∙ sets-row-append (sets before (5 * n) (rowWords u)) (n + length u) (aBar ∷ []) v)
 
-      pub alternatives-go : (end : List ℕ) (rest : Alternatives)
-          → AlternativesSay rule (next + 1) (alts (drop (p + 1) rule)) (sets after (5 * next) (tokenWords aBar)) end rest
-          → AlternativesSay rule n (alts (drop at rule)) before end (severalOf rest)
-      alternatives-go end (One q k) (t, v) = (s, last t, one-more v)
-      alternatives-go end (Several q k) (t, a, v) = (s, more t a, one-more v)
-      alternatives-go end (noAlternatives q) v = record { reads = after-bar ∙ rw (v .reads); inside = v .inside }
+      pub alternatives-go : (final : List ℕ) (rest : Alternatives)
+          → AlternativesSay rule (next + 1) (alts (drop (p + 1) rule)) (sets after (5 * next) (tokenWords aBar)) final rest
+          → AlternativesSay rule n (alts (drop at rule)) before final (severalOf rest)
+      alternatives-go final (One q k) (t, v) = (s, last t, one-more v)
+      alternatives-go final (Several q k) (t, a, v) = (s, more t a, one-more v)
+      alternatives-go final (noAlternatives q) v = record { reads = after-bar ∙ rw (v .reads); inside = v .inside }
 
 -- ---- an item
 module _ (rule : List ℕ) (at n : ℕ) (before after : List ℕ) (r : Part) {x : ℕ} (e : x ≡ getD rule at 0) where
@@ -142,11 +150,35 @@ module _ (rule : List ℕ) (at n : ℕ) (before after : List ℕ) (r : Part) {x 
   item-bracket o v = subst Says (sym (item-is (drop at rule) ∙ rw (past-one rule at e (byte "(") (inside rule at e (λ z. omega (arith, z, o))) o))) v
 
 -- ---- alternatives made an item
-module _ {rule : List ℕ} {n : ℕ} {m : Read Alts} {before now : List ℕ} where
+-- a count that is sane can go on by two
+pub countable : (rule : List ℕ) (n : ℕ) (alternatives : Alternatives) → length rule ≤ 1024 → Sane rule n alternatives → Countable n alternatives
+countable rule n (One p next) l h = tt
+countable rule n (Several p next) l h = (h .1, omega arith)
+countable rule n (noAlternatives p) l h = tt
+
+-- what was read is sane
+pub says-sane : (rule : List ℕ) (n : ℕ) (m : Read Alts) (before now : List ℕ) (alternatives : Alternatives)
+    → AlternativesSay rule n m before now alternatives → Sane rule n alternatives
+says-sane rule n m before now (One p next) (s, w) = (w .took .inside, omega (arith, w .count), w .few)
+says-sane rule n m before now (Several p next) (s, a, w) = (w .took .inside, omega (arith, w .count), w .few)
+says-sane rule n m before now (noAlternatives p) w = tt
+
+module _ (rule : List ℕ) (n : ℕ) (m : Read Alts) (before : List ℕ) where
+  -- the alternatives a were read, and stand in the buffer as one item
+  pub record Grouped (after : List ℕ) (a : Alts) (p next : ℕ) : Type 0 where
+    pub took : Took rule m a p
+    pub count : next ≡ n + length (seqTokens (bracket a))
+    pub written : after ≡ sets before (5 * n) (rowWords (seqTokens (bracket a)))
+    pub few : next ≤ 999 * p + 2
+
+  abbrev pub ItemSays : List ℕ → Part → Type 0
+  ItemSays after (aPart p next) = (a : Alts) × Grouped after a p next
+  ItemSays after (noPart p) = Stopped rule m p
+
   -- the open and the close of several
-  pub union-written : {s : Seq} {a : Alts} {p next : ℕ} → Wrote between rule n m before now (more s a) p next
+  union-written : {now : List ℕ} {s : Seq} {a : Alts} {p next : ℕ} → Wrote between rule n m before now (more s a) p next
       → bracketWords now n (Several p next) ≡ sets before (5 * n) (rowWords (seqTokens (bracket (more s a))))
-  union-written {s} {a} {p} {next} w =
+  union-written {s = s} {a = a} {next = next} w =
       let row = between (more s a) in
       let k : next - n ≡ length row = omega (arith, w .count) in
       let c : 5 * (next + 1) ≡ 5 * (n + length (anOpen ∷ row)) = omega (arith, w .count) in
@@ -154,3 +186,38 @@ module _ {rule : List ℕ} {n : ℕ} {m : Read Alts} {before now : List ℕ} whe
       ∙ ap (λ (l : List ℕ). sets l (5 * (n + length (anOpen ∷ row))) (tokenWords aClose)) (opened-row before n row (tokenWords anOpen))
       ∙ sym (sets-row-append before n (anOpen ∷ row) (aClose ∷ []))
       ∙ ap (λ (r : List Token). sets before (5 * n) (rowWords r)) (sym (union-tokens s a))
+
+  pub item-says : (now : List ℕ) (alternatives : Alternatives) → AlternativesSay rule n m before now alternatives
+      → ItemSays (bracketWords now n alternatives) (bracketed alternatives)
+  item-says now (One p next) (s, w) = (last s, record { took = w .took; count = w .count; written = w .written; few = omega (arith, w .few) })
+  item-says now (Several p next) (s, a, w) =
+      let row = between (more s a) in (
+        more s a,
+        record {
+          took = w .took;
+          count = omega (arith, w .count, ap length (union-tokens s a), length-append row (aClose ∷ []));
+          written = union-written w;
+          few = omega (arith, w .few);
+        },
+      )
+  item-says now (noAlternatives p) w = w
+
+  -- ---- and before their `)`
+  pub close-stops : {p : ℕ} → Stopped rule m p → Stopped rule (closed m) p
+  close-stops h = bind-stops (λ a r. bind (past (byte ")") r) (λ y r′. got (bracket a) r′)) h
+
+  module _ {after : List ℕ} {a : Alts} {p next : ℕ} (w : Grouped after a p next) {x : ℕ} (e : x ≡ getD rule p 0) where
+    pub close-other : (x ≡ byte ")" → ⊥) → Stopped rule (closed m) p
+    close-other o = record { reads = rw (w .took .reads, past-other rule p e (byte ")") (w .took .inside) o); inside = w .took .inside }
+
+    pub close-here : x ≡ byte ")" → PartSays rule n (closed m) before after (aPart (p + 1) next)
+    close-here o =
+        let h = inside rule p e (λ z. omega (arith, z, o)) in (
+          bracket a,
+          record {
+            took = record { reads = rw (w .took .reads, past-one rule p e (byte ")") h o); inside = omega arith };
+            count = w .count;
+            written = w .written;
+            few = omega (arith, w .few);
+          },
+        )

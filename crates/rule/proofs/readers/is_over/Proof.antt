@@ -11,7 +11,7 @@ use Rattle.rule.proofs.readers.is_over.Statement.{statement}
 use Rattle.rule.proofs.readers.is_over.Tie as tie
 
 returns : tie.Need-returns
-returns c = ap over (sym (drop-of-length-le (c .before .args .at) (c .before .args .rule .now) (c .if1 .taken)))
+returns c = ap over (sym (drop-of-length-le (c .before .args .rule .now) (c .if1 .taken)))
 
 shared-slice-read-x : tie.Need-shared-slice-read-x
 shared-slice-read-x c = search needs

@@ -1,0 +1,42 @@
+-- A letter, and then its sign; the letter takes at least one byte, which allows for 999 tokens.
+use mathlib.Core.Path.{_≡_, refl, sym, ap, _∙_, subst}
+use mathlib.Core.List.{List}
+use Prim.Native.Nat.{ℕ, _+_, _*_, _≤_, _<_}
+use native.Mathlib.Omega.{arith}
+use lib.ListN.{drop, length}
+use borrow.Author.Needs.{needs}
+use Rattle.model.specs.Models.Reader.{Read}
+use Rattle.model.specs.Tree.{Seq}
+use Rattle.rule.specs.Parts.{afterLetter, PartSays}
+use Rattle.rule.proofs.Laws.Binds.{bind-goes, bind-stops}
+use Rattle.rule.proofs.Laws.Progress.{letter-on}
+use Rattle.rule.proofs.readers.read_piece.Statement.{statement}
+use Rattle.rule.proofs.readers.read_piece.Tie as tie
+
+read-letter-requires : tie.Need-read-letter-requires
+read-letter-requires c κs = c .before .pre .inside
+
+enum-known-letter : tie.Need-enum-known-letter
+enum-known-letter c = search needs
+
+read-repeated-requires : tie.Need-read-repeated-requires
+read-repeated-requires c κs =
+    let s = c .before .before .before .before .before .before in
+    let t = rw (c .before .before .letter .given .1) at (c .before .before .before .before .read-letter .ensures) in
+    record { inside = t .inside; short = s .pre .short; few = omega (arith, s .pre .few, letter-on (s .args .rule .now) (s .args .at) t) }
+
+enum-known-letter-2 : tie.Need-enum-known-letter-2
+enum-known-letter-2 c = search needs
+
+returns : tie.Need-returns
+returns c =
+    let a = c .before .before .before .before .before .before .before .args in
+    let t = rw (c .before .before .before .letter .given .1) at (c .before .before .before .before .before .read-letter .ensures) in
+    bind-goes t afterLetter (λ m. PartSays (a .rule .now) (a .n) m (a .tokens .now) (c .read-repeated .last .1 .1 .1 .0) (c .read-repeated .result))
+    (c .read-repeated .ensures)
+
+returns-2 : tie.Need-returns-2
+returns-2 c = bind-stops afterLetter (rw (c .before .letter2 .given .1) at (c .before .before .before .read-letter .ensures))
+
+pub read-piece-spec : {M : Type 1} → statement M
+read-piece-spec = tie.close (tie.spec read-letter-requires enum-known-letter read-repeated-requires enum-known-letter-2 returns returns-2)

@@ -1,0 +1,230 @@
+-- The three readers do what the model's three do, by one induction: from call to call the bytes that remain fall, and each way out of a reader is
+-- one law of Laws/Cycle.
+use mathlib.Core.Path.{_≡_, refl, sym, ap, _∙_, subst}
+use mathlib.Core.List.{List, _∷_}
+use Prim.Native.Nat.{ℕ, _+_, _-_, _*_, _≤_, _<_}
+use native.Mathlib.Omega.{arith}
+use borrow.Author.Needs.{needs}
+use lib.ListN.{drop, length}
+use lib.Seq.{sets}
+use Rattle.model.proofs.Reading.Cycle.{alts, item, seq}
+use Rattle.rule.specs.Parts.{AlternativesSay, PartSays}
+use Rattle.rule.proofs.Laws.Cycle.{alternatives-end, alternatives-go, alternatives-stop, item-bracket, item-letter, item-on, says-sane, sequence-ends, sequence-goes, sequence-on, sequence-stops}
+use Rattle.rule.proofs.Laws.Places.{inside}
+use Rattle.rule.proofs.Laws.Written.{no-words}
+use borrow.Fn.Kinds.{In}
+use borrow.Fn.PlainCycle.{Measures, is, falls, and}
+use Rattle.rule.proofs.readers.read_alternatives.Reads as read-alternatives
+use Rattle.rule.proofs.readers.read_alternatives.Kinds as read-alternatives-kinds
+use Rattle.rule.proofs.readers.+read_alternatives+read_item+read_sequence.Lts-read_alternatives as read-alternatives-lts
+use Rattle.rule.proofs.readers.read_item.Reads as read-item
+use Rattle.rule.proofs.readers.read_item.Kinds as read-item-kinds
+use Rattle.rule.proofs.readers.+read_alternatives+read_item+read_sequence.Lts-read_item as read-item-lts
+use Rattle.rule.proofs.readers.read_sequence.Reads as read-sequence
+use Rattle.rule.proofs.readers.read_sequence.Kinds as read-sequence-kinds
+use Rattle.rule.proofs.readers.+read_alternatives+read_item+read_sequence.Lts-read_sequence as read-sequence-lts
+use Rattle.rule.proofs.byte_at.Reads as byte-at-reads
+use Rattle.rule.proofs.classes.none.Reads as none-reads
+use Rattle.rule.proofs.readers.close_item.Reads as close-item-reads
+use Rattle.rule.proofs.readers.is_over.Reads as is-over-reads
+use Rattle.rule.proofs.readers.read_piece.Reads as read-piece-reads
+use Rattle.rule.proofs.readers.several.Reads as several-reads
+use Rattle.rule.proofs.tokens.put.Reads as put-reads
+use Rattle.rule.proofs.readers.+read_alternatives+read_item+read_sequence.{statement}
+use Rattle.rule.proofs.readers.+read_alternatives+read_item+read_sequence.Tie.{close}
+
+-- three for each byte that remains, and one, two or three for the reader
+abbrev μ-read-alternatives : Measures 2 read-alternatives-kinds.ps ℕ
+μ-read-alternatives κs a = 3 * (length (a .0 .now) - a .1 .0) + 3
+
+abbrev μ-read-item : Measures 2 read-item-kinds.ps ℕ
+μ-read-item κs a = 3 * (length (a .0 .now) - a .1 .0) + 1
+
+abbrev μ-read-sequence : Measures 2 read-sequence-kinds.ps ℕ
+μ-read-sequence κs a = 3 * (length (a .0 .now) - a .1 .0) + 2
+
+abbrev read-alternatives-at : ℕ → In 2 read-alternatives-kinds.ps
+read-alternatives-at t = and 2 read-alternatives-kinds.ps (is 2 read-alternatives-kinds.ps μ-read-alternatives t) read-alternatives.Pre
+
+abbrev read-alternatives-below : ℕ → In 2 read-alternatives-kinds.ps
+read-alternatives-below t = and 2 read-alternatives-kinds.ps (falls 2 read-alternatives-kinds.ps _<_ μ-read-alternatives t) read-alternatives.Pre
+
+abbrev read-item-at : ℕ → In 2 read-item-kinds.ps
+read-item-at t = and 2 read-item-kinds.ps (is 2 read-item-kinds.ps μ-read-item t) read-item.Pre
+
+abbrev read-item-below : ℕ → In 2 read-item-kinds.ps
+read-item-below t = and 2 read-item-kinds.ps (falls 2 read-item-kinds.ps _<_ μ-read-item t) read-item.Pre
+
+abbrev read-sequence-at : ℕ → In 2 read-sequence-kinds.ps
+read-sequence-at t = and 2 read-sequence-kinds.ps (is 2 read-sequence-kinds.ps μ-read-sequence t) read-sequence.Pre
+
+abbrev read-sequence-below : ℕ → In 2 read-sequence-kinds.ps
+read-sequence-below t = and 2 read-sequence-kinds.ps (falls 2 read-sequence-kinds.ps _<_ μ-read-sequence t) read-sequence.Pre
+
+-- what is asked of each callee and learnt from it
+abbrev alternatives-callees : ℕ → read-alternatives-lts.Claims
+alternatives-callees t = (read-sequence-below t, read-sequence.Post, byte-at-reads.Asked, byte-at-reads.Learnt, none-reads.Asked, none-reads.Learnt, put-reads.Asked, put-reads.Learnt, read-alternatives-below t, read-alternatives.Post, several-reads.Asked, several-reads.Learnt)
+
+abbrev item-callees : ℕ → read-item-lts.Claims
+item-callees t = (byte-at-reads.Asked, byte-at-reads.Learnt, read-piece-reads.Asked, read-piece-reads.Learnt, read-alternatives-below t, read-alternatives.Post, close-item-reads.Asked, close-item-reads.Learnt)
+
+abbrev sequence-callees : ℕ → read-sequence-lts.Claims
+sequence-callees t = (read-item-below t, read-item.Post, is-over-reads.Asked, is-over-reads.Learnt, read-sequence-below t, read-sequence.Post)
+
+-- ---- items
+read-item-byte-at-requires : (t : ℕ) → read-item-lts.Need-byte-at-requires (item-callees t) (read-item-at t) read-item.Post
+read-item-byte-at-requires t c κs = search needs
+
+read-item-read-piece-requires : (t : ℕ) → read-item-lts.Need-read-piece-requires (item-callees t) (read-item-at t) read-item.Post
+read-item-read-piece-requires t c κs = c .before .before .before .before .pre .1
+
+read-item-returns : (t : ℕ) → read-item-lts.Need-returns (item-callees t) (read-item-at t) read-item.Post
+read-item-returns t c =
+    let a = c .before .before .before .before .before .args in
+    item-letter (a .rule .now) (a .at) (a .n) (a .tokens .now) (c .read-piece .last .1 .1 .0) (c .read-piece .result) (c .before .before .before .byte-at .ensures)
+    (c .before .before .before .before .before .pre .1 .inside) (c .before .before .if1 .taken) (c .read-piece .ensures)
+
+read-item-add-read-alternatives : (t : ℕ) → read-item-lts.Need-add-read-alternatives (item-callees t) (read-item-at t) read-item.Post
+read-item-add-read-alternatives t c =
+    let s = c .before .before .before in
+    let h = s .pre .1 .inside in
+    let k = s .pre .1 .short in
+    search needs
+
+read-item-read-alternatives-requires : (t : ℕ) → read-item-lts.Need-read-alternatives-requires (item-callees t) (read-item-at t) read-item.Post
+read-item-read-alternatives-requires t c κs =
+    let s = c .before .before .before .before in
+    let h = inside (s .args .rule .now) (s .args .at) (c .before .before .byte-at .ensures) (λ z. omega (arith, z, c .before .if1 .left)) in
+    (omega (arith, s .pre .0), record { inside = omega arith; short = s .pre .1 .short; few = omega (arith, s .pre .1 .few) })
+
+read-item-close-item-requires : (t : ℕ) → read-item-lts.Need-close-item-requires (item-callees t) (read-item-at t) read-item.Post
+read-item-close-item-requires t c κs =
+    let s = c .before .before .before .before .before .before in
+    let r = c .before .read-alternatives in
+    (s .pre .1 .short, says-sane (s .args .rule .now) (s .args .n) (alts (drop (s .args .at + 1) (s .args .rule .now))) (s .args .tokens .now) (r .last .1 .1 .0) (r .result) (r .ensures))
+
+read-item-returns-2 : (t : ℕ) → read-item-lts.Need-returns-2 (item-callees t) (read-item-at t) read-item.Post
+read-item-returns-2 t c =
+    let a = c .before .before .before .before .before .before .before .args in
+    let r = c .before .before .read-alternatives in
+    item-bracket (a .rule .now) (a .at) (a .n) (a .tokens .now) (c .close-item .last .1 .0) (c .close-item .result) (c .before .before .before .before .before .byte-at .ensures)
+    (c .before .before .before .before .if1 .left) (c .close-item .ensures (alts (drop (a .at + 1) (a .rule .now))) (a .tokens .now) (r .ensures))
+
+-- ---- sequences
+read-sequence-read-item-requires : (t : ℕ) → read-sequence-lts.Need-read-item-requires (sequence-callees t) (read-sequence-at t) read-sequence.Post
+read-sequence-read-item-requires t c κs = let s = c .before .before in (omega (arith, s .pre .0), s .pre .1)
+
+read-sequence-enum-known-item : (t : ℕ) → read-sequence-lts.Need-enum-known-item (sequence-callees t) (read-sequence-at t) read-sequence.Post
+read-sequence-enum-known-item t c = search needs
+
+read-sequence-enum-told : (t : ℕ) → read-sequence-lts.Need-enum-told (sequence-callees t) (read-sequence-at t) read-sequence.Post
+read-sequence-enum-told t c = search needs
+
+read-sequence-returns : (t : ℕ) → read-sequence-lts.Need-returns (sequence-callees t) (read-sequence-at t) read-sequence.Post
+read-sequence-returns t c =
+    let a = c .before .before .before .before .before .args in
+    let r = c .before .before .read-item in
+    let e = c .enum-told .given .1 in
+    subst (PartSays (a .rule .now) (a .n) (seq (drop (a .at) (a .rule .now))) (a .tokens .now) (r .last .1 .1 .0)) (sym e)
+    (sequence-stops (a .rule .now) (a .at) (rw e at (r .ensures)))
+
+read-sequence-is-over-requires : (t : ℕ) → read-sequence-lts.Need-is-over-requires (sequence-callees t) (read-sequence-at t) read-sequence.Post
+read-sequence-is-over-requires t c κs = search needs
+
+read-sequence-returns-2 : (t : ℕ) → read-sequence-lts.Need-returns-2 (sequence-callees t) (read-sequence-at t) read-sequence.Post
+read-sequence-returns-2 t c =
+    let a = c .before .before .before .before .before .before .before .before .args in
+    let w = rw (c .before .before .before .item .given .1) at (c .before .before .before .before .before .read-item .ensures) in
+    sequence-ends (a .rule .now) (a .at) (a .n) (w .1) (sym (c .before .is-over .ensures) ∙ c .if1 .taken)
+
+read-sequence-read-sequence-requires : (t : ℕ) → read-sequence-lts.Need-read-sequence-requires (sequence-callees t) (read-sequence-at t) read-sequence.Post
+read-sequence-read-sequence-requires t c κs =
+    let s = c .before .before .before .before .before .before .before .before .before in
+    let w = (rw (c .before .before .before .before .item .given .1) at (c .before .before .before .before .before .before .read-item .ensures)) .1 in
+    let o = item-on (s .args .rule .now) (s .args .at) (s .args .n) w in
+    (omega (arith, s .pre .0, w .took .inside), record { inside = w .took .inside; short = s .pre .1 .short; few = w .few })
+
+read-sequence-returns-3 : (t : ℕ) → read-sequence-lts.Need-returns-3 (sequence-callees t) (read-sequence-at t) read-sequence.Post
+read-sequence-returns-3 t c =
+    let a = c .before .before .before .before .before .before .before .before .before .before .args in
+    let w = rw (c .before .before .before .before .before .item .given .1) at (c .before .before .before .before .before .before .before .read-item .ensures) in
+    sequence-goes (a .rule .now) (a .at) (a .n) (w .1) (sym (c .before .before .before .is-over .ensures) ∙ c .before .before .if1 .left) (c .read-sequence .last .1 .1 .0)
+    (c .read-sequence .result) (c .read-sequence .ensures)
+
+-- ---- alternatives
+read-alternatives-read-sequence-requires : (t : ℕ) → read-alternatives-lts.Need-read-sequence-requires (alternatives-callees t) (read-alternatives-at t) read-alternatives.Post
+read-alternatives-read-sequence-requires t c κs = let s = c .before .before in (omega (arith, s .pre .0), s .pre .1)
+
+read-alternatives-enum-known-sequence : (t : ℕ) → read-alternatives-lts.Need-enum-known-sequence (alternatives-callees t) (read-alternatives-at t) read-alternatives.Post
+read-alternatives-enum-known-sequence t c = search needs
+
+read-alternatives-byte-at-requires : (t : ℕ) → read-alternatives-lts.Need-byte-at-requires (alternatives-callees t) (read-alternatives-at t) read-alternatives.Post
+read-alternatives-byte-at-requires t c κs = search needs
+
+read-alternatives-returns : (t : ℕ) → read-alternatives-lts.Need-returns (alternatives-callees t) (read-alternatives-at t) read-alternatives.Post
+read-alternatives-returns t c =
+    let a = c .before .before .before .before .before .before .before .before .args in
+    let w = rw (c .before .before .before .sequence .given .1) at (c .before .before .before .before .before .read-sequence .ensures) in
+    alternatives-end (a .rule .now) (a .at) (a .n) (w .1) (c .before .byte-at .ensures) (c .if1 .taken)
+
+read-alternatives-none-requires : (t : ℕ) → read-alternatives-lts.Need-none-requires (alternatives-callees t) (read-alternatives-at t) read-alternatives.Post
+read-alternatives-none-requires t c = search needs
+
+read-alternatives-put-requires : (t : ℕ) → read-alternatives-lts.Need-put-requires (alternatives-callees t) (read-alternatives-at t) read-alternatives.Post
+read-alternatives-put-requires t c κs = search needs
+
+read-alternatives-add-read-alternatives : (t : ℕ) → read-alternatives-lts.Need-add-read-alternatives (alternatives-callees t) (read-alternatives-at t) read-alternatives.Post
+read-alternatives-add-read-alternatives t c =
+    let s = c .before .before .before .before .before .before .before .before .before .before .before in
+    let w = (rw (c .before .before .before .before .before .before .sequence .given .1) at (c .before .before .before .before .before .before .before .before .read-sequence .ensures)) .1 in
+    let h = w .took .inside in
+    let k = s .pre .1 .short in
+    search needs
+
+read-alternatives-add-read-alternatives-2 : (t : ℕ) → read-alternatives-lts.Need-add-read-alternatives-2 (alternatives-callees t) (read-alternatives-at t) read-alternatives.Post
+read-alternatives-add-read-alternatives-2 t c =
+    let s = c .before .before .before .before .before .before .before .before .before .before .before .before in
+    let w = (rw (c .before .before .before .before .before .before .before .sequence .given .1) at (c .before .before .before .before .before .before .before .before .before .read-sequence .ensures)) .1 in
+    let h = w .took .inside in
+    let f = w .few in
+    let k = s .pre .1 .short in
+    search needs
+
+read-alternatives-read-alternatives-requires : (t : ℕ) → read-alternatives-lts.Need-read-alternatives-requires (alternatives-callees t) (read-alternatives-at t) read-alternatives.Post
+read-alternatives-read-alternatives-requires t c κs =
+    let s = c .before .before .before .before .before .before .before .before .before .before .before .before in
+    let w = (rw (c .before .before .before .before .before .before .before .sequence .given .1) at (c .before .before .before .before .before .before .before .before .before .read-sequence .ensures)) .1 in
+    let e = c .before .before .before .before .before .byte-at .ensures in
+    let o = sequence-on (s .args .rule .now) (s .args .at) (s .args .n) w e in
+    let h = inside (s .args .rule .now) (c .before .before .before .before .before .before .before .sequence .given .0 .0) e (λ z. omega (arith, z, c .before .before .before .before .if1 .left)) in
+    (omega (arith, s .pre .0), record { inside = omega arith; short = s .pre .1 .short; few = omega (arith, w .few) })
+
+read-alternatives-several-requires : (t : ℕ) → read-alternatives-lts.Need-several-requires (alternatives-callees t) (read-alternatives-at t) read-alternatives.Post
+read-alternatives-several-requires t c = search needs
+
+read-alternatives-enum-known-sequence-2 : (t : ℕ) → read-alternatives-lts.Need-enum-known-sequence-2 (alternatives-callees t) (read-alternatives-at t) read-alternatives.Post
+read-alternatives-enum-known-sequence-2 t c = search needs
+
+read-alternatives-returns-2 : (t : ℕ) → read-alternatives-lts.Need-returns-2 (alternatives-callees t) (read-alternatives-at t) read-alternatives.Post
+read-alternatives-returns-2 t c =
+    let a = c .before .before .before .before .before .before .before .before .before .before .before .before .before .before .args in
+    let g = c .before .before .before .before .before .before .before .before .before .sequence .given in
+    let w = rw (g .1) at (c .before .before .before .before .before .before .before .before .before .before .before .read-sequence .ensures) in
+    let mid = c .before .before .before .before .before .before .before .before .before .before .before .read-sequence .last .1 .1 .0 in
+    let r = c .before .read-alternatives in
+    let bar = c .before .before .before .put .ensures ∙ ap (λ (ws : List ℕ). sets mid (5 * g .0 .1 .0) (5 ∷ ws)) (no-words (c .before .before .before .before .none .result) (c .before .before .before .before .none .ensures)) in
+    rw (c .several .ensures)
+    (alternatives-go (a .rule .now) (a .at) (a .n) (w .1) (c .before .before .before .before .before .before .before .byte-at .ensures) (c .before .before .before .before .before .before .if1 .left) (r .last .1 .1 .0) (r .result)
+    (subst (λ (l : List ℕ). AlternativesSay (a .rule .now) (g .0 .1 .0 + 1) (alts (drop (g .0 .0 + 1) (a .rule .now))) l (r .last .1 .1 .0) (r .result)) bar (r .ensures)))
+
+read-alternatives-returns-3 : (t : ℕ) → read-alternatives-lts.Need-returns-3 (alternatives-callees t) (read-alternatives-at t) read-alternatives.Post
+read-alternatives-returns-3 t c =
+    let a = c .before .before .before .before .before .before .args in
+    alternatives-stop (a .rule .now) (a .at) (rw (c .before .sequence2 .given .1) at (c .before .before .before .read-sequence .ensures))
+
+pub +read-alternatives+read-item+read-sequence-spec : {M : Type 1} → statement M
++read-alternatives+read-item+read-sequence-spec =
+    close μ-read-alternatives μ-read-item μ-read-sequence
+    (λ t. read-alternatives-lts.spec (alternatives-callees t) (read-alternatives-at t) read-alternatives.Post (read-alternatives-read-sequence-requires t) (read-alternatives-enum-known-sequence t) (read-alternatives-byte-at-requires t) (read-alternatives-returns t) (read-alternatives-none-requires t) (read-alternatives-put-requires t) (read-alternatives-add-read-alternatives t) (read-alternatives-add-read-alternatives-2 t) (read-alternatives-read-alternatives-requires t) (read-alternatives-several-requires t) (read-alternatives-enum-known-sequence-2 t) (read-alternatives-returns-2 t) (read-alternatives-returns-3 t))
+    (λ t. read-item-lts.spec (item-callees t) (read-item-at t) read-item.Post (read-item-byte-at-requires t) (read-item-read-piece-requires t) (read-item-returns t) (read-item-add-read-alternatives t) (read-item-read-alternatives-requires t) (read-item-close-item-requires t) (read-item-returns-2 t))
+    (λ t. read-sequence-lts.spec (sequence-callees t) (read-sequence-at t) read-sequence.Post (read-sequence-read-item-requires t) (read-sequence-enum-known-item t) (read-sequence-enum-told t) (read-sequence-returns t) (read-sequence-is-over-requires t) (read-sequence-returns-2 t) (read-sequence-read-sequence-requires t) (read-sequence-returns-3 t))

@@ -1,2 +1,4 @@
 -- What the proofs of the functions cite.
 pub mod Stores
+pub mod Parts
+pub mod Tables

@@ -12,7 +12,7 @@ use denote.Shadow.{shadow}
 use mir.Syntax.{w64}
 use mir.Val.{Val}
 use Rattle.image.proofs.Laws.Parts.{AllLong}
-use Rattle.image.specs.Work.{threeRows}
+use Rattle.image.specs.Work.{tablesPart, threeRows}
 use Rattle.tape.specs.Tables.{Table}
 
 pub length-row : {W : ℕ} (row : List ℕ) → W ≤ 8 → length row ≡ 8 → length (take W row) ≡ W
@@ -46,3 +46,7 @@ pub depths-long : {W n : ℕ} (block source target : Table) → W ≤ 8 → n �
     → AllLong (3 * W) n (depthRows W block source target)
 depths-long block source target narrow few b s t k h =
     length-three (getD block k []) (getD source k []) (getD target k []) narrow (b k (omega arith)) (s k (omega arith)) (t k (omega arith))
+
+pub tables-same : (W n : ℕ) {block source target block′ source′ target′ : Table} → block ≡ block′ → source ≡ source′ → target ≡ target′
+    → tablesPart W n block source target ≡ tablesPart W n block′ source′ target′
+tables-same W n b s t = λ i. tablesPart W n (b i) (s i) (t i)

@@ -1,4 +1,5 @@
 -- What the proofs of the functions cite.
+pub mod Letters
 pub mod Stores
 pub mod Parts
 pub mod Tables

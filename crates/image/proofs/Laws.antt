@@ -2,4 +2,4 @@
 pub mod Letters
 pub mod Stores
 pub mod Parts
-pub mod Tables
+pub mod Lengths

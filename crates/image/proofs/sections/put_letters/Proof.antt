@@ -1,18 +1,15 @@
 -- `sections::put_letters`: after the count the masks of the first bytes stand one after another.
-use mathlib.Core.Path.{refl, ap, _∙_}
-use mathlib.Core.List.{List}
-use Prim.Native.Nat.{ℕ, suc, _+_, _*_, _-_}
+use mathlib.Core.Path.{refl}
+use Prim.Native.Nat.{_+_, _*_, _-_}
 use native.Mathlib.Nat.{mul-comm}
 use native.Mathlib.Omega.{arith}
 use borrow.Author.Needs.{needs}
 use lib.ListN.{take}
-use lib.Seq.{sets}
-use Rattle.model.proofs.Image.Rows.{length-set}
+use Rattle.image.proofs.Laws.Lengths.{letters-long}
 use Rattle.image.proofs.Laws.Parts.{part-fits, Parts, parts-all, parts-long, parts-more, parts-none}
-use Rattle.image.proofs.Laws.Tables.{length-row}
 use Rattle.image.proofs.sections.put_letters.Statement.{statement}
 use Rattle.image.proofs.sections.put_letters.Tie as tie
-use Rattle.image.specs.Work.{leads, letterRow}
+use Rattle.image.specs.Work.{letterRow}
 
 abbrev Inv-loop : tie.InvT-loop
 Inv-loop words₀ at width tokens length b₀ words b = Parts width 256 (λ k. take width (letterRow tokens length k)) words₀ (at + 1) words b
@@ -32,7 +29,7 @@ slice-write-words c = search needs
 loop-holds : tie.Need-loop-holds Inv-loop μ-loop
 loop-holds c =
     let a = c .before .args in
-    parts-none (λ k h. length-row (letterRow (a .tokens .now) (a .length) k) (c .before .pre .0) (length-set (suc (a .length)) 8 (leads (a .tokens .now) k)))
+    parts-none (letters-long (a .tokens .now) (a .length) (c .before .pre .0))
 
 letter-row-requires : tie.Need-letter-row-requires Inv-loop μ-loop
 letter-row-requires c κs = search needs
@@ -69,11 +66,7 @@ loop-less c = search needs
 loop-again : tie.Need-loop-again Inv-loop μ-loop
 loop-again c =
     let m = c .before .before .before .before in
-    let l = m .before .before .loop in
-    let a = m .before .before .before .before .args in
-    parts-more (l .inv) (m .before .loop-test .taken)
-    (c .before .before .put-row .ensures
-    ∙ ap (λ (row : List ℕ). sets (l .words) (a .at + 1 + a .width * l .b) (take (a .width) row)) (m .letter-row .ensures))
+    parts-more (m .before .before .loop .inv) (m .before .loop-test .taken) (rw (m .letter-row .ensures) at (c .before .before .put-row .ensures))
 
 add-result : tie.Need-add-result Inv-loop μ-loop
 add-result c = search needs

@@ -1,15 +1,8 @@
 -- `sections::put_propagate`: the tables written are those that lay out gives, one depth more than the tree has.
-use mathlib.Core.Path.{_≡_, ap, _∙_}
-use mathlib.Core.List.{List}
-use Prim.Native.Nat.{ℕ, suc, _+_, _*_}
 use native.Mathlib.Numerals.{add-one}
 use borrow.Author.Needs.{needs}
-use lib.Seq.{sets}
-use Rattle.image.proofs.Laws.Tables.{tables-same}
 use Rattle.image.proofs.sections.put_propagate.Statement.{statement}
 use Rattle.image.proofs.sections.put_propagate.Tie as tie
-use Rattle.image.specs.Work.{tablesPart}
-use Rattle.tape.specs.Tapes.{propagateBlockTable, propagateSourceTable, propagateTargetTable}
 
 add-put-tables : tie.Need-add-put-tables
 add-put-tables c = search needs
@@ -34,15 +27,10 @@ returns c =
     let target = c .before .before .before in
     let source = target .before in
     let block = source .before in
-    let a = block .before .before .before .args in
-    let W = a .width in
     let t = c .before .before .put-tables .ensures in
-    let e : a .depth + 1 ≡ suc (a .depth) = add-one (a .depth) in (
-      t .0 ∙ ap (λ (n : ℕ). a .at + 1 + 3 * W * n) e,
-      t .1
-          ∙ ap (sets (a .words .now) (a .at))
-          (tables-same W (a .depth + 1) (block .propagate-block .ensures .0) (source .propagate-source .ensures .0) (target .propagate-target .ensures .0)
-          ∙ ap (λ (n : ℕ). tablesPart W n (propagateBlockTable (a .tape)) (propagateSourceTable (a .tape)) (propagateTargetTable (a .tape))) e),
+    let e = add-one (block .before .before .before .args .depth) in (
+      rw e at (t .0),
+      rw (e, block .propagate-block .ensures .0, source .propagate-source .ensures .0, target .propagate-target .ensures .0) at (t .1),
     )
 
 pub put-propagate-spec : {M : Type 1} → statement M

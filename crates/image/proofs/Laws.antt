@@ -3,3 +3,4 @@ pub mod Letters
 pub mod Stores
 pub mod Parts
 pub mod Lengths
+pub mod Whole

@@ -1,4 +1,4 @@
--- A SECTION WRITTEN PART BY PART: parts of w words each stand one after another, so part k goes w * k words after the first, and n parts are w * n words.
+-- A SECTION WRITTEN PART BY PART: parts of w words stand one after another, so part k goes w * k words after the first, and n parts are w * n words.
 use mathlib.Core.Path.{_≡_, refl, sym, ap, _∙_}
 use mathlib.Core.List.{List, _++_, append-assoc, append-nil}
 use Prim.Native.Nat.{ℕ, zero, suc, _+_, _*_, _≤_, _<_}

@@ -1,4 +1,4 @@
--- `sections::put_repeats`: after the count the loops of the first bytes stand one after another.
+-- `sections::put_repeats`: after the count the masks of the first bytes' loops stand one after another.
 use mathlib.Core.Path.{refl}
 use Prim.Native.Nat.{_+_, _*_, _-_}
 use native.Mathlib.Nat.{mul-comm}

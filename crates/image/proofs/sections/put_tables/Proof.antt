@@ -3,8 +3,8 @@ use mathlib.Core.Path.{refl}
 use Prim.Native.Nat.{_+_, _*_, _-_}
 use native.Mathlib.Omega.{arith}
 use borrow.Author.Needs.{needs}
-use Rattle.image.proofs.Laws.Parts.{part-fits, Parts, parts-all, parts-long, parts-more, parts-none}
 use Rattle.image.proofs.Laws.Lengths.{depthRows, depths-long, eights}
+use Rattle.image.proofs.Laws.Parts.{part-fits, Parts, parts-all, parts-long, parts-more, parts-none}
 use Rattle.image.proofs.sections.put_tables.Statement.{statement}
 use Rattle.image.proofs.sections.put_tables.Tie as tie
 
@@ -70,7 +70,12 @@ put-three-requires c κs =
     let a = s .args in
     let m = c .before .before .before .before in (
       s .pre .0,
-      omega (arith, part-fits (3 * a .width) (m .loop-test .taken), parts-long (a .words .now) (a .at) (3 * a .width * a .depths) (m .before .loop .inv), s .pre .2),
+      omega (
+        arith,
+        part-fits (3 * a .width) (m .loop-test .taken),
+        parts-long (a .words .now) (a .at) (3 * a .width * a .depths) (m .before .loop .inv),
+        s .pre .2,
+      ),
     )
 
 add-k : tie.Need-add-k Inv-loop μ-loop

@@ -5,8 +5,8 @@ use Prim.Native.Nat.{ℕ, _+_, _*_}
 use borrow.Author.Needs.{needs}
 use lib.ListN.{take}
 use lib.Seq.{sets}
-use Rattle.image.proofs.Laws.Stores.{three-more}
 use Rattle.image.proofs.Laws.Lengths.{length-row}
+use Rattle.image.proofs.Laws.Stores.{three-more}
 use Rattle.image.proofs.sections.put_three.Statement.{statement}
 use Rattle.image.proofs.sections.put_three.Tie as tie
 

@@ -1,3 +1,6 @@
 -- What the proofs of the functions cite.
 pub mod Letters
+pub mod TokenWords
+pub mod Tapes
+pub mod Written
 pub mod Stores

@@ -3,4 +3,5 @@ pub mod Letters
 pub mod TokenWords
 pub mod Tapes
 pub mod Written
+pub mod Stored
 pub mod Stores

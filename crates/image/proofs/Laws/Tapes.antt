@@ -5,7 +5,7 @@ use Prim.Native.Nat.{ℕ, suc, _≤_, _<_, min}
 use native.Mathlib.Nat.{le-of-suc-le-suc, not-suc-le-zero, zero-lt-suc}
 use native.Mathlib.Omega.{arith}
 use lib.ListN.{getD, length, take}
-use Rattle.model.specs.Edges.{depth}
+use Rattle.model.specs.Edges.{depth, states}
 use Rattle.model.specs.Models.LayOut.{begin, reach}
 use Rattle.model.specs.Models.Tokens.{aBar, aClose, aLetter, anOpen, Token, tokens}
 use Rattle.model.specs.Tree.{once, option, plus, Repeat, star, Tree}
@@ -54,10 +54,10 @@ read-kinds (n ∷ ks) (y ∷ ys) h k =
 
 -- ---- the tree's tape
 module _ (row : List ℕ) (tape : Tape) (kinds : KindsAre row (tape .kinds)) (room : length (tape .kinds) ≡ 512) (t : Tree) (O : TokensOf t row (tape .length)) where
-  pub few-tokens : tape .length ≤ 511
+  few-tokens : tape .length ≤ 511
   few-tokens = omega (arith, O .long, length-tokens t, O .few)
 
-  tape-of : TapeOf t tape
+  pub tape-of : TapeOf t tape
   tape-of = record {
     long = O .long;
     tokens-are =
@@ -69,6 +69,10 @@ module _ (row : List ℕ) (tape : Tape) (kinds : KindsAre row (tape .kinds)) (ro
 
   pub on-tape : depth t ≤ 8 → TreeOnTape t tape
   on-tape h = record { rule = O .rule; is-rule = O .is-rule; few = O .few; shallow = h; tape = tape-of }
+
+-- AS MANY STATES AS TOKENS, and one
+pub states-are : {t : Tree} {tape : Tape} → TreeOnTape t tape → suc (tape .length) ≡ states t
+states-are {t} P = ap suc (P .tape .long ∙ length-tokens t)
 
 -- THE DEPTH IS THE TAPE'S
 pub depth-is : {t : Tree} {tape : Tape} → TapeOf t tape → depth t ≡ reach (tokensOf tape) begin

@@ -31,6 +31,7 @@ use Rattle.tape.proofs.FirstWords.{first-words}
 use Rattle.tape.proofs.OfTree.{gather-block-says, gather-source-says, gather-target-says, laid-row, loops-say, propagate-block-says, propagate-source-says, propagate-target-says, scatter-block-says, scatter-source-says, scatter-target-says}
 use Rattle.image.specs.Says.{TokensOf}
 use Rattle.image.specs.Work.{imageWords, leads, letterRow, repeatRow, threeRows}
+use Rattle.image.proofs.Laws.Tapes.{states-are}
 use Rattle.image.proofs.Laws.TokenWords.{in-class}
 
 join-below : (n a : ℕ) (f g : ℕ → List ℕ) → ((k : ℕ) → k < a + n → f k ≡ g k) → join n a f ≡ join n a g
@@ -66,14 +67,11 @@ module _ (row : List ℕ) (tape : Tape) (s : Tree) (O : TreeOnTape s tape) where
   abbrev looped : ℕ → ℕ → Bool
   looped b x = leads row b x && bit (value loops) x
 
-  pub states-are : suc (tape .length) ≡ states s
-  states-are = ap suc (O .tape .long ∙ length-tokens s)
-
-  pub narrow : width (states s) ≤ 8
+  narrow : W ≤ 8
   narrow = omega (arith, O .few)
 
   letter-row : (b : ℕ) → take W (letterRow row (tape .length) b) ≡ set m W (leads row b)
-  letter-row b = ap (λ (n : ℕ). take W (set n 8 (leads row b))) states-are ∙ first-words m W (leads row b) narrow
+  letter-row b = ap (λ (n : ℕ). take W (set n 8 (leads row b))) (states-are O) ∙ first-words m W (leads row b) narrow
 
   loops-near : Near m 8 loops (bit (value loops))
   loops-near =
@@ -83,7 +81,7 @@ module _ (row : List ℕ) (tape : Tape) (s : Tree) (O : TreeOnTape s tape) where
 
   repeat-row : (b : ℕ) → take W (repeatRow row (tape .length) loops b) ≡ set m W (looped b)
   repeat-row b =
-      ap (λ (n : ℕ). take W (andWords (set n 8 (leads row b)) loops)) states-are
+      ap (λ (n : ℕ). take W (andWords (set n 8 (leads row b)) loops)) (states-are O)
       ∙ ap (take W)
       (holds-one m 8 (andWords (set m 8 (leads row b)) loops) (set m 8 (looped b)) (looped b) (looped b)
       (holds-and-l (set-holds m 8 (leads row b) (O .few)) loops-near) (set-holds m 8 (looped b) (O .few)) (λ x l. refl))
@@ -103,7 +101,7 @@ module _ (row : List ℕ) (tape : Tape) (s : Tree) (O : TreeOnTape s tape) where
   -- THE WORDS WRITTEN
   pub written : imageWords W (depth s) row tape ≡ assemble m W (depth s) (leads row) looped (edgeSet s)
   written =
-      sections-same (ap (λ (n : ℕ). n ∷ W ∷ depth s ∷ []) states-are)
+      sections-same (ap (λ (n : ℕ). n ∷ W ∷ depth s ∷ []) (states-are O))
       (join-below 256 0 (λ b. take W (letterRow row (tape .length) b)) (λ b. set m W (leads row b)) (λ b l. letter-row b))
       (join-below 256 0 (λ b. take W (repeatRow row (tape .length) loops b)) (λ b. set m W (looped b)) (λ b l. repeat-row b))
       (three-rows (depth s) (tableOf tape scatter-block) (tableOf tape scatter-source) (tableOf tape scatter-target) (scatterBlock s) (scatterSource s)

@@ -5,3 +5,5 @@ pub mod Tapes
 pub mod Written
 pub mod Stored
 pub mod Stores
+pub mod Parts
+pub mod Lengths

@@ -3,7 +3,7 @@ pub mod Letters
 pub mod TokenWords
 pub mod Tapes
 pub mod Written
-pub mod Stored
+pub mod Answers
 pub mod Stores
 pub mod Parts
 pub mod Lengths

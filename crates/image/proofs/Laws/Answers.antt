@@ -2,11 +2,11 @@
 -- image's and, for the tokens of a rule's tree, are its image; where it is not, a rule's tree with those tokens is deeper than 8.
 use mathlib.Core.Path.{_≡_, refl, sym, ap, ap₂, _∙_, subst}
 use mathlib.Core.Logic.{_⊎_, inl, inr}
-use mathlib.Core.List.{List, _++_}
+use mathlib.Core.List.{List, _++_, map}
 use Prim.Native.Nat.{ℕ, _+_, _*_, _≤_, _<_}
 use native.Mathlib.Nat.{zero-add}
 use native.Mathlib.Omega.{arith}
-use lib.ListN.{drop, length}
+use lib.ListN.{drop, length, length-map}
 use lib.Seq.{drop-at, sets, sets-eq}
 use Rattle.model.specs.Edges.{depth, states}
 use Rattle.model.specs.Image.{image, width}
@@ -34,29 +34,43 @@ written-first before ws h =
     let z = zero-add (length ws) in
     sets-eq ws before 0 (omega arith) ∙ ap (λ (k : ℕ). ws ++ drop k before) z
 
-module _ (row : List ℕ) (n : ℕ) (before : List ℕ) {tape : Tape} {shape : Shape} (long : tape .length ≡ n) (kinds : KindsAre row (tape .kinds))
-    (room : length (tape .kinds) ≡ 512) (S : ShapeSays tape shape) where
+-- the tape of the first n tokens of a row, and what it was told to be
+pub record Taped (row : List ℕ) (n : ℕ) (tape : Tape) (shape : Shape) : Type 0 where
+  pub long : tape .length ≡ n
+  pub kinds : KindsAre row (tape .kinds)
+  pub room : length (tape .kinds) ≡ 512
+  pub says : ShapeSays tape shape
+
+-- f is how a kind lies in memory
+pub taped : (row : List ℕ) (tape : Tape) {n : ℕ} {shape : Shape} {A : Type 0} (f : ℕ → A) → tape .length ≡ n → KindsAre row (tape .kinds)
+    → length (map f (tape .kinds)) ≡ 512 → ShapeSays tape shape → Taped row n tape shape
+taped row tape f l k e S = record { long = l; kinds = k; room = sym (length-map (tape .kinds) f) ∙ e; says = S }
+
+module _ {row : List ℕ} {n : ℕ} {tape : Tape} {shape : Shape} (T : Taped row n tape shape) where
+  all-tokens : (t : tree.Tree) → TokensOf t row n → TokensOf t row (tape .length)
+  all-tokens t R = subst (TokensOf t row) (sym (T .long)) R
+
   shallow-on-tape : (t : tree.Tree) → TokensOf t row n → depth t ≤ 8 → TreeOnTape t tape
-  shallow-on-tape t R h = on-tape row tape kinds room t (subst (TokensOf t row) (sym long) R) h
+  shallow-on-tape t R h = on-tape row tape (T .kinds) (T .room) t (all-tokens t R) h
 
   -- NO TREE
-  pub says-no-tree : shape ≡ Other → StoreSays row n before NoTree before
-  says-no-tree e t R = go (le-or-lt (depth t) 8)
+  pub says-no-tree : (before : List ℕ) → shape ≡ Other → StoreSays row n before NoTree before
+  says-no-tree before e t R = go (le-or-lt (depth t) 8)
     where
       go : (depth t ≤ 8) ⊎ (8 < depth t) → TreeSays t before NoTree before
-      go (inl h) = absurd (not-other (depth t) (sym e ∙ S .of-tree t (shallow-on-tape t R h)))
+      go (inl h) = absurd (not-other (depth t) (sym e ∙ T .says .of-tree t (shallow-on-tape t R h)))
       go (inr h) = too-deep h refl refl
 
   -- ---- a tree's tape, of the depth told
   module _ {d : ℕ} (told : shape ≡ Tree d) where
     abbrev there : (s : tree.Tree) × TreeOnTape s tape
-    there = S .some-tree d told
+    there = T .says .some-tree d told
 
     depth-told : (t : tree.Tree) → TreeOnTape t tape → depth t ≡ d
-    depth-told t P = same-told (depth t) d (sym (S .of-tree t P) ∙ told)
+    depth-told t P = same-told (depth t) d (sym (T .says .of-tree t P) ∙ told)
 
     states-told : (t : tree.Tree) → TreeOnTape t tape → n + 1 ≡ states t
-    states-told t P = omega (arith, long, states-are P)
+    states-told t P = omega (arith, T .long, states-are P)
 
     pub few : n + 1 ≤ 512
     few = omega (arith, states-told (there .0) (there .1), there .1 .few)
@@ -67,10 +81,10 @@ module _ (row : List ℕ) (n : ℕ) (before : List ℕ) {tape : Tape} {shape : S
     -- a rule's tree with those tokens is as deep as the tree that is there
     of-rule : (t : tree.Tree) → TokensOf t row n → TreeOnTape t tape
     of-rule t R =
-        let P = tape-of row tape kinds room t (subst (TokensOf t row) (sym long) R) in
+        let P = tape-of row tape (T .kinds) (T .room) t (all-tokens t R) in
         shallow-on-tape t R (omega (arith, depth-is P, depth-is (there .1 .tape), there .1 .shallow))
 
-    module _ {W size : ℕ} (wide : W ≡ width (n + 1)) (sized : size ≡ 9 + W * (515 + 9 * d)) where
+    module _ (before : List ℕ) {W size : ℕ} (wide : W ≡ width (n + 1)) (sized : size ≡ 9 + W * (515 + 9 * d)) where
       width-is : (t : tree.Tree) → TreeOnTape t tape → W ≡ width (states t)
       width-is t P = wide ∙ ap width (states-told t P)
 
@@ -91,7 +105,7 @@ module _ (row : List ℕ) (n : ℕ) (before : List ℕ) {tape : Tape} {shape : S
             let P = of-rule t R in
             let e = size-is t P in
             stored (P .shallow) (omega (arith, e)) (ap Done e)
-            (is ∙ ap (sets before 0) (words-as t P ∙ image-written row tape t P (subst (TokensOf t row) (sym long) R))
+            (is ∙ ap (sets before 0) (words-as t P ∙ image-written row tape t P (all-tokens t R))
             ∙ written-first before (image t) (omega (arith, e)))
 
         pub keeps : (size ≤ length before) × (drop size after ≡ drop size before)

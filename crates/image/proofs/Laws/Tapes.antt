@@ -53,7 +53,8 @@ read-kinds (n ∷ ks) (y ∷ ys) h k =
     (read-kinds ks ys (le-of-suc-le-suc h) (λ i l. k (suc i) (omega arith)))
 
 -- ---- the tree's tape
-module _ (row : List ℕ) (tape : Tape) (kinds : KindsAre row (tape .kinds)) (room : length (tape .kinds) ≡ 512) (t : Tree) (O : TokensOf t row (tape .length)) where
+module _ (row : List ℕ) (tape : Tape) (kinds : KindsAre row (tape .kinds)) (room : length (tape .kinds) ≡ 512) (t : Tree)
+    (O : TokensOf t row (tape .length)) where
   few-tokens : tape .length ≤ 511
   few-tokens = omega (arith, O .long, length-tokens t, O .few)
 

@@ -31,7 +31,8 @@ word-of (y ∷ ys) (suc i) j h k =
 class-word : (c b : ℕ) → c < 2 ^ 256 → b < 256 → bit (getD (words 4 c) (b / 64) 0) (b % 64) ≡ bit c b
 class-word c b small h =
     let H = set-holds 256 4 (bit c) (le-refl 256) in
-    ap (λ (n : ℕ). bit (getD (words 4 n) (b / 64) 0) (b % 64)) (sym (class-is c small)) ∙ sym (row-bit (set 256 4 (bit c)) b (H .near .fit)) ∙ H .near .bits b h
+    ap (λ (n : ℕ). bit (getD (words 4 n) (b / 64) 0) (b % 64)) (sym (class-is c small))
+    ∙ sym (row-bit (set 256 4 (bit c)) b (H .near .fit)) ∙ H .near .bits b h
 
 class-small : (y : Token) → Fine y → classOf y < 2 ^ 256
 class-small (aLetter c r) f = f .bytes-only

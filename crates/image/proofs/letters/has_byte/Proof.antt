@@ -1,6 +1,5 @@
 -- `has_byte`: the bit of byte b stands in word b / 64 of the class, where a shift brings it down.
 use Prim.Native.Nat.{_+_, _*_, _/_, _%_}
-use native.Mathlib.Omega.{arith}
 use borrow.Author.Needs.{needs}
 use lib.ListN.{getD}
 use Rattle.mask.proofs.Laws.Bits.{read-bit}

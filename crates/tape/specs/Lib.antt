@@ -6,3 +6,4 @@ pub mod Tables
 pub mod Joins
 pub mod Tapes
 pub mod Says
+pub mod Rows

@@ -1,0 +1,120 @@
+-- WHAT STORE SAYS, for each of its answers: where the tape is told to be a tree's, that tree has the depth told, so the words written are as many as an
+-- image's and, for the tokens of a rule's tree, are its image; where it is not, a rule's tree with those tokens is deeper than 8.
+use mathlib.Core.Path.{_≡_, refl, sym, ap, ap₂, _∙_, subst}
+use mathlib.Core.Logic.{_⊎_, inl, inr}
+use mathlib.Core.List.{List, _++_, map}
+use Prim.Native.Nat.{ℕ, _+_, _*_, _≤_, _<_}
+use native.Mathlib.Nat.{zero-add}
+use native.Mathlib.Omega.{arith}
+use lib.ListN.{drop, length, length-map}
+use lib.Seq.{drop-at, sets, sets-eq}
+use Rattle.model.specs.Edges.{depth, states}
+use Rattle.model.specs.Image.{image, width}
+use Rattle.model.specs.Tree as tree
+use Rattle.model.proofs.Laws.Bool.{le-or-lt}
+use Rattle.tape.specs.Says.{ShapeSays, TreeOnTape}
+use Rattle.tape.specs.declared.Shape.{Shape}
+use Rattle.tape.specs.declared.Shape.the-variants.{Other, Tree}
+use Rattle.tape.specs.declared.Tape.{Tape}
+use Rattle.image.specs.Says.{no-room, stored, StoreSays, TokensOf, too-deep, TreeSays}
+use Rattle.image.specs.Work.{imageWords, KindsAre}
+use Rattle.image.specs.declared.Stored.the-variants.{Done, NoRoom, NoTree}
+use Rattle.image.proofs.Laws.Tapes.{depth-is, on-tape, states-are, tape-of}
+use Rattle.image.proofs.Laws.Written.{image-written, length-image, length-written}
+
+not-other : (d : ℕ) → Other ≡ Tree d → ⊥
+not-other d e = let z : _≡_ {A = ℕ} 0 1 = cc in omega arith
+
+same-told : (d e : ℕ) → Tree d ≡ Tree e → d ≡ e
+same-told d e p = cc
+
+-- words written from the first on
+written-first : (before ws : List ℕ) → length ws ≤ length before → sets before 0 ws ≡ ws ++ drop (length ws) before
+written-first before ws h =
+    let z = zero-add (length ws) in
+    sets-eq ws before 0 (omega arith) ∙ ap (λ (k : ℕ). ws ++ drop k before) z
+
+-- the tape of the first n tokens of a row, and what it was told to be
+pub record Taped (row : List ℕ) (n : ℕ) (tape : Tape) (shape : Shape) : Type 0 where
+  pub long : tape .length ≡ n
+  pub kinds : KindsAre row (tape .kinds)
+  pub room : length (tape .kinds) ≡ 512
+  pub says : ShapeSays tape shape
+
+-- f is how a kind lies in memory
+pub taped : (row : List ℕ) (tape : Tape) {n : ℕ} {shape : Shape} {A : Type 0} (f : ℕ → A) → tape .length ≡ n → KindsAre row (tape .kinds)
+    → length (map f (tape .kinds)) ≡ 512 → ShapeSays tape shape → Taped row n tape shape
+taped row tape f l k e S = record { long = l; kinds = k; room = sym (length-map (tape .kinds) f) ∙ e; says = S }
+
+module _ {row : List ℕ} {n : ℕ} {tape : Tape} {shape : Shape} (T : Taped row n tape shape) where
+  all-tokens : (t : tree.Tree) → TokensOf t row n → TokensOf t row (tape .length)
+  all-tokens t R = subst (TokensOf t row) (sym (T .long)) R
+
+  shallow-on-tape : (t : tree.Tree) → TokensOf t row n → depth t ≤ 8 → TreeOnTape t tape
+  shallow-on-tape t R h = on-tape row tape (T .kinds) (T .room) t (all-tokens t R) h
+
+  -- NO TREE
+  pub says-no-tree : (before : List ℕ) → shape ≡ Other → StoreSays row n before NoTree before
+  says-no-tree before e t R = go (le-or-lt (depth t) 8)
+    where
+      go : (depth t ≤ 8) ⊎ (8 < depth t) → TreeSays t before NoTree before
+      go (inl h) = absurd (not-other (depth t) (sym e ∙ T .says .of-tree t (shallow-on-tape t R h)))
+      go (inr h) = too-deep h refl refl
+
+  -- ---- a tree's tape, of the depth told
+  module _ {d : ℕ} (told : shape ≡ Tree d) where
+    abbrev there : (s : tree.Tree) × TreeOnTape s tape
+    there = T .says .some-tree d told
+
+    depth-told : (t : tree.Tree) → TreeOnTape t tape → depth t ≡ d
+    depth-told t P = same-told (depth t) d (sym (T .says .of-tree t P) ∙ told)
+
+    states-told : (t : tree.Tree) → TreeOnTape t tape → n + 1 ≡ states t
+    states-told t P = omega (arith, T .long, states-are P)
+
+    pub few : n + 1 ≤ 512
+    few = omega (arith, states-told (there .0) (there .1), there .1 .few)
+
+    pub shallow : d ≤ 8
+    shallow = omega (arith, depth-told (there .0) (there .1), there .1 .shallow)
+
+    -- a rule's tree with those tokens is as deep as the tree that is there
+    of-rule : (t : tree.Tree) → TokensOf t row n → TreeOnTape t tape
+    of-rule t R =
+        let P = tape-of row tape (T .kinds) (T .room) t (all-tokens t R) in
+        shallow-on-tape t R (omega (arith, depth-is P, depth-is (there .1 .tape), there .1 .shallow))
+
+    module _ (before : List ℕ) {W size : ℕ} (wide : W ≡ width (n + 1)) (sized : size ≡ 9 + W * (515 + 9 * d)) where
+      width-is : (t : tree.Tree) → TreeOnTape t tape → W ≡ width (states t)
+      width-is t P = wide ∙ ap width (states-told t P)
+
+      size-is : (t : tree.Tree) → TreeOnTape t tape → size ≡ length (image t)
+      size-is t P = sized ∙ ap₂ (λ (w k : ℕ). 9 + w * (515 + 9 * k)) (width-is t P) (sym (depth-told t P)) ∙ sym (length-image t)
+
+      words-as : (t : tree.Tree) → TreeOnTape t tape → imageWords W d row tape ≡ imageWords (width (states t)) (depth t) row tape
+      words-as t P = ap₂ (λ (w k : ℕ). imageWords w k row tape) (width-is t P) (sym (depth-told t P))
+
+      -- NO ROOM
+      pub says-no-room : length before < size → StoreSays row n before NoRoom before
+      says-no-room h t R = let P = of-rule t R in no-room (P .shallow) (omega (arith, size-is t P)) refl refl
+
+      -- DONE
+      module _ {after : List ℕ} (fits : size ≤ length before) (is : after ≡ sets before 0 (imageWords W d row tape)) where
+        pub says-stored : StoreSays row n before (Done size) after
+        says-stored t R =
+            let P = of-rule t R in
+            let e = size-is t P in
+            stored (P .shallow) (omega (arith, e)) (ap Done e)
+            (is ∙ ap (sets before 0) (words-as t P ∙ image-written row tape t P (all-tokens t R))
+            ∙ written-first before (image t) (omega (arith, e)))
+
+        pub keeps : (size ≤ length before) × (drop size after ≡ drop size before)
+        keeps =
+            let s = there .0 in
+            let P = there .1 in
+            let ws = imageWords W d row tape in
+            let l = ap length (words-as s P) ∙ length-written row tape s P ∙ sym (length-image s) ∙ sym (size-is s P) in (
+              fits,
+              ap (drop size) (is ∙ written-first before ws (omega (arith, l)))
+                  ∙ drop-at ws (drop (length ws) before) size l ∙ ap (λ (k : ℕ). drop k before) l,
+            )

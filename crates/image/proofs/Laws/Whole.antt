@@ -1,0 +1,68 @@
+-- THE WHOLE IMAGE is written when each section is written where the one before it ends, and the places that the code hands on are those ends.
+use mathlib.Core.Path.{_≡_, refl, ap, _∙_}
+use mathlib.Core.List.{List, [], _∷_, _++_}
+use Prim.Native.Nat.{ℕ, suc, _+_, _*_, _≤_}
+use native.Mathlib.Omega.{arith}
+use lib.ListN.{getD, length, take}
+use lib.Seq.{sets}
+use Rattle.model.specs.Image.{section}
+use Rattle.model.specs.Models.LayOut.{gather-block, gather-source, gather-target, loop-place, scatter-block, scatter-source, scatter-target, Which}
+use Rattle.tape.specs.Tapes.{propagateBlockTable, propagateSourceTable, propagateTargetTable, tableOf}
+use Rattle.tape.specs.declared.Tape.{Tape}
+use Rattle.image.specs.Work.{imageWords, letterRow, lettersPart, repeatRow, repeatsPart, tablesPart}
+use Rattle.image.proofs.Laws.Lengths.{depthRows, depths-long, laid-eights, letters-long, repeats-long}
+use Rattle.image.proofs.Laws.Parts.{length-section}
+use Rattle.image.proofs.Laws.Stores.{sets-on}
+
+-- n words us, and then vs where they end
+both : (l : List ℕ) (i : ℕ) (us vs : List ℕ) {words after : List ℕ} {n k : ℕ} → length us ≡ n → k ≡ i + n → words ≡ sets l i us
+    → after ≡ sets words k vs → after ≡ sets l i (us ++ vs)
+both l i us vs {k = k} long e p q = q ∙ ap (λ (ws : List ℕ). sets ws k vs) p ∙ sets-on l i us vs k (omega arith)
+
+module _ (W d : ℕ) (row : List ℕ) (t : Tape) (narrow : W ≤ 8) (shallow : d ≤ 8) where
+  abbrev loops : List ℕ
+  loops = getD (tableOf t loop-place) 0 []
+
+  length-letters : length (lettersPart W row (t .length)) ≡ 1 + W * 256
+  length-letters = length-section W 256 (λ b. take W (letterRow row (t .length) b)) (letters-long row (t .length) narrow)
+
+  length-repeats : length (repeatsPart W row (t .length) loops) ≡ 1 + W * 256
+  length-repeats =
+      length-section W 256 (λ b. take W (repeatRow row (t .length) loops b))
+      (repeats-long row (t .length) narrow loops (laid-eights t loop-place 0 (omega arith)))
+
+  abbrev laidPart : Which → Which → Which → List ℕ
+  laidPart block source target = tablesPart W d (tableOf t block) (tableOf t source) (tableOf t target)
+
+  length-laid : (block source target : Which) → length (laidPart block source target) ≡ 1 + 3 * W * d
+  length-laid block source target =
+      length-section (3 * W) d (depthRows W (tableOf t block) (tableOf t source) (tableOf t target))
+      (depths-long (tableOf t block) (tableOf t source) (tableOf t target) narrow (omega arith) (laid-eights t block) (laid-eights t source)
+      (laid-eights t target))
+
+  -- the words after each section, and where the next begins
+  pub whole : (l : List ℕ) {places shaped lettered repeated scattered gathered after : List ℕ} {repeats scatter gather propagate : ℕ} → places ≡ loops
+      → shaped ≡ sets l 0 (section (suc (t .length) ∷ W ∷ d ∷ []))
+      → lettered ≡ sets shaped 4 (lettersPart W row (t .length)) → repeats ≡ 4 + 1 + 256 * W
+      → repeated ≡ sets lettered repeats (repeatsPart W row (t .length) places) → scatter ≡ repeats + 1 + 256 * W
+      → scattered ≡ sets repeated scatter (laidPart scatter-block scatter-source scatter-target) → gather ≡ scatter + 1 + 3 * W * d
+      → gathered ≡ sets scattered gather (laidPart gather-block gather-source gather-target) → propagate ≡ gather + 1 + 3 * W * d
+      → after ≡ sets gathered propagate (tablesPart W (suc d) (propagateBlockTable t) (propagateSourceTable t) (propagateTargetTable t))
+      → after ≡ sets l 0 (imageWords W d row t)
+  whole l {shaped = shaped} {lettered = lettered} {repeated = repeated} {scattered = scattered} {repeats = repeats} {scatter = scatter} {gather = gather}
+      are-loops by-shape by-letters to-repeats by-repeats to-scatter by-scatter to-gather by-gather to-propagate by-propagate =
+      let shapePart = section (suc (t .length) ∷ W ∷ d ∷ []) in
+      let letterPart = lettersPart W row (t .length) in
+      let repeatPart = repeatsPart W row (t .length) loops in
+      let scatterPart = laidPart scatter-block scatter-source scatter-target in
+      let gatherPart = laidPart gather-block gather-source gather-target in
+      let propagatePart = tablesPart W (suc d) (propagateBlockTable t) (propagateSourceTable t) (propagateTargetTable t) in
+      let fromGather = gatherPart ++ propagatePart in
+      let fromScatter = scatterPart ++ fromGather in
+      let fromRepeats = repeatPart ++ fromScatter in
+      both l 0 shapePart (letterPart ++ fromRepeats) refl refl by-shape
+      (both shaped 4 letterPart fromRepeats length-letters (omega arith) by-letters
+      (both lettered repeats repeatPart fromScatter length-repeats (omega arith)
+      (by-repeats ∙ ap (λ (ws : List ℕ). sets lettered repeats (repeatsPart W row (t .length) ws)) are-loops)
+      (both repeated scatter scatterPart fromGather (length-laid scatter-block scatter-source scatter-target) (omega arith) by-scatter
+      (both scattered gather gatherPart propagatePart (length-laid gather-block gather-source gather-target) (omega arith) by-gather by-propagate))))

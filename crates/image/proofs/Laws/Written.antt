@@ -1,0 +1,136 @@
+-- THE WORDS WRITTEN, AS AN IMAGE OF SETS: for the tape of a tree and any classes, `imageWords` is assembled from the states that the classes lead to,
+-- those of them with a loop, and the tree's sets of unions and propagate edges. For the tree's own classes it is the tree's image.
+use mathlib.Core.Path.{_≡_, refl, sym, ap, ap₂, _∙_, subst}
+use mathlib.Core.Bool.{Bool, _&&_}
+use mathlib.Core.List.{List, [], _∷_, _++_}
+use Prim.Native.Nat.{ℕ, zero, suc, _+_, _*_, _≤_, _<_}
+use native.Mathlib.Omega.{arith}
+use lib.ListN.{getD, length, take}
+use Rattle.model.specs.Bits.{bit}
+use Rattle.model.specs.Edges.{depth, states}
+use Rattle.model.specs.Image.{gatherBlock, gatherSource, gatherTarget, image, join, letters, propagateBlock, propagateSource, propagateTarget, repeats, scatterBlock, scatterSource, scatterTarget, section, width}
+use Rattle.model.specs.Models.LayOut.{assemble, begin, gather-block, gather-source, gather-target, layOut, loop-place, scatter-block, scatter-source, scatter-target, set, three, tokenLetters, Which}
+use Rattle.model.specs.Models.Tokens.{tokens}
+use Rattle.model.specs.Models.Words.{andWords, Fit, value}
+use Rattle.model.specs.Tree.{Tree}
+use Rattle.model.proofs.Image.OfEdges.{edgeSet, letters-of}
+use Rattle.model.proofs.Image.Rows.{set-same}
+use Rattle.model.proofs.Image.SameBits.{holds-one}
+use Rattle.model.proofs.Image.Sections.{after-repeats, length-assembled}
+use Rattle.model.proofs.Image.Shown.{letters-are}
+use Rattle.model.proofs.Image.Tokens.{length-tokens}
+use Rattle.model.proofs.Image.WellFormed.{well-fine}
+use Rattle.model.proofs.Reading.WellFormed.{rule-well}
+use Rattle.model.proofs.Words.Holds.{Near, set-holds}
+use Rattle.model.proofs.Words.Operations.{holds-and-l}
+use Rattle.tape.specs.Says.{RowsAre, TreeOnTape}
+use Rattle.tape.specs.Tables.{Table}
+use Rattle.tape.specs.Tapes.{propagateBlockTable, propagateSourceTable, propagateTargetTable, tableOf}
+use Rattle.tape.specs.declared.Tape.{Tape}
+use Rattle.tape.proofs.FirstWords.{first-words}
+use Rattle.tape.proofs.OfTree.{gather-block-says, gather-source-says, gather-target-says, laid-row, loops-say, propagate-block-says, propagate-source-says, propagate-target-says, scatter-block-says, scatter-source-says, scatter-target-says}
+use Rattle.image.specs.Says.{TokensOf}
+use Rattle.image.specs.Work.{imageWords, leads, letterRow, repeatRow, threeRows}
+use Rattle.image.proofs.Laws.Tapes.{states-are}
+use Rattle.image.proofs.Laws.TokenWords.{in-class}
+
+join-below : (n a : ℕ) (f g : ℕ → List ℕ) → ((k : ℕ) → k < a + n → f k ≡ g k) → join n a f ≡ join n a g
+join-below zero a f g h = refl
+join-below (suc n) a f g h = ap₂ _++_ (h a (omega arith)) (join-below n (suc a) f g (λ k l. h k (omega arith)))
+
+-- six sections that are equal one by one
+sections-same : {a a′ l l′ r r′ s s′ g g′ p p′ : List ℕ} → a ≡ a′ → l ≡ l′ → r ≡ r′ → s ≡ s′ → g ≡ g′ → p ≡ p′
+    → section a ++ (section l ++ (section r ++ (section s ++ (section g ++ section p))))
+    ≡ section a′ ++ (section l′ ++ (section r′ ++ (section s′ ++ (section g′ ++ section p′))))
+sections-same ea el er es eg ep =
+    λ i. section (ea i) ++ (section (el i) ++ (section (er i) ++ (section (es i) ++ (section (eg i) ++ section (ep i)))))
+
+-- letters and repeats that are the same for every byte
+bytes-same : (m W d : ℕ) (L R L′ R′ : ℕ → ℕ → Bool) (B : Which → ℕ → ℕ → Bool) → ((b x : ℕ) → b < 256 → x < m → L b x ≡ L′ b x)
+    → ((b x : ℕ) → b < 256 → x < m → R b x ≡ R′ b x) → assemble m W d L R B ≡ assemble m W d L′ R′ B
+bytes-same m W d L R L′ R′ B hl hr =
+    ap₂ (λ (l r : List ℕ). section (m ∷ W ∷ d ∷ []) ++ (section l ++ (section r ++ after-repeats m W d L R B)))
+    (join-below 256 0 (λ b. set m W (L b)) (λ b. set m W (L′ b)) (λ b h. set-same m W (L b) (L′ b) (λ x l. hl b x h l)))
+    (join-below 256 0 (λ b. set m W (R b)) (λ b. set m W (R′ b)) (λ b h. set-same m W (R b) (R′ b) (λ x l. hr b x h l)))
+
+module _ (row : List ℕ) (tape : Tape) (s : Tree) (O : TreeOnTape s tape) where
+  abbrev m : ℕ
+  m = states s
+
+  abbrev W : ℕ
+  W = width (states s)
+
+  abbrev loops : List ℕ
+  loops = getD (tableOf tape loop-place) 0 []
+
+  -- the states that the classes lead to, and those of them with a loop
+  abbrev looped : ℕ → ℕ → Bool
+  looped b x = leads row b x && bit (value loops) x
+
+  narrow : W ≤ 8
+  narrow = omega (arith, O .few)
+
+  letter-row : (b : ℕ) → take W (letterRow row (tape .length) b) ≡ set m W (leads row b)
+  letter-row b = ap (λ (n : ℕ). take W (set n 8 (leads row b))) (states-are O) ∙ first-words m W (leads row b) narrow
+
+  loops-near : Near m 8 loops (bit (value loops))
+  loops-near =
+      let N = set-holds m 8 (layOut (tokens s []) begin loop-place 0) (O .few) .near in
+      let e = laid-row s tape O loop-place 0 (omega arith) in
+      record { len = ap length e ∙ N .len; fit = subst Fit (sym e) (N .fit); bits = λ x l. refl }
+
+  repeat-row : (b : ℕ) → take W (repeatRow row (tape .length) loops b) ≡ set m W (looped b)
+  repeat-row b =
+      ap (λ (n : ℕ). take W (andWords (set n 8 (leads row b)) loops)) (states-are O)
+      ∙ ap (take W)
+      (holds-one m 8 (andWords (set m 8 (leads row b)) loops) (set m 8 (looped b)) (looped b) (looped b)
+      (holds-and-l (set-holds m 8 (leads row b) (O .few)) loops-near) (set-holds m 8 (looped b) (O .few)) (λ x l. refl))
+      ∙ first-words m W (looped b) narrow
+
+  -- ---- the masks of each depth
+  three-rows : (d : ℕ) (block source target : Table) (f g h : ℕ → ℕ → Bool) → RowsAre s block d f → RowsAre s source d g → RowsAre s target d h
+      → join d 0 (λ k. threeRows W (getD block k []) (getD source k []) (getD target k [])) ≡ join d 0 (λ k. three m W (f k) (g k) (h k))
+  three-rows d block source target f g h B S T =
+      join-below d 0 (λ k. threeRows W (getD block k []) (getD source k []) (getD target k [])) (λ k. three m W (f k) (g k) (h k)) (λ k l.
+      let k′ : k < d = omega arith in
+      ap₂ _++_ (first (f k) (B .row k k′)) (ap₂ _++_ (first (g k) (S .row k k′)) (first (h k) (T .row k k′))))
+    where
+      first : {ws : List ℕ} (q : ℕ → Bool) → ws ≡ set m 8 q → take W ws ≡ set m W q
+      first q e = ap (take W) e ∙ first-words m W q narrow
+
+  -- THE WORDS WRITTEN
+  pub written : imageWords W (depth s) row tape ≡ assemble m W (depth s) (leads row) looped (edgeSet s)
+  written =
+      sections-same (ap (λ (n : ℕ). n ∷ W ∷ depth s ∷ []) (states-are O))
+      (join-below 256 0 (λ b. take W (letterRow row (tape .length) b)) (λ b. set m W (leads row b)) (λ b l. letter-row b))
+      (join-below 256 0 (λ b. take W (repeatRow row (tape .length) loops b)) (λ b. set m W (looped b)) (λ b l. repeat-row b))
+      (three-rows (depth s) (tableOf tape scatter-block) (tableOf tape scatter-source) (tableOf tape scatter-target) (scatterBlock s) (scatterSource s)
+      (scatterTarget s) (scatter-block-says tape s O) (scatter-source-says tape s O) (scatter-target-says tape s O))
+      (three-rows (depth s) (tableOf tape gather-block) (tableOf tape gather-source) (tableOf tape gather-target) (gatherBlock s) (gatherSource s)
+      (gatherTarget s) (gather-block-says tape s O) (gather-source-says tape s O) (gather-target-says tape s O))
+      (three-rows (suc (depth s)) (propagateBlockTable tape) (propagateSourceTable tape) (propagateTargetTable tape) (propagateBlock s) (propagateSource s)
+      (propagateTarget s) (propagate-block-says tape s O) (propagate-source-says tape s O) (propagate-target-says tape s O))
+
+  pub length-written : length (imageWords W (depth s) row tape) ≡ 9 + W * (515 + 9 * depth s)
+  length-written = ap length written ∙ length-assembled m W (depth s) (leads row) looped (edgeSet s)
+
+  -- ---- and with the tree's own classes
+  module _ (R : TokensOf s row (tape .length)) where
+    letters-lead : (b x : ℕ) → b < 256 → x < states s → leads row b x ≡ letters s b x
+    letters-lead b x h l = go x l ∙ letters-are s b x l ∙ sym (letters-of s b x)
+      where
+        go : (x : ℕ) → x < states s → leads row b x ≡ tokenLetters (tokens s []) b x
+        go zero l = refl
+        go (suc i) l =
+            in-class (tokens s []) row (tape .length) (R .long) (R .are) i b (omega (arith, length-tokens s)) h (well-fine s (rule-well (R .is-rule)))
+
+    -- THE TREE'S IMAGE
+    pub image-written : imageWords W (depth s) row tape ≡ image s
+    image-written =
+        written
+        ∙ bytes-same m W (depth s) (leads row) looped (letters s) (repeats s) (edgeSet s) letters-lead
+        (λ b x h l. ap (λ (a : Bool). a && bit (value loops) x) (letters-lead b x h l) ∙ loops-say tape s O b x l)
+
+-- "The length is 9 + W(515 + 9d) words."
+pub length-image : (s : Tree) → length (image s) ≡ 9 + width (states s) * (515 + 9 * depth s)
+length-image s = length-assembled (states s) (width (states s)) (depth s) (letters s) (repeats s) (edgeSet s)

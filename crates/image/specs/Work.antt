@@ -1,0 +1,55 @@
+-- THE PARTS OF AN IMAGE as the code writes them: the sets of states that a byte's letters lead to, read off the tokens' classes, and the sections.
+use mathlib.Core.Path.{_≡_}
+use mathlib.Core.Bool.{Bool, false}
+use mathlib.Core.List.{List, [], _∷_, _++_}
+use Prim.Native.Nat.{ℕ, zero, suc, _+_, _*_, _/_, _%_, _<_, min}
+use lib.ListN.{getD, take}
+use Rattle.model.specs.Bits.{bit}
+use Rattle.model.specs.Image.{join, section}
+use Rattle.model.specs.Models.LayOut.{gather-block, gather-source, gather-target, loop-place, scatter-block, scatter-source, scatter-target, set}
+use Rattle.model.specs.Models.Words.{andWords}
+use Rattle.tape.specs.Tables.{Table}
+use Rattle.tape.specs.Tapes.{propagateBlockTable, propagateSourceTable, propagateTargetTable, tableOf}
+use Rattle.tape.specs.declared.Tape.{Tape}
+
+-- the kinds of a tape are those of the tokens; what is past the kinds of tokens is a close
+abbrev pub KindsAre : List ℕ → List ℕ → Type 0
+KindsAre row kinds = (i : ℕ) → i < 511 → getD kinds i 0 ≡ min (getD row (5 * i) 0) 6
+
+-- byte b is in the class of token i; token i leads to state i + 1
+abbrev pub inClass : List ℕ → ℕ → ℕ → Bool
+inClass row b i = bit (getD row (5 * i + 1 + b / 64) 0) (b % 64)
+
+abbrev pub leads : List ℕ → ℕ → ℕ → Bool
+leads row b zero = false
+leads row b (suc i) = inClass row b i
+
+-- the mask of byte b over n tokens, in eight words; and of those states the ones with a loop
+abbrev pub letterRow : List ℕ → ℕ → ℕ → List ℕ
+letterRow row n b = set (suc n) 8 (leads row b)
+
+abbrev pub repeatRow : List ℕ → ℕ → List ℕ → ℕ → List ℕ
+repeatRow row n loops b = andWords (letterRow row n b) loops
+
+-- the sections
+abbrev pub lettersPart : ℕ → List ℕ → ℕ → List ℕ
+lettersPart width row n = section (join 256 0 (λ b. take width (letterRow row n b)))
+
+abbrev pub repeatsPart : ℕ → List ℕ → ℕ → List ℕ → List ℕ
+repeatsPart width row n loops = section (join 256 0 (λ b. take width (repeatRow row n loops b)))
+
+abbrev pub threeRows : ℕ → List ℕ → List ℕ → List ℕ → List ℕ
+threeRows width block source target = take width block ++ (take width source ++ take width target)
+
+abbrev pub tablesPart : ℕ → ℕ → Table → Table → Table → List ℕ
+tablesPart width depths block source target = section (join depths 0 (λ k. threeRows width (getD block k []) (getD source k []) (getD target k [])))
+
+-- the whole image of a row of tokens and its tape
+abbrev pub imageWords : ℕ → ℕ → List ℕ → Tape → List ℕ
+imageWords width depth row tape =
+    section (suc (tape .length) ∷ width ∷ depth ∷ [])
+    ++ (lettersPart width row (tape .length)
+    ++ (repeatsPart width row (tape .length) (getD (tableOf tape loop-place) 0 [])
+    ++ (tablesPart width depth (tableOf tape scatter-block) (tableOf tape scatter-source) (tableOf tape scatter-target)
+    ++ (tablesPart width depth (tableOf tape gather-block) (tableOf tape gather-source) (tableOf tape gather-target)
+    ++ tablesPart width (suc depth) (propagateBlockTable tape) (propagateSourceTable tape) (propagateTargetTable tape)))))

@@ -1,0 +1,41 @@
+// The image, written: document 01, "The image". A tree comes as its tokens, five words for each, is laid out (crate tape), and goes
+// into the words lent, section after section. `shape` has the tape and the lengths, `letters` the masks of bytes, `sections` the writing.
+
+mod letters;
+mod sections;
+mod shape;
+
+use crate::sections::put_image;
+use crate::shape::image_length;
+use crate::shape::tape_of;
+use crate::shape::width_of;
+use tape::Shape;
+use tape::well_formed;
+ghost use Rattle.image.specs.Says.{Kept, StoreSays};
+
+// What became of a tree's tokens: no image, since they are not those of a tree within 512 states and depth 8, or since it is longer than the
+// words lent; or the image of so many words.
+pub enum Stored {
+    NoTree,
+    NoRoom,
+    Done(usize),
+}
+
+// The image of a tree, from its tokens. Nothing is written before it is known that all of it will be.
+pub fn store(tokens: [u64; 2555], length: usize, words: &mut [u64]) -> Stored
+    ensures image { λ r. ⌜ StoreSays tokens length (now (words .entry)) r (now (words .exit)) ⌝ }
+    ensures past { λ r. ⌜ Kept (now (words .entry)) r (now (words .exit)) ⌝ }
+{
+    let tape = tape_of(tokens, length);
+    let shape = well_formed(tape);
+    let Shape::Tree(depth) = shape else {
+        return Stored::NoTree;
+    };
+    let width = width_of(length + 1);
+    let size = image_length(width, depth);
+    if words.len() < size {
+        return Stored::NoRoom;
+    }
+    put_image(words, tokens, tape, width, depth);
+    Stored::Done(size)
+}

@@ -1,0 +1,27 @@
+-- A ROW OF TOKENS WITH THEIR CLASSES, as words: five for each token, its kind and the four words of its class.
+use mathlib.Core.List.{List, _∷_}
+use Prim.Native.Nat.{ℕ}
+use Rattle.model.specs.Image.{words}
+use Rattle.model.specs.Lists.{each}
+use Rattle.model.specs.Models.Tokens.{aBar, aClose, aLetter, anOpen, classOf, Token}
+use Rattle.model.specs.Tree.{once, option, plus, Repeat, star}
+
+-- the kinds of a tape: 0 to 3 a letter, taken once, `?`, `*` or `+`; 4 an open, 5 a bar, 6 a close
+abbrev pub repeatKind : Repeat → ℕ
+repeatKind once = 0
+repeatKind option = 1
+repeatKind star = 2
+repeatKind plus = 3
+
+abbrev pub kindOf : Token → ℕ
+kindOf (aLetter c r) = repeatKind r
+kindOf anOpen = 4
+kindOf aBar = 5
+kindOf aClose = 6
+
+-- the words of one token, and of a row of them
+abbrev pub tokenWords : Token → List ℕ
+tokenWords y = kindOf y ∷ words 4 (classOf y)
+
+abbrev pub rowWords : List Token → List ℕ
+rowWords = each tokenWords

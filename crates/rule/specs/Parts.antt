@@ -10,7 +10,8 @@ use Rattle.model.specs.Models.Reader.{bind, got, past, Read, readSign}
 use Rattle.model.specs.Models.Tokens.{aClose, anOpen, Token, tokens}
 use Rattle.model.specs.Tree.{Alts, last, more, Seq}
 use Rattle.rule.specs.Answers.{Stopped, Took}
-use Rattle.rule.specs.Tokens.{between, opened, rowWords, tokenWords}
+use Rattle.tape.specs.Rows.{rowWords, tokenWords}
+use Rattle.rule.specs.Tokens.{between, opened}
 use Rattle.rule.specs.declared.Alternatives.{Alternatives}
 use Rattle.rule.specs.declared.Alternatives.the-variants.{Bad as noAlternatives, One, Several}
 use Rattle.rule.specs.declared.Part.{Part}

@@ -1,32 +1,11 @@
--- TOKENS AS THE READERS LEAVE THEM: five words for each, its kind and the four words of its class.
+-- TOKENS AS THE READERS WRITE THEM, five words for each (tape, specs/Rows): the rows of alternatives, and what is done to a row of words.
 use mathlib.Core.List.{List, [], _∷_, _++_}
 use Prim.Native.Nat.{ℕ, zero, suc, _*_}
-use lib.ListN.{length, replicate, take, drop}
+use lib.ListN.{drop, replicate, take}
 use lib.Seq.{sets}
-use Rattle.model.specs.Image.{words}
-use Rattle.model.specs.Lists.{each}
-use Rattle.model.specs.Models.Tokens.{aBar, aClose, aLetter, anOpen, classOf, Token, tokens}
-use Rattle.model.specs.Tree.{Alts, last, more, once, option, plus, Repeat, star}
-
--- 0 to 3 a letter, taken once, `?`, `*` or `+`; 4 an open, 5 a bar, 6 a close
-abbrev pub repeatKind : Repeat → ℕ
-repeatKind once = 0
-repeatKind option = 1
-repeatKind star = 2
-repeatKind plus = 3
-
-abbrev pub kindOf : Token → ℕ
-kindOf (aLetter c r) = repeatKind r
-kindOf anOpen = 4
-kindOf aBar = 5
-kindOf aClose = 6
-
--- the words of one token, and of a row of them
-abbrev pub tokenWords : Token → List ℕ
-tokenWords y = kindOf y ∷ words 4 (classOf y)
-
-abbrev pub rowWords : List Token → List ℕ
-rowWords = each tokenWords
+use Rattle.model.specs.Models.Tokens.{aBar, Token, tokens}
+use Rattle.model.specs.Tree.{Alts, last, more}
+use Rattle.tape.specs.Rows.{rowWords}
 
 -- n times the same words
 abbrev pub timesWords : ℕ → List ℕ → List ℕ

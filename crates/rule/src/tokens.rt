@@ -13,7 +13,8 @@ ghost use Rattle.model.specs.Models.Tokens.{anOpen, tokens as tokensOf};
 ghost use Rattle.rule.specs.Answers.{signOf};
 ghost use Rattle.rule.specs.Classes.{bytesOf, wordsOf};
 ghost use Rattle.rule.specs.Repeats.{Bounded};
-ghost use Rattle.rule.specs.Tokens.{opened, rowWords, timesWords, tokenWords};
+ghost use Rattle.tape.specs.Rows.{rowWords, tokenWords};
+ghost use Rattle.rule.specs.Tokens.{opened, timesWords};
 
 // The kinds of tokens: a letter taken once, `?`, `*` or `+`; a union's open, bar and close.
 pub const ONCE: u64 = 0;

@@ -17,7 +17,8 @@ use Rattle.model.proofs.Reading.Cycle.{alts, alts-is, item, item-falls, item-is
 use Rattle.rule.specs.Answers.{Stopped, Took}
 use Rattle.rule.specs.Parts.{AlternativesSay, bracketed, bracketWords, closed, Countable, PartSays, Sane, seqTokens, severalOf, Wrote}
 use Rattle.rule.specs.Repeats.{Bounded}
-use Rattle.rule.specs.Tokens.{between, opened, rowWords, tokenWords}
+use Rattle.tape.specs.Rows.{rowWords, tokenWords}
+use Rattle.rule.specs.Tokens.{between, opened}
 use Rattle.rule.specs.declared.Alternatives.{Alternatives}
 use Rattle.rule.specs.declared.Alternatives.the-variants.{Bad as noAlternatives, One, Several}
 use Rattle.rule.specs.declared.Part.{Part}

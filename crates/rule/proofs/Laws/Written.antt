@@ -12,7 +12,8 @@ use Rattle.model.specs.Models.Words.{Fit, value}
 use Rattle.model.specs.Tree.{end, once, option, Repeat, Seq}
 use Rattle.model.proofs.Laws.Each.{each-app}
 use Rattle.rule.specs.Classes.{bytesOf, wordsOf}
-use Rattle.rule.specs.Tokens.{opened, repeatKind, rowWords, timesWords, tokenWords}
+use Rattle.tape.specs.Rows.{repeatKind, rowWords, tokenWords}
+use Rattle.rule.specs.Tokens.{opened, timesWords}
 use Rattle.rule.specs.declared.Class.{Class}
 use Rattle.rule.proofs.Laws.Writes.{sets-append, sets-opened}
 

@@ -7,7 +7,7 @@ use lib.ListN.{drop, take}
 use lib.Seq.{sets}
 use Rattle.model.specs.Models.Tokens.{anOpen}
 use Rattle.rule.specs.Classes.{wordsOf}
-use Rattle.rule.specs.Tokens.{tokenWords}
+use Rattle.tape.specs.Rows.{tokenWords}
 use Rattle.rule.proofs.Laws.Writes.{sets-before}
 use Rattle.rule.proofs.Laws.Written.{no-words}
 use Rattle.rule.proofs.tokens.insert_open.Statement.{statement}

@@ -13,7 +13,8 @@ use Rattle.model.specs.Tree.{end, once, option, plus, Repeat as Taken, star}
 use Rattle.rule.specs.Answers.{signOf}
 use Rattle.rule.specs.Classes.{bytesOf, wordsOf}
 use Rattle.rule.specs.Repeats.{Bounded}
-use Rattle.rule.specs.Tokens.{repeatKind, rowWords, timesWords}
+use Rattle.tape.specs.Rows.{repeatKind, rowWords}
+use Rattle.rule.specs.Tokens.{timesWords}
 use Rattle.rule.specs.declared.Repeat.{Repeat}
 use Rattle.rule.proofs.Laws.Writes.{sets-append}
 use Rattle.rule.proofs.Laws.Written.{copies-length, letter-words, times-length, times-row}

@@ -17,3 +17,4 @@ pub mod Writes
 pub mod Written
 pub mod Rows
 pub mod Cycle
+pub mod Whole

@@ -2,6 +2,8 @@
 // the place of the first byte that cannot be read. What an answer says is defined in specs/Answers.antt.
 ghost use mathlib.Core.Path.{_≡_};
 ghost use lib.ListN.{getD};
+ghost use Rattle.rule.specs.Says.{outcomeOf, reading, ReadSays};
+ghost use Rattle.rule.specs.Tokens.{noTokens};
 
 pub mod classes;
 mod escapes;
@@ -96,7 +98,9 @@ pub fn byte_at(rule: &[u8], at: usize) -> u8
 }
 
 // Of what a rule's alternatives are, as one item, and the whole rule's length.
-fn outcome_of(whole: Part, length: usize) -> Outcome {
+fn outcome_of(whole: Part, length: usize) -> Outcome
+    ensures { λ r. ⌜ r ≡ outcomeOf whole length ⌝ }
+{
     match whole {
         Part::Got(p, next) => {
             if p < length {
@@ -112,13 +116,17 @@ fn outcome_of(whole: Part, length: usize) -> Outcome {
 }
 
 // A reading that gives no tokens.
-fn refuse(outcome: Outcome) -> Reading {
+fn refuse(outcome: Outcome) -> Reading
+    ensures { λ r. ⌜ r ≡ reading outcome noTokens ⌝ }
+{
     let tokens = [0; 2555];
     Reading { outcome, tokens }
 }
 
 // A rule, from its first byte to its last.
-pub fn read_rule(rule: &[u8]) -> Reading {
+pub fn read_rule(rule: &[u8]) -> Reading
+    ensures { λ r. ⌜ ReadSays (now (rule .entry)) r ⌝ }
+{
     if rule.len() > 1024 {
         return refuse(Outcome::TooLong);
     }

@@ -1,0 +1,82 @@
+-- A RULE IS ITS ALTERNATIVES, READ TO THE LAST BYTE, AS ONE ITEM: the model's reader decides the grammar, so the outcome is the table's.
+use mathlib.Core.Path.{_≡_, refl, sym, ap, _∙_, subst}
+use mathlib.Core.Logic.{_⊎_, inl, inr}
+use mathlib.Core.List.{List, [], _∷_}
+use mathlib.Core.Option.{Option, none, some}
+use Prim.Native.Nat.{ℕ, suc, _+_, _≤_, _<_}
+use native.Mathlib.Omega.{arith}
+use lib.ListN.{drop, drop-of-length-le, getD, length}
+use lib.Seq.{drop-cons}
+use denote.Enum.Declared.{tagOf}
+use types.Run.{miss, OneOf}
+use Rattle.model.specs.Edges.{states}
+use Rattle.model.specs.Grammar.{bracket, IsRule}
+use Rattle.model.specs.Models.Reader.{readRule, whole}
+use Rattle.model.specs.Tree as tree
+use Rattle.model.proofs.Image.Tokens.{length-tokens}
+use Rattle.model.proofs.Laws.Bool.{le-false, le-or-lt, le-true}
+use Rattle.model.proofs.Reading.Cycle.{alts}
+use Rattle.model.proofs.Reading.Decides.{reads}
+use Rattle.rule.specs.Parts.{seqTokens}
+use Rattle.rule.specs.Says.{not-a-rule, outcomeOf, read, reading, ReadSays, too-many-states}
+use Rattle.rule.specs.Tokens.{noTokens}
+use Rattle.rule.specs.declared.Outcome.{Outcome}
+use Rattle.rule.specs.declared.Outcome.the-variants.{NotARule, TooLong, TooManyStates, Tree}
+use Rattle.rule.specs.declared.Part.{Part}
+use Rattle.rule.specs.declared.Part.the-variants.{Bad as noPart, Got as aPart}
+use Rattle.rule.specs.declared.Reading.{Reading}
+use Rattle.rule.proofs.Outcome.{the-type}
+use Rattle.rule.proofs.Laws.Cycle.{Grouped, ItemSays}
+
+-- the tokens are given with a tree, and with nothing else
+abbrev pub answered : Outcome → List ℕ → Reading
+answered TooLong row = reading TooLong noTokens
+answered NotARule row = reading NotARule noTokens
+answered TooManyStates row = reading TooManyStates noTokens
+answered (Tree m) row = reading (Tree m) row
+
+-- an outcome of another key than the tree's
+pub refused : (o : Outcome) (row : List ℕ) → OneOf (0 ∷ 1 ∷ 2 ∷ []) (tagOf the-type o) → answered o row ≡ reading o noTokens
+refused TooLong row h = refl
+refused NotARule row h = refl
+refused TooManyStates row h = refl
+refused (Tree m) row h = absurd (miss (0 ∷ 1 ∷ 2 ∷ []) 3 tt h)
+
+module _ (rule row : List ℕ) (short : length rule ≤ 1024) where
+  unread : readRule rule ≡ none → (t : tree.Tree) → IsRule rule t → ⊥
+  unread e t d = no-tree (sym e ∙ reads rule t .0 d)
+    where
+      no-tree : none ≡ some t → ⊥
+      no-tree p = let z : _≡_ {A = ℕ} 0 1 = cc in omega arith
+
+  module _ {a : tree.Alts} {p next : ℕ} (g : Grouped rule 0 (alts rule) noTokens row a p next) where
+    -- bytes are left
+    left-over : p < length rule → ReadSays rule (answered (outcomeOf (aPart p next) (length rule)) row)
+    left-over h = rw (le-true (suc p) (length rule) h) (not-a-rule short (unread (ap whole (g .took .reads) ∙ rw (drop-cons rule p 0 h))) refl)
+
+    -- all bytes are read
+    module _ (h : length rule ≤ p) where
+      is-rule : IsRule rule (bracket a)
+      is-rule = reads rule (bracket a) .1 (ap whole (g .took .reads) ∙ rw (drop-of-length-le rule h))
+
+      size : states (bracket a) ≡ next + 1
+      size = omega (arith, length-tokens (bracket a), g .count)
+
+      all-read : ReadSays rule (answered (outcomeOf (aPart p next) (length rule)) row)
+      all-read = go (le-or-lt next 511)
+        where
+          go : (next ≤ 511) ⊎ (511 < next) → ReadSays rule (answered (outcomeOf (aPart p next) (length rule)) row)
+          go (inl few) =
+              rw (le-false (suc p) (length rule) (omega arith), le-false 512 next (omega arith))
+              (read (bracket a) short is-rule (omega (arith, size)) (λ i. reading (Tree (sym size i)) (g .written i)))
+          go (inr many) =
+              rw (le-false (suc p) (length rule) (omega arith), le-true 512 next (omega arith))
+              (too-many-states (bracket a) short is-rule (omega (arith, size)) refl)
+
+  pub whole-says : (item : Part) → ItemSays rule 0 (alts rule) noTokens row item → ReadSays rule (answered (outcomeOf item (length rule)) row)
+  whole-says (noPart p) s = not-a-rule short (unread (ap whole (s .reads))) refl
+  whole-says (aPart p next) (a, g) = go (le-or-lt (length rule) p)
+    where
+      go : (length rule ≤ p) ⊎ (p < length rule) → ReadSays rule (answered (outcomeOf (aPart p next) (length rule)) row)
+      go (inl h) = all-read g h
+      go (inr h) = left-over g h

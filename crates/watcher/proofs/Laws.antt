@@ -1,0 +1,2 @@
+-- Build puts reading and storing together.
+pub mod Build

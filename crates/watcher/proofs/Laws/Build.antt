@@ -1,0 +1,74 @@
+-- BUILD'S TABLE IS READING'S ROWS AND THEN STORING'S: a rule that is refused is refused so by both, and a tree that was read is stored by its tokens.
+use mathlib.Core.Path.{_≡_, refl, sym, ap, ap₂, _∙_}
+use mathlib.Core.List.{List, [], _++_}
+use Prim.Native.Nat.{ℕ, _+_, _-_, _*_, _≤_}
+use native.Mathlib.Omega.{arith}
+use lib.ListN.{drop, length, length-replicate, take}
+use lib.Seq.{sets-eq, take-all, take-append-seam}
+use Rattle.model.specs.Answers.{BuildSays, built, no-room, not-a-rule, refused, rule-too-long, too-deep, too-many-states}
+use Rattle.model.specs.Edges.{states}
+use Rattle.model.specs.Grammar.{IsRule}
+use Rattle.model.specs.Image.{image as imageOf}
+use Rattle.model.specs.Models.Tokens.{tokens}
+use Rattle.model.specs.Tree as tree
+use Rattle.model.proofs.Image.Tokens.{length-tokens}
+use Rattle.tape.specs.Rows.{rowWords}
+use Rattle.rule.specs.Says as reading
+use Rattle.rule.specs.Tokens.{noTokens, roomWith}
+use Rattle.rule.specs.declared.Outcome.{Outcome}
+use Rattle.rule.specs.declared.Outcome.the-variants.{NotARule, TooLong, TooManyStates, Tree}
+use Rattle.rule.specs.declared.Reading.{Reading}
+use Rattle.rule.proofs.Laws.Written.{row-length}
+use Rattle.image.specs.Says as image
+use Rattle.watcher.specs.Answers.{builtAnswer, builtOf, TreeBuilt}
+use Rattle.watcher.specs.declared.Built.{Built}
+
+module _ (rule before : List ℕ) where
+  -- the rule was read, and row holds the tokens of its tree, which has m states
+  pub record TreeRead (t : tree.Tree) (m : ℕ) (row : List ℕ) : Type 0 where
+    pub short : length rule ≤ 1024
+    pub is-rule : IsRule rule t
+    pub few : states t ≤ 512
+    pub size : m ≡ states t
+    pub held : row ≡ roomWith (tokens t [])
+
+  abbrev pub Answered : Outcome → List ℕ → Type 0
+  Answered TooLong row = BuildSays rule before (refused 1 before)
+  Answered NotARule row = BuildSays rule before (refused 2 before)
+  Answered TooManyStates row = BuildSays rule before (refused 3 before)
+  Answered (Tree m) row = (t : tree.Tree) × TreeRead t m row
+
+  pub answered : (r : Reading) → reading.ReadSays rule r → Answered (r .outcome) (r .tokens)
+  answered r (reading.too-long l e) = rw e (rule-too-long l refl)
+  answered r (reading.not-a-rule l f e) = rw e (not-a-rule l f refl)
+  answered r (reading.too-many-states t l d m e) = rw e (too-many-states t l d m refl)
+  answered r (reading.read t l d m e) = rw e (t, record { short = l; is-rule = d; few = m; size = refl; held = refl })
+
+  -- ---- a tree that was read
+  module _ {t : tree.Tree} {m : ℕ} {row : List ℕ} (T : TreeRead t m row) where
+    pub some-states : 1 ≤ m
+    some-states = omega (arith, T .size)
+
+    long : m - 1 ≡ length (tokens t [])
+    long = omega (arith, T .size, length-tokens t)
+
+    fits : length (rowWords (tokens t [])) ≤ 2555
+    fits = omega (arith, row-length (tokens t []), T .size, T .few, long)
+
+    held-words : take (5 * (m - 1)) row ≡ rowWords (tokens t [])
+    held-words =
+        let ws = rowWords (tokens t []) in
+        let n : 5 * (m - 1) ≡ length ws = omega (arith, row-length (tokens t []), long) in
+        ap₂ take n (T .held ∙ sets-eq ws noTokens 0 (omega (arith, fits, length-replicate {A = ℕ} 2555 0)))
+        ∙ take-append-seam ws (drop (0 + length ws) noTokens)
+
+    is-held : image.TokensOf t row (m - 1)
+    is-held = record { rule = rule; is-rule = T .is-rule; few = T .few; long = long; are = held-words }
+
+    pub tree-built : (r : Built) (after : List ℕ) → TreeBuilt row (m - 1) before r after → BuildSays rule before (builtAnswer r after)
+    tree-built r after B = rw (B .is) (go (B .says t is-held))
+      where
+        go : image.TreeSays t before (B .stored) after → BuildSays rule before (builtAnswer (builtOf (B .stored)) after)
+        go (image.too-deep k e a) = too-deep t (T .short) (T .is-rule) (T .few) k (rw (e, a))
+        go (image.no-room k n e a) = no-room t (T .short) (T .is-rule) (T .few) k n (rw (e, a))
+        go (image.stored k n e a) = built t (T .short) (T .is-rule) (T .few) k n (rw (e, a, take-all (length before) (imageOf t) n))

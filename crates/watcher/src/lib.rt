@@ -1,0 +1,35 @@
+// The watcher's operations: document 01, "Numbers given back". No caller is trusted; a refusal changes nothing that was lent and gives count 0.
+// What each answer means, its number and its count, is defined in specs/Answers.antt.
+
+mod building;
+
+use crate::building::store_tree;
+use rule::Outcome;
+use rule::read_rule;
+ghost use Rattle.model.specs.Answers.{BuildSays};
+ghost use Rattle.watcher.specs.Answers.{builtAnswer};
+
+// What build answers: the refusals 1 to 5 in the table's order, or done, with the image's length.
+pub enum Built {
+    TooLong,
+    NotARule,
+    TooManyStates,
+    TooDeep,
+    NoRoom,
+    Done(usize),
+}
+
+// Build: from rule bytes to an image in lent words.
+pub fn build(rule: &[u8], image: &mut [u64]) -> Built
+    ensures { λ r. ⌜ BuildSays (now (rule .entry)) (now (image .entry)) (builtAnswer r (now (image .exit))) ⌝ }
+{
+    let reading = read_rule(rule);
+    let outcome = reading.outcome;
+    let tokens = reading.tokens;
+    match outcome {
+        Outcome::TooLong => Built::TooLong,
+        Outcome::NotARule => Built::NotARule,
+        Outcome::TooManyStates => Built::TooManyStates,
+        Outcome::Tree(states) => store_tree(tokens, states, image),
+    }
+}

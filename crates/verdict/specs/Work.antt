@@ -1,0 +1,123 @@
+-- WHAT THE PARTS OF THE CHECK COMPUTE from any words: the header's tests, the states that some mask of a section has, the kinds that these show,
+-- and the comparison section by section.
+use mathlib.Core.Path.{_≡_}
+use mathlib.Core.Bool.{Bool, _&&_, cond}
+use mathlib.Core.List.{List, [], _∷_}
+use Prim.Native.Nat.{ℕ, zero, suc, _+_, _*_, _≤_, _<_}
+use lib.Dec.{eqb, leb}
+use lib.Bits.{bitOr}
+use lib.ListN.{drop, getD, length, replicate, take}
+use Rattle.model.specs.Bits.{bit}
+use Rattle.model.specs.Image.{join, width}
+use Rattle.model.specs.Models.Apart.{depthWord, repeatOf, stateWord, widthWord}
+use Rattle.model.specs.Models.LayOut.{gather-block, gather-source, gather-target, letter-place, loop-place, scatter-block, scatter-source, scatter-target}
+use Rattle.model.specs.Models.Verdict.{sameWords}
+use Rattle.model.specs.Models.Words.{andWords, eachWord, value}
+use Rattle.tape.specs.Joins.{joinWord}
+use Rattle.tape.specs.Rows.{repeatKind}
+use Rattle.tape.specs.Tables.{Table}
+use Rattle.tape.specs.Tapes.{propagateBlockTable, propagateSourceTable, propagateTargetTable, tableOf}
+use Rattle.tape.specs.declared.Tape.{Tape}
+use Rattle.tape.specs.declared.join.Join.the-variants.{Only}
+use Rattle.image.specs.Work.{threeRows}
+use Rattle.verdict.specs.declared.apart.Marks.{Marks}
+use Rattle.verdict.specs.declared.header.Header.{Header}
+use Rattle.verdict.specs.declared.header.Header.the-variants.{Other, Sound}
+
+-- ---- where the masks of a section begin, after its count
+abbrev pub scatterAt : ℕ → ℕ
+scatterAt W = 7 + 512 * W
+
+abbrev pub gatherAt : ℕ → ℕ → ℕ
+gatherAt W d = scatterAt W + 1 + 3 * W * d
+
+abbrev pub propagateAt : ℕ → ℕ → ℕ
+propagateAt W d = gatherAt W d + 1 + 3 * W * d
+
+-- n words from a place on
+abbrev pub wordsAt : List ℕ → ℕ → ℕ → List ℕ
+wordsAt ws at n = take n (drop at ws)
+
+-- ---- the header
+abbrev pub shapeFits : List ℕ → Bool
+shapeFits ws =
+    leb 4 (length ws)
+    && (eqb (getD ws 0 0) 3
+    && (leb 2 (stateWord ws) && (leb (stateWord ws) 512 && (eqb (widthWord ws) (width (stateWord ws)) && leb (depthWord ws) 8))))
+
+abbrev pub countsFit : List ℕ → ℕ → ℕ → Bool
+countsFit ws W d =
+    eqb (getD ws 4 0) (256 * W)
+    && (eqb (getD ws (5 + 256 * W) 0) (256 * W)
+    && (eqb (getD ws (6 + 512 * W) 0) (3 * W * d)
+    && (eqb (getD ws (7 + 512 * W + 3 * W * d) 0) (3 * W * d) && eqb (getD ws (8 + 512 * W + 6 * W * d) 0) (3 * W * suc d))))
+
+abbrev pub headerFits : List ℕ → Bool
+headerFits ws =
+    shapeFits ws && (eqb (length ws) (9 + widthWord ws * (515 + 9 * depthWord ws)) && countsFit ws (widthWord ws) (depthWord ws))
+
+abbrev pub headerIf : Bool → List ℕ → Header
+headerIf b ws = cond b (Sound (stateWord ws) (widthWord ws) (depthWord ws)) Other
+
+-- ---- the states that some mask has
+-- a row with the states of a mask, as far as the mask reaches; the states of n masks
+abbrev pub orFirst : List ℕ → List ℕ → List ℕ
+orFirst [] ys = []
+orFirst (x ∷ xs) [] = x ∷ xs
+orFirst (x ∷ xs) (y ∷ ys) = bitOr x y ∷ orFirst xs ys
+
+abbrev pub orRows : ℕ → (ℕ → List ℕ) → List ℕ
+orRows zero f = replicate 8 0
+orRows (suc n) f = orFirst (orRows n f) (f n)
+
+abbrev pub someRow : List ℕ → (at stride W n : ℕ) → List ℕ
+someRow ws at stride W n = orRows n (λ k. wordsAt ws (at + stride * k) W)
+
+-- the states of a block that are not in the source after it: those that an edge enters
+abbrev pub enteredWords : List ℕ → ℕ → ℕ → List ℕ
+enteredWords ws at W = eachWord (joinWord Only) (wordsAt ws at W) (wordsAt ws (at + W) W)
+
+abbrev pub enteredRow : List ℕ → (at W n : ℕ) → List ℕ
+enteredRow ws at W n = orRows n (λ k. enteredWords ws (at + 3 * W * k) W)
+
+abbrev pub marksOf : List ℕ → (W d : ℕ) → Marks
+marksOf ws W d = record {
+  letters = someRow ws 5 W W 256;
+  loops = someRow ws (6 + 256 * W) W W 256;
+  entered = enteredRow ws (propagateAt W d) W (suc d);
+  closes = someRow ws (gatherAt W d + 2 * W) (3 * W) W d;
+  opens = someRow ws (scatterAt W + W) (3 * W) W d;
+}
+
+-- the kind of the token from state i to the next
+abbrev pub kindAt : Marks → ℕ → ℕ
+kindAt marks i =
+    cond (bit (value (marks .letters)) (suc i)) (repeatKind (repeatOf (bit (value (marks .entered)) (suc i)) (bit (value (marks .loops)) (suc i))))
+    (cond (bit (value (marks .closes)) (suc i)) 6 (cond (bit (value (marks .opens)) i) 4 5))
+
+pub record ApartAs (marks : Marks) (n : ℕ) (t : Tape) : Type 0 where
+  pub long : t .length ≡ n
+  pub kinds : (i : ℕ) → i < n → getD (t .kinds) i 0 ≡ kindAt marks i
+
+-- ---- the comparison
+abbrev pub sameRepeats : List ℕ → ℕ → List ℕ → Bool
+sameRepeats ws W loops = sameWords (wordsAt ws (6 + 256 * W) (256 * W)) (join 256 0 (λ b. andWords (wordsAt ws (5 + W * b) W) loops))
+
+abbrev pub sameTables : List ℕ → (at W depths : ℕ) → Table → Table → Table → Bool
+sameTables ws at W depths block source target =
+    sameWords (wordsAt ws at (3 * W * depths)) (join depths 0 (λ k. threeRows W (getD block k []) (getD source k []) (getD target k [])))
+
+abbrev pub sameScatter : List ℕ → (at W d : ℕ) → Tape → Bool
+sameScatter ws at W d t = sameTables ws at W d (tableOf t scatter-block) (tableOf t scatter-source) (tableOf t scatter-target)
+
+abbrev pub sameGather : List ℕ → (at W d : ℕ) → Tape → Bool
+sameGather ws at W d t = sameTables ws at W d (tableOf t gather-block) (tableOf t gather-source) (tableOf t gather-target)
+
+abbrev pub samePropagate : List ℕ → (at W d : ℕ) → Tape → Bool
+samePropagate ws at W d t = sameTables ws at W (suc d) (propagateBlockTable t) (propagateSourceTable t) (propagateTargetTable t)
+
+abbrev pub sameAll : List ℕ → (W d : ℕ) → List ℕ → Tape → Bool
+sameAll ws W d letters t =
+    sameWords letters (getD (tableOf t letter-place) 0 [])
+    && (sameRepeats ws W (getD (tableOf t loop-place) 0 [])
+    && (sameScatter ws (scatterAt W) W d t && (sameGather ws (gatherAt W d) W d t && samePropagate ws (propagateAt W d) W d t)))

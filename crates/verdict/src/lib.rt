@@ -1,0 +1,65 @@
+// Whether any words at all are the image of a tree within 512 states and depth 8 (document 01, number 6). The shape's own numbers are trusted for
+// nothing before they are checked (`header`); the tape is taken from the masks (`apart`), laid out, and what is laid out is compared with the words
+// (`compare`). What was compared is what is run: nothing is copied and then trusted.
+
+mod apart;
+mod compare;
+mod header;
+
+use crate::apart::marks_of;
+use crate::apart::take_apart;
+use crate::compare::agrees;
+use crate::header::Header;
+use crate::header::read_header;
+use tape::Shape;
+use tape::Tape;
+use tape::well_formed;
+ghost use Rattle.verdict.specs.Says.{CheckSays};
+
+// An image whose masks have so many words, or anything else.
+pub enum Verdict {
+    Image(usize),
+    Other,
+}
+
+// The verdict, and the tape of the tree whose image the words are.
+pub struct Checked {
+    pub verdict: Verdict,
+    pub tape: Tape,
+}
+
+fn refuse() -> Checked {
+    let kinds = [0u8; 512];
+    let tape = Tape { kinds, length: 0 };
+    Checked {
+        verdict: Verdict::Other,
+        tape,
+    }
+}
+
+// The check that every call makes which uses an image.
+pub fn check(words: &[u64]) -> Checked
+    ensures { λ r. ⌜ CheckSays (now (words .entry)) r ⌝ }
+{
+    let header = read_header(words);
+    let Header::Sound(states, width, depth) = header else {
+        return refuse();
+    };
+    let marks = marks_of(words, width, depth);
+    let tape = take_apart(marks, states - 1);
+    let shape = well_formed(tape);
+    let Shape::Tree(deepest) = shape else {
+        return refuse();
+    };
+    if deepest != depth {
+        return refuse();
+    }
+    let letters = marks.letters;
+    if !agrees(words, width, depth, letters, tape) {
+        return refuse();
+    }
+    Checked {
+        verdict: Verdict::Image(width),
+        tape,
+    }
+}

@@ -1,0 +1,61 @@
+-- WHAT THE PARTS OF READ BACK WRITE: the first byte in or out of a class from a byte on, and the text of each token.
+use mathlib.Core.Path.{_≡_}
+use mathlib.Core.Bool.{true, false, cond}
+use mathlib.Core.List.{List, [], _++_}
+use Prim.Native.Nat.{ℕ, zero, suc, _+_, _-_, _*_, _≤_, _<_}
+use lib.Dec.{eqb, leb, ltb}
+use lib.ListN.{getD, length}
+use lib.Seq.{sets}
+use Rattle.model.specs.Bits.{bit, mask}
+use Rattle.model.specs.Bytes.{bytes}
+use Rattle.model.specs.Image.{join}
+use Rattle.model.specs.Models.Apart.{bitOf, lettersIn}
+use Rattle.model.specs.Writing.{classWriting}
+use Rattle.writing.specs.declared.Written.{Written}
+use Rattle.writing.specs.declared.Written.the-variants.{Done, NoRoom}
+
+-- ---- classes
+-- the first byte from b on that is in the class c, or that is not; 256 if there is none
+pub record FirstIn (c b r : ℕ) : Type 0 where
+  pub from : b ≤ r
+  pub upto : r ≤ 256
+  pub skipped : (x : ℕ) → b ≤ x → x < r → bit c x ≡ false
+  pub hit : r < 256 → bit c r ≡ true
+
+pub record FirstOut (c b r : ℕ) : Type 0 where
+  pub from : b ≤ r
+  pub upto : r ≤ 256
+  pub skipped : (x : ℕ) → b ≤ x → x < r → bit c x ≡ true
+  pub hit : r < 256 → bit c r ≡ false
+
+-- ---- tokens
+-- the bytes that lead to a state
+abbrev pub classTo : List ℕ → (W state : ℕ) → ℕ
+classTo ws W state = mask 256 (λ b. bitOf W (lettersIn ws) b state)
+
+abbrev pub signText : ℕ → List ℕ
+signText zero = []
+signText (suc zero) = bytes "?"
+signText (suc (suc zero)) = bytes "*"
+signText (suc (suc (suc k))) = bytes "+"
+
+abbrev pub tokenText : List ℕ → (W kind state : ℕ) → List ℕ
+tokenText ws W kind state =
+    cond (ltb kind 4) (classWriting (classTo ws W state) ++ signText kind)
+    (cond (eqb kind 4) (bytes "(") (cond (eqb kind 5) (bytes "|") (bytes ")")))
+
+-- n tokens from `from` on
+abbrev pub rangeText : List ℕ → ℕ → List ℕ → (n from : ℕ) → List ℕ
+rangeText ws W kinds n from = join n from (λ i. tokenText ws W (getD kinds i 0) (suc i))
+
+-- the letters' masks are there, and lead to the first 512 states
+pub record Lettered (ws : List ℕ) (W : ℕ) : Type 0 where
+  pub narrow : W ≤ 8
+  pub room : 5 + W * 256 ≤ length ws
+
+-- ---- the whole: written if there is room
+abbrev pub writtenIf : List ℕ → List ℕ → Written
+writtenIf text before = cond (leb (length text) (length before)) (Done (length text)) NoRoom
+
+abbrev pub bytesAfter : List ℕ → List ℕ → List ℕ
+bytesAfter text before = cond (leb (length text) (length before)) (sets before 0 text) before

@@ -1,0 +1,51 @@
+// Read back: from an image to its tree's plain writing (document 01, "Plain writing"). The same functions first find how long the writing is, with no
+// room lent, and then write it: what would lie past the room is counted and not written.
+
+mod bytes;
+mod classes;
+mod letters;
+mod ranges;
+
+use crate::ranges::write_range;
+use tape::Tape;
+use verdict::Verdict;
+use verdict::check;
+ghost use mathlib.Core.Path.{_≡_};
+ghost use Prim.Native.Nat.{_*_, _<_};
+ghost use Rattle.writing.specs.Says.{WrittenSays};
+ghost use Rattle.writing.specs.Work.{bytesAfter, Lettered, rangeText, writtenIf};
+
+// What read back answers: no image, a writing longer than the bytes lent, or so many bytes.
+pub enum Written {
+    NotAnImage,
+    NoRoom,
+    Done(usize),
+}
+
+// The writing of an image whose masks have so many words, from its tape.
+fn write(words: &[u64], width: usize, tape: Tape, bytes: &mut [u8]) -> Written
+    requires { ⌜ Lettered (now words) width × (tape .length < 64 * width) ⌝ }
+    ensures answer { λ r. ⌜ r ≡ writtenIf (rangeText (now (words .entry)) width (tape .kinds) (tape .length) 0) (now (bytes .entry)) ⌝ }
+    ensures written { λ r. ⌜ now (bytes .exit) ≡ bytesAfter (rangeText (now (words .entry)) width (tape .kinds) (tape .length) 0) (now (bytes .entry)) ⌝ }
+{
+    let kinds = tape.kinds;
+    let length = tape.length;
+    let size = write_range(words, width, &kinds, &mut bytes[0..0], 0, 0, length);
+    if bytes.len() < size {
+        return Written::NoRoom;
+    }
+    write_range(words, width, &kinds, bytes, 0, 0, length);
+    Written::Done(size)
+}
+
+pub fn read_back(words: &[u64], bytes: &mut [u8]) -> Written
+    ensures { λ r. ⌜ WrittenSays (now (words .entry)) (now (bytes .entry)) r (now (bytes .exit)) ⌝ }
+{
+    let checked = check(words);
+    let verdict = checked.verdict;
+    let tape = checked.tape;
+    let Verdict::Image(width) = verdict else {
+        return Written::NotAnImage;
+    };
+    write(words, width, tape, bytes)
+}

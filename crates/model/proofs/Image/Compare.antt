@@ -97,6 +97,11 @@ pub getD-between : (m i : ℕ) (f : ℕ → Token) → suc i < m → getD (token
 getD-between zero i f h = absurd (not-suc-le-zero h)
 getD-between (suc n) i f h = getD-from n 0 i f (le-of-suc-le-suc h) ∙ ap f (zero-add i)
 
+pub tape-letters : (ws : List ℕ) (b i : ℕ) → b < 256 → suc i < stateWord ws → tokenLetters (tape ws) b (suc i) ≡ bitOf (widthWord ws) (lettersIn ws) b (suc i)
+tape-letters ws b i h k =
+    ap (λ (y : Token). bit (classOf y) b) (getD-between (stateWord ws) i (tokenAt ws) k)
+    ∙ class-of (λ b. bitOf (widthWord ws) (lettersIn ws) b (suc i)) (anyBelow 256 (λ b. bitOf (widthWord ws) (lettersIn ws) b (suc i))) _ _ _ _ b h refl
+
 -- SOUND: what was compared is all
 pub compared-laid : (ws : List ℕ) → Fit ws → Compared ws (tape ws) → ws ≡ laid (tape ws)
 compared-laid ws fit C =
@@ -133,9 +138,7 @@ compared-laid ws fit C =
 
     letter-bits : (b : ℕ) → b < 256 → (x : ℕ) → x < m → bit (value (chunk W b (lettersIn ws))) x ≡ tokenLetters l b x
     letter-bits b h zero k = C .letters b 0 h (inl refl)
-    letter-bits b h (suc i) k =
-        sym (ap (λ (y : Token). bit (classOf y) b) (getD-between m i (tokenAt ws) k)
-        ∙ class-of (λ b. bitOf W (lettersIn ws) b (suc i)) (anyBelow 256 (λ b. bitOf W (lettersIn ws) b (suc i))) _ _ _ _ b h refl)
+    letter-bits b h (suc i) k = sym (tape-letters ws b i h k)
 
     letters-hold : (b : ℕ) → b < 256 → Holds m W (chunk W b (lettersIn ws)) (tokenLetters l b)
     letters-hold b h = record {

@@ -36,7 +36,7 @@ use Rattle.model.proofs.Words.ImageRun.{image-ends, imageMasks}
 use Rattle.model.proofs.Words.Run.{Bytes}
 
 -- ---- TREES WITH EQUAL IMAGES ARE EQUAL
-tape-of : (s : Seq) → AllFine (tokens s []) → tape (image s) ≡ tokens s []
+pub tape-of : (s : Seq) → AllFine (tokens s []) → tape (image s) ≡ tokens s []
 tape-of s F = ap tape (image-is s) ∙ tape-is s F
 
 pub image-inj : (s s′ : Seq) → WellFormed s → WellFormed s′ → image s ≡ image s′ → s ≡ s′

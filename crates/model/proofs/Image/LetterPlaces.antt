@@ -127,7 +127,7 @@ letter-marks aClose q x = go (q .stack)
 pub lay-letters : (l : List Token) (q : Scan) (i : ℕ) → i < length l → layOut l q letter-place 0 (suc (q .position + i)) ≡ isLetter (getD l i aClose)
 lay-letters = at-token letter-place isLetter letter-marks
 
-no-letter-at-zero : (l : List Token) → layOut l begin letter-place 0 0 ≡ false
+pub no-letter-at-zero : (l : List Token) → layOut l begin letter-place 0 0 ≡ false
 no-letter-at-zero l = none-before letter-place isLetter letter-marks l begin 0 (le-refl 0)
 
 -- THE LETTER MASKS TOGETHER ARE THE LETTER PLACES, for fine tokens

@@ -24,7 +24,7 @@ join-of w (suc n) a f S h =
     ∙ h (suc k) (omega arith) ∙ (let e : a + suc k ≡ suc a + k = omega arith in ap f e)))
 
 module _ (w n : ℕ) (f : ℕ → List ℕ) (S : List ℕ) (parts : (k : ℕ) → k < n → chunk w k S ≡ f k) where
-  whole : take (w * n) S ≡ join n 0 f
+  pub whole : take (w * n) S ≡ join n 0 f
   whole = join-of w n 0 f S (λ k l. parts k l ∙ ap f (sym (zero-add k)))
 
   -- a section's words, the count of the next section, and that section

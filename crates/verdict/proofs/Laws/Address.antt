@@ -1,0 +1,68 @@
+-- WHERE THE MASKS OF AN IMAGE LIE: a part of a section is words from one place on.
+use mathlib.Core.Path.{_≡_, refl, ap, _∙_}
+use mathlib.Core.List.{List, [], _∷_}
+use Prim.Native.Nat.{ℕ, zero, suc, _+_, _*_, _≤_, _<_}
+use native.Mathlib.Nat.{mul-add, mul-assoc, mul-left-comm}
+use native.Mathlib.Omega.{arith}
+use lib.ListN.{drop, take}
+use lib.Seq.{drop-drop, take-take}
+use Rattle.model.specs.Models.Apart.{chunk, depthWord, gatherIn, lettersIn, propagateIn, repeatsIn, scatterIn, widthWord}
+use Rattle.verdict.specs.Work.{gatherAt, propagateAt, scatterAt}
+
+-- a part of a part is a part of the whole
+pub part-of-part : (n m k : ℕ) (l : List ℕ) → m + n ≤ k → take n (drop m (take k l)) ≡ take n (drop m l)
+part-of-part n zero k l h = take-take n k l (omega arith)
+part-of-part n (suc m) zero l h = absurd (omega arith)
+part-of-part n (suc m) (suc k) [] h = refl
+part-of-part n (suc m) (suc k) (x ∷ l) h = part-of-part n m k l (omega arith)
+
+-- the section after n words and the count of the next one
+past : (S ws : List ℕ) (a n : ℕ) → S ≡ drop a ws → drop 1 (drop n S) ≡ drop (a + n + 1) ws
+past S ws a n e = ap (λ (l : List ℕ). drop 1 (drop n l)) e ∙ ap (drop 1) (drop-drop n a ws) ∙ drop-drop 1 (a + n) ws
+
+-- mask k of a section, and mask j of the three of depth k
+pub chunk-at : (W k a : ℕ) (S ws : List ℕ) → S ≡ drop a ws → chunk W k S ≡ take W (drop (a + W * k) ws)
+chunk-at W k a S ws e = ap (chunk W k) e ∙ ap (take W) (drop-drop (W * k) a ws)
+
+pub three-at : (W k j a : ℕ) (S ws : List ℕ) → j < 3 → S ≡ drop a ws → chunk W j (chunk (3 * W) k S) ≡ take W (drop (a + W * (3 * k + j)) ws)
+three-at W k j a S ws h e =
+    part-of-part W (W * j) (3 * W) (drop (3 * W * k) S) (go j h)
+    ∙ ap (λ (l : List ℕ). take W (drop (W * j) (drop (3 * W * k) l))) e
+    ∙ ap (λ (l : List ℕ). take W (drop (W * j) l)) (drop-drop (3 * W * k) a ws)
+    ∙ ap (take W) (drop-drop (W * j) (a + 3 * W * k) ws)
+    ∙ ap (λ (n : ℕ). take W (drop n ws)) place
+  where
+    go : (i : ℕ) → i < 3 → W * i + W ≤ 3 * W
+    go zero l = omega arith
+    go (suc zero) l = omega arith
+    go (suc (suc zero)) l = omega arith
+    go (suc (suc (suc i))) l = absurd (omega arith)
+
+    place : a + 3 * W * k + W * j ≡ a + W * (3 * k + j)
+    place = omega (arith, mul-add W (3 * k) j, mul-left-comm W 3 k, mul-assoc 3 W k)
+
+-- ---- the sections
+module _ (ws : List ℕ) where
+  abbrev W : ℕ
+  W = widthWord ws
+
+  abbrev d : ℕ
+  d = depthWord ws
+
+  pub repeats-at : repeatsIn ws ≡ drop (6 + W * 256) ws
+  repeats-at = past (lettersIn ws) ws 5 (W * 256) refl ∙ ap (λ (n : ℕ). drop n ws) (let e : 5 + W * 256 + 1 ≡ 6 + W * 256 = omega arith in e)
+
+  pub scatter-at : scatterIn ws ≡ drop (scatterAt W) ws
+  scatter-at =
+      past (repeatsIn ws) ws (6 + W * 256) (W * 256) repeats-at
+      ∙ ap (λ (n : ℕ). drop n ws) (let e : 6 + W * 256 + W * 256 + 1 ≡ scatterAt W = omega arith in e)
+
+  pub gather-at : gatherIn ws ≡ drop (gatherAt W d) ws
+  gather-at =
+      past (scatterIn ws) ws (scatterAt W) (3 * W * d) scatter-at
+      ∙ ap (λ (n : ℕ). drop n ws) (let e : scatterAt W + 3 * W * d + 1 ≡ gatherAt W d = omega arith in e)
+
+  pub propagate-at : propagateIn ws ≡ drop (propagateAt W d) ws
+  propagate-at =
+      past (gatherIn ws) ws (gatherAt W d) (3 * W * d) gather-at
+      ∙ ap (λ (n : ℕ). drop n ws) (let e : gatherAt W d + 3 * W * d + 1 ≡ propagateAt W d = omega arith in e)

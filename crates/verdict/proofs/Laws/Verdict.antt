@@ -1,0 +1,298 @@
+-- THE CHECK DECIDES: what it tests are the model's conditions for an image, so it answers yes exactly for images, with the tree's tape.
+use mathlib.Core.Path.{_≡_, refl, sym, ap, ap₂, _∙_, subst}
+use mathlib.Core.Logic.{_↔_}
+use mathlib.Core.Bool.{Bool, true, false, _&&_, cond}
+use mathlib.Core.List.{List, [], _∷_}
+use Prim.Native.Nat.{ℕ, zero, suc, _+_, _-_, _*_, _≤_, _<_}
+use native.Mathlib.Nat.{mul-assoc, mul-comm}
+use native.Mathlib.Omega.{arith}
+use lib.Dec.{T, eqb, eqb→eq, eqb-refl, leb, leb→le, le→leb}
+use lib.ListN.{drop, getD, length}
+use lib.Seq.{getD-drop}
+use Rattle.model.specs.Answers.{ImageOf, NoImage}
+use Rattle.model.specs.Bits.{bit}
+use Rattle.model.specs.Edges.{depth, states}
+use Rattle.model.specs.Image.{width}
+use Rattle.model.specs.Models.Apart.{anyBelow, bitOf, depthWord, gatherIn, lettersIn, propagateIn, repeatsIn, scatterIn, stateWord, tape, tokenAt, widthWord}
+use Rattle.model.specs.Models.LayOut.{begin, letter-place, loop-place, reach, valid}
+use Rattle.model.specs.Models.Tokens.{parse, Token, tokens}
+use Rattle.model.specs.Models.Verdict.{accepts, sameWords}
+use Rattle.model.specs.Models.Words.{Fit, value}
+use Rattle.model.specs.Tree as tree
+use Rattle.model.proofs.Image.Compare.{Compared, compared-is, length-between}
+use Rattle.model.proofs.Image.Decided.{tape-of, verdict-some}
+use Rattle.model.proofs.Image.Rows.{room, wide}
+use Rattle.model.proofs.Image.Verdict.{image-complete, image-sound, is-image, IsImage}
+use Rattle.model.proofs.Image.WellFormed.{well-fine}
+use Rattle.model.proofs.Laws.Bool.{and-both, and-split, is-true, le-true}
+use Rattle.model.proofs.Reading.WellFormed.{rule-well}
+use Rattle.tape.specs.Tapes.{bares, isTree, shapeOf, tableOf, TapeOf, tokensOf}
+use Rattle.tape.specs.declared.Shape.{Shape}
+use Rattle.tape.specs.declared.Shape.the-variants.{Other, Tree}
+use Rattle.tape.specs.declared.Tape.{Tape}
+use Rattle.tape.proofs.Bare.{bares-length, bares-reach, bares-valid}
+use Rattle.verdict.specs.Work.{countsFit, headerFits, sameAll, sameGather, samePropagate, sameRepeats, sameScatter, shapeFits, gatherAt, propagateAt, scatterAt}
+use Rattle.verdict.proofs.Laws.Address.{gather-at, repeats-at, scatter-at}
+use Rattle.verdict.proofs.Laws.Agree.{gather-is, letters-is, propagate-is, repeats-is, scatter-is}
+
+same-number : {x y : ℕ} → x ≡ y → eqb x y ≡ true
+same-number {x} e = subst (λ (z : ℕ). eqb x z ≡ true) e (is-true (eqb x x) (eqb-refl x))
+
+-- ---- the header
+pub record Headed (ws : List ℕ) : Type 0 where
+  pub shape-count : getD ws 0 0 ≡ 3
+  pub some : 2 ≤ stateWord ws
+  pub few : stateWord ws ≤ 512
+  pub width-word : widthWord ws ≡ width (stateWord ws)
+  pub shallow : depthWord ws ≤ 8
+  pub long : length ws ≡ 9 + widthWord ws * (515 + 9 * depthWord ws)
+  pub letters-count : getD ws 4 0 ≡ 256 * widthWord ws
+  pub repeats-count : getD ws (5 + 256 * widthWord ws) 0 ≡ 256 * widthWord ws
+  pub scatter-count : getD ws (6 + 512 * widthWord ws) 0 ≡ 3 * widthWord ws * depthWord ws
+  pub gather-count : getD ws (7 + 512 * widthWord ws + 3 * widthWord ws * depthWord ws) 0 ≡ 3 * widthWord ws * depthWord ws
+  pub propagate-count : getD ws (8 + 512 * widthWord ws + 6 * widthWord ws * depthWord ws) 0 ≡ 3 * widthWord ws * suc (depthWord ws)
+
+pub header-is : (ws : List ℕ) → T (headerFits ws) ↔ Headed ws
+header-is ws = (there, back)
+  where
+    there : T (headerFits ws) → Headed ws
+    there h =
+        let p = and-split (shapeFits ws) _ h in
+        let s = and-split (leb 4 (length ws)) _ (p .0) in
+        let s1 = and-split (eqb (getD ws 0 0) 3) _ (s .1) in
+        let s2 = and-split (leb 2 (stateWord ws)) _ (s1 .1) in
+        let s3 = and-split (leb (stateWord ws) 512) _ (s2 .1) in
+        let s4 = and-split (eqb (widthWord ws) (width (stateWord ws))) _ (s3 .1) in
+        let q = and-split (eqb (length ws) (9 + widthWord ws * (515 + 9 * depthWord ws))) _ (p .1) in
+        let c = and-split (eqb (getD ws 4 0) (256 * widthWord ws)) _ (q .1) in
+        let c1 = and-split (eqb (getD ws (5 + 256 * widthWord ws) 0) (256 * widthWord ws)) _ (c .1) in
+        let c2 = and-split (eqb (getD ws (6 + 512 * widthWord ws) 0) (3 * widthWord ws * depthWord ws)) _ (c1 .1) in
+        let c3 = and-split (eqb (getD ws (7 + 512 * widthWord ws + 3 * widthWord ws * depthWord ws) 0) (3 * widthWord ws * depthWord ws)) _ (c2 .1) in
+        record {
+          shape-count = eqb→eq (getD ws 0 0) 3 (s1 .0);
+          some = leb→le 2 (stateWord ws) (s2 .0);
+          few = leb→le (stateWord ws) 512 (s3 .0);
+          width-word = eqb→eq (widthWord ws) (width (stateWord ws)) (s4 .0);
+          shallow = leb→le (depthWord ws) 8 (s4 .1);
+          long = eqb→eq (length ws) (9 + widthWord ws * (515 + 9 * depthWord ws)) (q .0);
+          letters-count = eqb→eq (getD ws 4 0) (256 * widthWord ws) (c .0);
+          repeats-count = eqb→eq (getD ws (5 + 256 * widthWord ws) 0) (256 * widthWord ws) (c1 .0);
+          scatter-count = eqb→eq (getD ws (6 + 512 * widthWord ws) 0) (3 * widthWord ws * depthWord ws) (c2 .0);
+          gather-count = eqb→eq (getD ws (7 + 512 * widthWord ws + 3 * widthWord ws * depthWord ws) 0) (3 * widthWord ws * depthWord ws) (c3 .0);
+          propagate-count = eqb→eq (getD ws (8 + 512 * widthWord ws + 6 * widthWord ws * depthWord ws) 0) (3 * widthWord ws * suc (depthWord ws)) (c3 .1);
+        }
+
+    back : Headed ws → T (headerFits ws)
+    back H = subst T (sym all) tt
+      where
+        all : headerFits ws ≡ true
+        all = rw (
+          le-true 4 (length ws) (omega (arith, H .long)),
+          same-number (H .shape-count),
+          le-true 2 (stateWord ws) (H .some),
+          le-true (stateWord ws) 512 (H .few),
+          same-number (H .width-word),
+          le-true (depthWord ws) 8 (H .shallow),
+          same-number (H .long),
+          same-number (H .letters-count),
+          same-number (H .repeats-count),
+          same-number (H .scatter-count),
+          same-number (H .gather-count),
+          same-number (H .propagate-count),
+        )
+
+-- the count that follows n words of a section
+count-at : (S ws : List ℕ) (a n k : ℕ) → S ≡ drop a ws → a + n ≡ k → getD (drop n S) 0 0 ≡ getD ws k 0
+count-at S ws a n k e p =
+    ap (λ (z : List ℕ). getD (drop n z) 0 0) e
+    ∙ getD-drop n (drop a ws) 0 0
+    ∙ getD-drop a ws (n + 0) 0
+    ∙ ap (λ (j : ℕ). getD ws j 0) (let q : a + (n + 0) ≡ k = omega (arith, p) in q)
+
+-- ---- what well_formed says
+pub shape-tree : (t : Tape) (k : ℕ) → shapeOf t ≡ Tree k → T (isTree t) × (reach (tokensOf t) begin ≡ k)
+shape-tree t k e = go (isTree t) e
+  where
+    go : (b : Bool) → cond b (Tree (reach (tokensOf t) begin)) Other ≡ Tree k → T b × (reach (tokensOf t) begin ≡ k)
+    go true e = (tt, cc)
+    go false e = let z : _≡_ {A = ℕ} 0 1 = cc in absurd (omega arith)
+
+pub tree-shape : (t : Tape) → T (isTree t) → shapeOf t ≡ Tree (reach (tokensOf t) begin)
+tree-shape t h = ap (λ (b : Bool). cond b (Tree (reach (tokensOf t) begin)) Other) (is-true (isTree t) h)
+
+-- ---- words with a header, and a tape taken from them
+module _ (ws : List ℕ) (fit : Fit ws) (H : Headed ws) (t : Tape) (size : t .length ≡ stateWord ws - 1) (taken : tokensOf t ≡ bares (tape ws))
+    (letters : List ℕ) (eight : length letters ≡ 8) (fit-letters : Fit letters)
+    (bits : (x : ℕ) → bit (value letters) x ≡ anyBelow 256 (λ b. bitOf (widthWord ws) (lettersIn ws) b x)) where
+  abbrev l : List Token
+  l = tape ws
+
+  abbrev W : ℕ
+  W = widthWord ws
+
+  abbrev d : ℕ
+  d = depthWord ws
+
+  narrow : W ≤ 8
+  narrow = omega (arith, H .width-word, H .few)
+
+  between : T (valid l begin) → stateWord ws ≡ suc (length l)
+  between v = sym (length-between (stateWord ws) (tokenAt ws) v)
+
+  fits : stateWord ws ≤ wide W
+  fits = subst (λ (n : ℕ). stateWord ws ≤ wide n) (sym (H .width-word)) (room (stateWord ws))
+
+  -- the tape is a tree's exactly if the tokens taken are
+  tree-of-tape : T (isTree t) ↔ T (valid l begin)
+  tree-of-tape = (
+    λ h. subst T valid-same (and-split (leb (t .length) 511) (valid (tokensOf t) begin) h .1),
+    λ v. and-both (leb (t .length) 511) (valid (tokensOf t) begin) (le→leb (t .length) 511 (omega (arith, size, H .few))) (subst T (sym valid-same) v),
+  )
+    where
+      valid-same : valid (tokensOf t) begin ≡ valid l begin
+      valid-same = ap (λ (y : List Token). valid y begin) taken ∙ bares-valid l begin
+
+  reach-same : reach (tokensOf t) begin ≡ reach l begin
+  reach-same = ap (λ (y : List Token). reach y begin) taken ∙ bares-reach l begin
+
+  -- the five comparisons
+  abbrev letters-same : Bool
+  letters-same = sameWords letters (getD (tableOf t letter-place) 0 [])
+
+  abbrev repeats-same : Bool
+  repeats-same = sameRepeats ws W (getD (tableOf t loop-place) 0 [])
+
+  abbrev scatter-same : Bool
+  scatter-same = sameScatter ws (scatterAt W) W d t
+
+  abbrev gather-same : Bool
+  gather-same = sameGather ws (gatherAt W d) W d t
+
+  abbrev propagate-same : Bool
+  propagate-same = samePropagate ws (propagateAt W d) W d t
+
+  -- YES: then the words are the image of a tree, whose tape it is
+  pub yes : T (isTree t) → reach (tokensOf t) begin ≡ d → T (sameAll ws W d letters t) → (s : tree.Tree) × ImageOf ws s × TapeOf s t
+  yes grown deep all =
+      (s, verdict-some ws s .0 (is-image ws s .1 I), record { long = size ∙ count ∙ ap length (sym its-tokens); tokens-are = taken ∙ ap bares (sym its-tokens) })
+    where
+      v : T (valid l begin)
+      v = tree-of-tape .0 grown
+
+      b : stateWord ws ≡ suc (length l)
+      b = between v
+
+      rest₁ : T (repeats-same && (scatter-same && (gather-same && propagate-same)))
+      rest₁ = and-split letters-same (repeats-same && (scatter-same && (gather-same && propagate-same))) all .1
+
+      rest₂ : T (scatter-same && (gather-same && propagate-same))
+      rest₂ = and-split repeats-same (scatter-same && (gather-same && propagate-same)) rest₁ .1
+
+      rest₃ : T (gather-same && propagate-same)
+      rest₃ = and-split scatter-same (gather-same && propagate-same) rest₂ .1
+
+      compared : Compared ws l
+      compared = record {
+        long = H .long;
+        shape-count = H .shape-count;
+        states = b;
+        width-word = H .width-word;
+        level = sym deep ∙ reach-same;
+        letters-count = H .letters-count ∙ mul-comm 256 W;
+        repeats-count = count-at (lettersIn ws) ws 5 (W * 256) (5 + 256 * W) refl (omega arith) ∙ H .repeats-count ∙ mul-comm 256 W;
+        scatter-count = count-at (repeatsIn ws) ws (6 + W * 256) (W * 256) (6 + 512 * W) (repeats-at ws) (omega arith) ∙ H .scatter-count;
+        gather-count = count-at (scatterIn ws) ws (scatterAt W) (3 * W * d) (7 + 512 * W + 3 * W * d) (scatter-at ws) (omega arith) ∙ H .gather-count;
+        propagate-count =
+            count-at (gatherIn ws) ws (gatherAt W d) (3 * W * d) (8 + 512 * W + 6 * W * d) (gather-at ws) (omega (arith, mul-assoc 3 W d, mul-assoc 6 W d)) ∙ H .propagate-count;
+        letters = letters-is ws t taken grown b narrow (H .few) fits letters eight fit-letters bits .0
+          (and-split letters-same (repeats-same && (scatter-same && (gather-same && propagate-same))) all .0);
+        repeats = repeats-is ws t taken grown b narrow (omega (arith, H .long)) .0 (and-split repeats-same (scatter-same && (gather-same && propagate-same)) rest₁ .0);
+        scatter = scatter-is ws t taken grown b narrow (H .shallow) .0 (and-split scatter-same (gather-same && propagate-same) rest₂ .0);
+        gather = gather-is ws t taken grown b narrow (H .shallow) .0 (and-split gather-same propagate-same rest₃ .0);
+        propagate = propagate-is ws t taken grown b narrow (H .shallow) .0 (and-split gather-same propagate-same rest₃ .1);
+      }
+
+      accepted : T (accepts ws)
+      accepted = compared-is ws fit .1 (H .few, v, compared)
+
+      s : tree.Tree
+      s = parse l .here
+
+      I : IsImage ws s
+      I = image-sound ws accepted
+
+      its-tokens : tokens s [] ≡ l
+      its-tokens = sym (ap tape (I .words) ∙ tape-of s (well-fine s (I .well)))
+
+      count : stateWord ws - 1 ≡ length l
+      count = omega (arith, b)
+
+-- NO: of the image of a tree each test is passed
+module _ (ws : List ℕ) (fit : Fit ws) (s : tree.Tree) (I : ImageOf ws s) where
+  whole : (stateWord ws ≤ 512) × T (valid (tape ws) begin) × Compared ws (tape ws)
+  whole = compared-is ws fit .0 (image-complete ws s (record { well = rule-well (I .is-rule); few = I .few; shallow = I .shallow; words = I .laid }))
+
+  C : Compared ws (tape ws)
+  C = whole .2
+
+  some-token : (y : List Token) → T (valid y begin) → 1 ≤ length y
+  some-token [] v = absurd v
+  some-token (x ∷ xs) v = omega arith
+
+  pub image-headed : Headed ws
+  image-headed = record {
+    shape-count = C .shape-count;
+    some = omega (arith, C .states, some-token (tape ws) (whole .1));
+    few = whole .0;
+    width-word = C .width-word;
+    shallow = subst (λ (n : ℕ). n ≤ 8) (sym (ap depthWord (I .laid))) (I .shallow);
+    long = C .long;
+    letters-count = C .letters-count ∙ mul-comm (widthWord ws) 256;
+    repeats-count = sym (count-at (lettersIn ws) ws 5 (widthWord ws * 256) (5 + 256 * widthWord ws) refl (omega arith)) ∙ C .repeats-count ∙ mul-comm (widthWord ws) 256;
+    scatter-count = sym (count-at (repeatsIn ws) ws (6 + widthWord ws * 256) (widthWord ws * 256) (6 + 512 * widthWord ws) (repeats-at ws) (omega arith)) ∙ C .scatter-count;
+    gather-count =
+        sym (count-at (scatterIn ws) ws (scatterAt (widthWord ws)) (3 * widthWord ws * depthWord ws) (7 + 512 * widthWord ws + 3 * widthWord ws * depthWord ws) (scatter-at ws) (omega arith))
+        ∙ C .gather-count;
+    propagate-count =
+        sym (count-at (gatherIn ws) ws (gatherAt (widthWord ws) (depthWord ws)) (3 * widthWord ws * depthWord ws) (8 + 512 * widthWord ws + 6 * widthWord ws * depthWord ws)
+        (gather-at ws) (omega (arith, mul-assoc 3 (widthWord ws) (depthWord ws), mul-assoc 6 (widthWord ws) (depthWord ws))))
+        ∙ C .propagate-count;
+  }
+
+  module _ (t : Tape) (size : t .length ≡ stateWord ws - 1) (taken : tokensOf t ≡ bares (tape ws))
+      (letters : List ℕ) (eight : length letters ≡ 8) (fit-letters : Fit letters)
+      (bits : (x : ℕ) → bit (value letters) x ≡ anyBelow 256 (λ b. bitOf (widthWord ws) (lettersIn ws) b x)) where
+    H : Headed ws
+    H = image-headed
+
+    pub image-tree : T (isTree t)
+    image-tree = tree-of-tape ws fit H t size taken letters eight fit-letters bits .1 (whole .1)
+
+    pub image-deep : reach (tokensOf t) begin ≡ depthWord ws
+    image-deep = reach-same ws fit H t size taken letters eight fit-letters bits ∙ sym (C .level)
+
+    pub image-same : T (sameAll ws (widthWord ws) (depthWord ws) letters t)
+    image-same =
+        and-both (sameWords letters (getD (tableOf t letter-place) 0 [])) (R && (S && (G && P))) (letters-is ws t taken image-tree (C .states) n (H .few) f letters eight fit-letters bits .1 (C .letters))
+        (and-both R (S && (G && P)) (repeats-is ws t taken image-tree (C .states) n (omega (arith, H .long)) .1 (C .repeats))
+        (and-both S (G && P) (scatter-is ws t taken image-tree (C .states) n (H .shallow) .1 (C .scatter))
+        (and-both G P (gather-is ws t taken image-tree (C .states) n (H .shallow) .1 (C .gather))
+        (propagate-is ws t taken image-tree (C .states) n (H .shallow) .1 (C .propagate)))))
+      where
+        R : Bool
+        R = sameRepeats ws (widthWord ws) (getD (tableOf t loop-place) 0 [])
+
+        S : Bool
+        S = sameScatter ws (scatterAt (widthWord ws)) (widthWord ws) (depthWord ws) t
+
+        G : Bool
+        G = sameGather ws (gatherAt (widthWord ws) (depthWord ws)) (widthWord ws) (depthWord ws) t
+
+        P : Bool
+        P = samePropagate ws (propagateAt (widthWord ws) (depthWord ws)) (widthWord ws) (depthWord ws) t
+
+        n : widthWord ws ≤ 8
+        n = narrow ws fit H t size taken letters eight fit-letters bits
+
+        f : stateWord ws ≤ wide (widthWord ws)
+        f = fits ws fit H t size taken letters eight fit-letters bits

@@ -33,11 +33,12 @@ module _ {rule before : List ℕ} where
   count-small (built t l d m k n e) = omega (arith, ap (λ (a : Answer). a .count) e, image-small t m k)
 
   -- WHAT A CALLER TAKES FROM THE NUMBER GIVEN is the table's number and count; and there is one number to be given
-  pub build-apart : {r : ℕ} {after : List ℕ} (G : Gives (BuildSays rule before) r after) → (r / 2 ^ 32 ≡ G .answer .number) × (r % 2 ^ 32 ≡ G .answer .count)
-  build-apart G = let l : G .answer .count < 2 ^ 32 = omega (arith, count-small (G .says)) in (number-is G l, count-is G l)
+  module _ {r : ℕ} {after : List ℕ} (G : Gives (BuildSays rule before) r after) where
+    pub build-apart : (r / 2 ^ 32 ≡ G .answer .number) × (r % 2 ^ 32 ≡ G .answer .count)
+    build-apart = let l : G .answer .count < 2 ^ 32 = omega (arith, count-small (G .says)) in (number-is G l, count-is G l)
 
-  pub build-given : {r q : ℕ} {after later : List ℕ} → Gives (BuildSays rule before) r after → Gives (BuildSays rule before) q later → (r ≡ q) × (after ≡ later)
-  build-given = one-given (build-one rule before)
+    pub build-given : {q : ℕ} {later : List ℕ} → Gives (BuildSays rule before) q later → (r ≡ q) × (after ≡ later)
+    build-given H = one-given G (build-one rule before) H
 
 -- build's answer as an enum: number and count do not depend on what was lent
 pub with-lent : (b : Built) (after : List ℕ)

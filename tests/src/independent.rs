@@ -415,6 +415,25 @@ fn chains(edges: &[(usize, usize)]) -> [Vec<usize>; 3] {
     out
 }
 
+/// Build with so many words lent: document 01's number, and the image (none after a refusal).
+pub fn build(rule: &[u8], room: usize) -> (u64, Vec<u64>) {
+    if rule.len() > 1024 {
+        return (1, Vec::new());
+    }
+    let Some(tree) = parse(rule) else { return (2, Vec::new()) };
+    if states(&tree) > 512 {
+        return (3, Vec::new());
+    }
+    if depth(&tree) > 8 {
+        return (4, Vec::new());
+    }
+    let words = image(&tree);
+    if words.len() > room {
+        return (5, Vec::new());
+    }
+    (0, words)
+}
+
 // ---- the tree whose image words are
 
 /// The tree, found from the masks' bits and then laid out again and compared.

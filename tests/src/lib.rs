@@ -1,5 +1,8 @@
-//! Reading the outside vectors (their format is in vectors/README.md), and document 01 once more, independently.
+//! Reading the outside vectors (their format is in vectors/README.md); document 01 once more, independently; calls of the library for C, and rules
+//! for it.
 
+pub mod driver;
+pub mod generate;
 pub mod independent;
 
 use std::fs;
@@ -50,6 +53,11 @@ pub fn runs(field: &str) -> Runs {
         out.push((length - at, 0));
     }
     out
+}
+
+/// The words themselves.
+pub fn expand(runs: &Runs) -> Vec<u64> {
+    runs.iter().flat_map(|(n, value)| std::iter::repeat_n(*value, *n)).collect()
 }
 
 /// The word at a place.

@@ -1,6 +1,6 @@
 -- What the proofs of the functions cite, and callers: everything over any number of words.
 -- Filled is the loop over the words; Each and Ripple the words of the models, made one by one; Carries one word as the machine makes it; Bits where a
--- bit of a row stands; Put and Same what is known of a bit or a run put in and of the test of two rows.
+-- bit of a row stands; Put and Same what is known of a run put in and of the test of two rows.
 pub mod Filled
 pub mod Each
 pub mod Ripple

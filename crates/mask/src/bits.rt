@@ -5,8 +5,8 @@ ghost use mathlib.Core.Path.{_≡_};
 ghost use Prim.Native.Nat.{_-_};
 ghost use Rattle.model.specs.Bits.{bit};
 ghost use Rattle.model.specs.Models.Verdict.{sameWords};
-ghost use Rattle.model.specs.Models.Words.{value};
-ghost use Rattle.mask.specs.Rows.{putBit, putRun};
+ghost use Rattle.model.specs.Models.Words.{putBit, value};
+ghost use Rattle.mask.specs.Rows.{putRun};
 
 // The row with bit i set.
 pub fn row_with_bit(row: [u64; 8], i: usize) -> [u64; 8]

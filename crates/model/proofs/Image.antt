@@ -24,6 +24,7 @@ pub mod OfEdges
 pub mod Valid
 pub mod WellFormed
 -- Taking a tree's image apart gives the tree's tokens.
+pub mod Address
 pub mod Sections
 pub mod Depths
 pub mod Tape

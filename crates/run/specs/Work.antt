@@ -8,7 +8,7 @@ use lib.ListN.{drop, getD, length, replicate, take}
 use lib.Seq.{sets}
 use Rattle.model.specs.Bits.{bit}
 use Rattle.model.specs.Image.{width}
-use Rattle.model.specs.Models.Apart.{depthWord, stateWord}
+use Rattle.model.specs.Models.Apart.{depthWord, gatherAt, propagateAt, scatterAt, stateWord}
 use Rattle.model.specs.Models.Run.{Masks, passWords, stepWords}
 use Rattle.model.specs.Models.Words.{value}
 
@@ -59,16 +59,6 @@ riseMasks gb gs gt pb ps pt = passMasks (λ k j. []) (threeOf gb gs gt) (threeOf
 
 abbrev pub fallMasks : (scatterBlock scatterSource scatterTarget propagateBlock propagateSource propagateTarget : List (List ℕ)) → Masks
 fallMasks sb ss st pb ps pt = passMasks (threeOf sb ss st) (λ k j. []) (threeOf pb ps pt)
-
--- where the three sections of tables begin
-abbrev pub scatterAt : ℕ → ℕ
-scatterAt W = 7 + 512 * W
-
-abbrev pub gatherAt : ℕ → ℕ → ℕ
-gatherAt W d = 8 + 512 * W + 3 * (W * d)
-
-abbrev pub propagateAt : ℕ → ℕ → ℕ
-propagateAt W d = 9 + 512 * W + 6 * (W * d)
 
 -- whether words have the length that their shape asks: "The length is 9 + W(515 + 9d) words", for 2 to 512 states and a depth of at most 8
 abbrev pub shapeLength : ℕ → ℕ → ℕ

@@ -12,13 +12,14 @@ use lib.Seq.{drop-cons, getD-take, length-take-le}
 use Rattle.model.specs.Models.LayOut.{begin, check, step, valid}
 use Rattle.model.specs.Models.LayOut as model
 use Rattle.model.specs.Models.Tokens as tokens
+use Rattle.model.proofs.Image.LetterPlaces.{position-step}
 use Rattle.tape.specs.Scans.{isEnded, Ready, Sane, scanOf}
 use Rattle.tape.specs.Tapes.{isTree, readKinds, tokensOf}
 use Rattle.tape.specs.Tokens.{readKind, tokenOf}
 use Rattle.tape.specs.declared.scan.Scan.{Scan}
 use Rattle.tape.specs.declared.Tape.{Tape}
 use Rattle.tape.specs.declared.token.Token.{Token}
-use Rattle.tape.proofs.Sane.{sane-begin, sane-step, step-position}
+use Rattle.tape.proofs.Sane.{sane-begin, sane-step}
 use Rattle.tape.proofs.Scans.{length-stack}
 
 abbrev pub tapeOf : List ℕ → ℕ → Tape
@@ -90,6 +91,6 @@ module _ (t : Tape) (q : Scan) (i : ℕ) (A : Along t q i) where
       short = A .short;
       inside = omega arith;
       sane = subst Sane (sym s) (sane-step (tokenOf y) (scanOf q) (A .sane) (subst T (sym c) tt));
-      at = ap (λ (z : model.Scan). z .position) s ∙ step-position (tokenOf y) (scanOf q) ∙ ap suc (A .at) ∙ sym (add-one i);
+      at = ap (λ (z : model.Scan). z .position) s ∙ position-step (tokenOf y) (scanOf q) ∙ ap suc (A .at) ∙ sym (add-one i);
       ahead = ahead-cons ∙ ap (λ (b : Bool). b && valid (from t (i + 1)) (step (tokenOf y) (scanOf q))) c ∙ ap (valid (from t (i + 1))) (sym s);
     }

@@ -18,7 +18,6 @@ pub mod Painting
 pub mod Filling
 pub mod Joins
 -- The bits of a table after a stroke, and those that lay out marks.
-pub mod RowBits
 pub mod TableBits
 pub mod Marks
 -- The tokens of a tape and those of a tree; how deep lay out marks.

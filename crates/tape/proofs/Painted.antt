@@ -10,6 +10,7 @@ use lib.ListN.{getD, length, length-take, take}
 use Rattle.model.specs.Models.LayOut.{begin, blockOf, check, entering, layOut, leaving, mark, Scan, set, sourceOf, step, targetOf, valid, Which}
 use Rattle.model.specs.Models.Tokens.{Token}
 use Rattle.model.specs.Models.Words.{andWords, eachWord, notWords}
+use Rattle.model.proofs.Image.LetterPlaces.{position-step}
 use Rattle.model.proofs.Image.Rows.{wide}
 use Rattle.model.proofs.Image.SameBits.{holds-one}
 use Rattle.model.proofs.Image.Tokens.{length-tokens}
@@ -22,13 +23,14 @@ use Rattle.tape.specs.Joins.{joinTables, joinWord}
 use Rattle.tape.specs.Scans.{Sane}
 use Rattle.tape.specs.Strokes.{strokeOf}
 use Rattle.tape.specs.Tables.{blank, paintAll, paintStroke, Table}
-use Rattle.tape.specs.Tapes.{isTree, propagateBlockTable, propagateSourceTable, propagateTargetTable, readKinds, tableOf, tokensOf}
+use Rattle.tape.specs.Tapes.{isTree, propagateBlockTable, propagateSourceTable, propagateTargetTable, tableOf, tokensOf}
 use Rattle.tape.specs.declared.join.Join.the-variants.{Either, Only}
 use Rattle.tape.specs.declared.Tape.{Tape}
 use Rattle.tape.proofs.Joins.{joined-at}
 use Rattle.tape.proofs.Marks.{stroke-marks}
-use Rattle.tape.proofs.Sane.{sane-begin, sane-step, step-position}
+use Rattle.tape.proofs.Sane.{sane-begin, sane-step}
 use Rattle.tape.proofs.TableBits.{Adds, bitAt, blank-bit, blank-rows, Rows, stroke-adds}
+use Rattle.tape.proofs.Tokens.{read-length}
 use Rattle.tape.proofs.Within.{stroke-within}
 
 -- ---- all tokens
@@ -38,7 +40,7 @@ paint-all [] q w a R S h v = record { rows = R; bits = λ k x. sym (or-false (bi
 paint-all (y ∷ ys) q w a R S h v =
     let c = and-split (check y q) (valid ys (step y q)) v in
     let A = stroke-adds a (strokeOf y q w) R (stroke-within y q w S (omega arith)) in
-    let B = paint-all ys (step y q) w (paintStroke a (strokeOf y q w)) (A .rows) (sane-step y q S (c .0)) (omega (arith, step-position y q)) (c .1) in
+    let B = paint-all ys (step y q) w (paintStroke a (strokeOf y q w)) (A .rows) (sane-step y q S (c .0)) (omega (arith, position-step y q)) (c .1) in
     record {
       rows = B .rows;
       bits = λ k x. B .bits k x
@@ -89,10 +91,6 @@ module _ (t : Tape) (i : T (isTree t)) where
 
   valid-tokens : T (valid l begin)
   valid-tokens = and-split (leb (t .length) 511) (valid l begin) i .1
-
-  read-length : (ks : List ℕ) → length (readKinds ks) ≡ length ks
-  read-length [] = refl
-  read-length (k ∷ ks) = ap suc (read-length ks)
 
   pub few-tokens : length l ≤ 511
   few-tokens =

@@ -1,5 +1,4 @@
 -- Every scan of a valid row of tokens is sane: a token that fits leaves the places of the open unions behind, and no more than eight open.
-use mathlib.Core.Path.{_≡_, refl}
 use mathlib.Core.Bool.{Bool, true, false, cond}
 use mathlib.Core.List.{List, [], _∷_}
 use Prim.Native.Nat.{ℕ, suc, _≤_}
@@ -46,18 +45,3 @@ sane-step aClose q S t = go (q .stack) (S .behind) (S .shallow)
     go : (st : List Frame) → Behind (q .position) st → length st ≤ 8 → Sane (afterClose (q .position) (q .canBeEmpty) st)
     go [] B l = record { behind = tt; shallow = omega arith }
     go (f ∷ st) B l = record { behind = behind-more (q .position) st (B .3); shallow = omega arith }
-
--- each token leads to the next state
-pub step-position : (y : Token) (q : Scan) → step y q .position ≡ suc (q .position)
-step-position (aLetter c r) q = refl
-step-position anOpen q = refl
-step-position aBar q = go (q .stack)
-  where
-    go : (st : List Frame) → afterBar (q .position) (q .canBeEmpty) st .position ≡ suc (q .position)
-    go [] = refl
-    go (f ∷ st) = refl
-step-position aClose q = go (q .stack)
-  where
-    go : (st : List Frame) → afterClose (q .position) (q .canBeEmpty) st .position ≡ suc (q .position)
-    go [] = refl
-    go (f ∷ st) = refl

@@ -11,12 +11,12 @@ use lib.Dec.{T, eqb, eqb-refl, eqb→eq, le→leb, leb, leb→le, lt→ltb, ltb,
 use lib.ListN.{getD, getD-replicate, length, length-set, replicate}
 use lib.Seq.{getD-set-other, getD-set-same}
 use Rattle.model.specs.Bits.{bit}
-use Rattle.model.specs.Models.Words.{Fit, value}
+use Rattle.model.specs.Models.Words.{Fit, putBit, value}
 use Rattle.model.proofs.Laws.Bits.{bit-zero}
 use Rattle.model.proofs.Laws.Bool.{and-both, and-split, is-not, or-left, or-right, or-split, same-truth}
-use Rattle.tape.specs.Tables.{blank, markRun, markState, paintStroke, setBit, Table}
+use Rattle.model.proofs.Words.Put.{put-bit, put-fit}
+use Rattle.tape.specs.Tables.{blank, markRun, markState, paintStroke, Table}
 use Rattle.tape.specs.declared.stroke.Stroke.{Stroke}
-use Rattle.tape.proofs.RowBits.{set-bit-at, set-bit-fit}
 use Rattle.tape.proofs.Within.{Within}
 
 -- nine rows of eight words; bit x of row k
@@ -33,18 +33,18 @@ covers s k x = (leb (s .from) x && ltb x (s .to)) && eqb (s .row) k
 
 -- ---- one state
 module _ (a : Table) (R : Rows a) (k x : ℕ) (hk : k < 9) (hx : x < 512) where
-  same-row : getD (markState a k x) k [] ≡ setBit (getD a k []) x
-  same-row = getD-set-same a k (setBit (getD a k []) x) [] (omega (arith, R .nine))
+  same-row : getD (markState a k x) k [] ≡ putBit (getD a k []) x
+  same-row = getD-set-same a k (putBit (getD a k []) x) [] (omega (arith, R .nine))
 
   mark-rows : Rows (markState a k x)
-  mark-rows = record { nine = length-set a k (setBit (getD a k []) x) ∙ R .nine; row = λ j h. go j h (eqb j k) refl }
+  mark-rows = record { nine = length-set a k (putBit (getD a k []) x) ∙ R .nine; row = λ j h. go j h (eqb j k) refl }
     where
       go : (j : ℕ) → j < 9 → (b : Bool) → eqb j k ≡ b → (length (getD (markState a k x) j []) ≡ 8) × Fit (getD (markState a k x) j [])
       go j h true e =
           subst (λ (r : List ℕ). (length r ≡ 8) × Fit r) (sym (ap (λ (i : ℕ). getD (markState a k x) i []) (eqb-true j k e) ∙ same-row))
-          (length-set (getD a k []) _ _ ∙ R .row k hk .0, set-bit-fit (getD a k []) x (R .row k hk .1))
+          (length-set (getD a k []) _ _ ∙ R .row k hk .0, put-fit (getD a k []) x (R .row k hk .1))
       go j h false e =
-          subst (λ (r : List ℕ). (length r ≡ 8) × Fit r) (sym (getD-set-other a k j (setBit (getD a k []) x) [] (eqb-false j k e))) (R .row j h)
+          subst (λ (r : List ℕ). (length r ≡ 8) × Fit r) (sym (getD-set-other a k j (putBit (getD a k []) x) [] (eqb-false j k e))) (R .row j h)
 
   mark-bit : (j y : ℕ) → bitAt (markState a k x) j y ≡ (bitAt a j y || (eqb y x && eqb k j))
   mark-bit j y = go (eqb k j) refl
@@ -53,10 +53,10 @@ module _ (a : Table) (R : Rows a) (k x : ℕ) (hk : k < 9) (hx : x < 512) where
       go true e =
           subst (λ (i : ℕ). bitAt (markState a k x) i y ≡ (bitAt a i y || (eqb y x && true))) (eqb-true k j e)
           (ap (λ (r : List ℕ). bit (value r) y) same-row
-          ∙ set-bit-at (getD a k []) x y (omega (arith, R .row k hk .0)) (R .row k hk .1)
+          ∙ put-bit (getD a k []) x y (omega (arith, R .row k hk .0)) (R .row k hk .1)
           ∙ ap (λ (b : Bool). bitAt a k y || b) (sym (and-true (eqb y x))))
       go false e =
-          ap (λ (r : List ℕ). bit (value r) y) (getD-set-other a k j (setBit (getD a k []) x) [] (λ q. eqb-false k j e (sym q)))
+          ap (λ (r : List ℕ). bit (value r) y) (getD-set-other a k j (putBit (getD a k []) x) [] (λ q. eqb-false k j e (sym q)))
           ∙ sym (ap (λ (b : Bool). bitAt a j y || b) (and-false (eqb y x)) ∙ or-false (bitAt a j y))
 
 -- ---- the n states from x on

@@ -27,6 +27,7 @@ use Rattle.tape.specs.declared.token.Token as code
 use Rattle.tape.specs.declared.token.Token.the-variants.{Bar, Close, Letter, Open}
 use Rattle.tape.proofs.Bare.{bares-length, bares-valid}
 use Rattle.tape.proofs.OfTree.{shape-is}
+use Rattle.tape.proofs.Tokens.{read-length}
 
 -- ---- any class that holds a byte will do
 abbrev classed : Token → Token
@@ -62,10 +63,6 @@ bares-classed : (ks : List ℕ) → bares (allClassed (readKinds ks)) ≡ readKi
 bares-classed [] = refl
 bares-classed (k ∷ ks) = ap₂ (λ (z : Token) (m : List Token). z ∷ m) (bare-classed (readKind k)) (bares-classed ks)
 
-length-read : (ks : List ℕ) → length (readKinds ks) ≡ length ks
-length-read [] = refl
-length-read (k ∷ ks) = ap suc (length-read ks)
-
 module _ (t : Tape) (room : length (t .kinds) ≡ 512) (is : T (isTree t)) where
   abbrev l : List Token
   l = allClassed (tokensOf t)
@@ -86,7 +83,7 @@ module _ (t : Tape) (room : length (t .kinds) ≡ 512) (is : T (isTree t)) where
 
   long : t .length ≡ length l
   long =
-      omega (arith, sym (bares-length l) ∙ ap length bare-l ∙ length-read (take (t .length) (t .kinds)) ∙ length-take (t .length) (t .kinds), short, room)
+      omega (arith, sym (bares-length l) ∙ ap length bare-l ∙ read-length (take (t .length) (t .kinds)) ∙ length-take (t .length) (t .kinds), short, room)
 
   tree-there : (s : tree.Tree) × TreeOnTape s t
   tree-there =

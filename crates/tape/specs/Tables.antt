@@ -1,10 +1,10 @@
 -- TABLES: the masks of one kind, nine rows of eight words, and the tokens painted into them one after another.
 use mathlib.Core.List.{List, [], _∷_}
-use Prim.Native.Nat.{ℕ, zero, suc, _-_, _/_, _%_, _^_}
-use lib.Bits.{bitOr}
+use Prim.Native.Nat.{ℕ, zero, suc, _-_}
 use lib.ListN.{getD, replicate, set}
 use Rattle.model.specs.Models.LayOut.{Scan, step, Which}
 use Rattle.model.specs.Models.Tokens.{Token}
+use Rattle.model.specs.Models.Words.{putBit}
 use Rattle.tape.specs.Strokes.{strokeOf}
 use Rattle.tape.specs.declared.stroke.Stroke.{Stroke}
 
@@ -14,13 +14,9 @@ Table = List (List ℕ)
 abbrev pub blank : Table
 blank = replicate 9 (replicate 8 0)
 
--- bit x of a row of words
-abbrev pub setBit : List ℕ → ℕ → List ℕ
-setBit ws x = set ws (x / 64) (bitOr (getD ws (x / 64) 0) (2 ^ (x % 64)))
-
 -- state x in row k; the n states from x on
 abbrev pub markState : Table → ℕ → ℕ → Table
-markState a k x = set a k (setBit (getD a k []) x)
+markState a k x = set a k (putBit (getD a k []) x)
 
 abbrev pub markRun : ℕ → Table → ℕ → ℕ → Table
 markRun zero a k x = a

@@ -1,30 +1,8 @@
 //! The independent program against the outside vectors: every number, count, word, byte and place. Usage: vectors VECTORS
 
-use outside_checks::independent::{depth, ends, image, parse, read_back, states, writing};
-use outside_checks::{bytes, places, runs, vectors, Runs};
+use outside_checks::independent::{build, ends, read_back, writing};
+use outside_checks::{bytes, expand, places, runs, vectors};
 use std::path::Path;
-
-fn expand(runs: &Runs) -> Vec<u64> {
-    runs.iter().flat_map(|(n, value)| std::iter::repeat_n(*value, *n)).collect()
-}
-
-fn build(rule: &[u8], room: usize) -> (u64, Vec<u64>) {
-    if rule.len() > 1024 {
-        return (1, Vec::new());
-    }
-    let Some(tree) = parse(rule) else { return (2, Vec::new()) };
-    if states(&tree) > 512 {
-        return (3, Vec::new());
-    }
-    if depth(&tree) > 8 {
-        return (4, Vec::new());
-    }
-    let words = image(&tree);
-    if words.len() > room {
-        return (5, Vec::new());
-    }
-    (0, words)
-}
 
 fn main() {
     let folder = std::env::args().nth(1).expect("VECTORS");

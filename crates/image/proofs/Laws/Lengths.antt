@@ -16,7 +16,7 @@ use mir.Syntax.{w64}
 use mir.Val.{Val}
 use Rattle.model.specs.Models.LayOut.{begin, layOut, Which}
 use Rattle.model.proofs.Image.Rows.{length-set}
-use Rattle.mask.proofs.Laws.Each.{each-length}
+use Rattle.model.proofs.Words.Operations.{each-length}
 use Rattle.tape.specs.Tables.{blank, paintAll, Table}
 use Rattle.tape.specs.Tapes.{isTree, tableOf, tokensOf}
 use Rattle.tape.specs.declared.Tape.{Tape}

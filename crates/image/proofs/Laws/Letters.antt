@@ -10,12 +10,11 @@ use lib.Dec.{eqb, eqb-refl}
 use lib.ListN.{length}
 use Rattle.model.specs.Bits.{bit}
 use Rattle.model.specs.Models.LayOut.{set}
-use Rattle.model.specs.Models.Words.{Fit, value}
+use Rattle.model.specs.Models.Words.{Fit, putBit, value}
 use Rattle.model.proofs.Image.SameBits.{holds-one}
 use Rattle.model.proofs.Laws.Bool.{is-true, unequal}
 use Rattle.model.proofs.Words.Holds.{Holds, set-holds}
-use Rattle.mask.specs.Rows.{putBit}
-use Rattle.mask.proofs.Laws.Put.{put-bit, put-fit, put-length}
+use Rattle.model.proofs.Words.Put.{put-bit, put-fit, put-length}
 
 module _ (m : ℕ) (f : ℕ → Bool) (h : m < 512) where
   below : Holds m 8 (set m 8 f) f

@@ -2,7 +2,7 @@
 use mathlib.Core.Path.{_≡_, refl, sym, ap, _∙_}
 use mathlib.Core.List.{List, _++_, append-assoc, append-nil}
 use Prim.Native.Nat.{ℕ, zero, suc, _+_, _*_, _≤_, _<_}
-use native.Mathlib.Nat.{add-zero, le-of-lt, le-refl, mul-le-mul-left, mul-suc, mul-zero, zero-add}
+use native.Mathlib.Nat.{add-zero, le-of-lt, le-refl, mul-suc, mul-zero, zero-add}
 use native.Mathlib.Numerals.{add-one}
 use native.Mathlib.Omega.{arith}
 use lib.ListN.{length, set, length-append, length-set}
@@ -16,10 +16,6 @@ join-snoc (suc n) a f =
     ap (λ (ws : List ℕ). f a ++ ws) (join-snoc n (suc a) f)
     ∙ sym (append-assoc (f a) (join n (suc a) f) (f (suc a + n)))
     ∙ (let e : suc a + n ≡ a + suc n = omega arith in ap (λ (k : ℕ). join (suc n) a f ++ f k) e)
-
--- there is room for part k where there is for n
-pub part-fits : (w : ℕ) {k n : ℕ} → k < n → w * k + w ≤ w * n
-part-fits w {k} h = omega (arith, mul-suc w k, mul-le-mul-left w h)
 
 -- the first n of the parts have w words each
 abbrev pub AllLong : ℕ → ℕ → (ℕ → List ℕ) → Type 0

@@ -1,20 +1,15 @@
 -- WORDS WRITTEN ONE AFTER ANOTHER are written as one row: what is written where the words before it end is appended to them.
 use mathlib.Core.Path.{_≡_, sym, ap, _∙_}
 use mathlib.Core.List.{List, [], _∷_, _++_}
-use Prim.Native.Nat.{ℕ, suc, _+_, _*_, _<_}
-use native.Mathlib.Nat.{add-zero, le-of-lt}
+use Prim.Native.Nat.{ℕ, _+_, _*_, _<_}
+use native.Mathlib.Nat.{le-of-lt}
 use native.Mathlib.Numerals.{add-one}
 use native.Mathlib.Omega.{arith}
 use lib.ListN.{length, getD, set, take}
 use lib.Seq.{length-take-le, sets, take-suc}
+use Rattle.model.proofs.Laws.Stores.{sets-append}
 
-pub sets-append : {A : Type 0} (l : List A) (i : ℕ) (us vs : List A) → sets l i (us ++ vs) ≡ sets (sets l i us) (i + length us) vs
-sets-append l i [] vs = ap (λ (k : ℕ). sets l k vs) (sym (add-zero i))
-sets-append l i (u ∷ us) vs =
-    sets-append (set l i u) (suc i) us vs
-    ∙ (let e : suc i + length us ≡ i + suc (length us) = omega arith in ap (λ (k : ℕ). sets (sets (set l i u) (suc i) us) k vs) e)
-
--- the same where the place k at which the words us end is known by an equation
+-- one run and the next, where the place k at which the words us end is known by an equation
 pub sets-on : {A : Type 0} (l : List A) (i : ℕ) (us vs : List A) (k : ℕ) → k ≡ i + length us → sets (sets l i us) k vs ≡ sets l i (us ++ vs)
 sets-on l i us vs k e = ap (λ (p : ℕ). sets (sets l i us) p vs) e ∙ sym (sets-append l i us vs)
 

@@ -9,14 +9,15 @@ use lib.ListN.{getD, length, take}
 use Rattle.model.specs.Bits.{bit}
 use Rattle.model.specs.Edges.{depth, states}
 use Rattle.model.specs.Image.{gatherBlock, gatherSource, gatherTarget, image, join, letters, propagateBlock, propagateSource, propagateTarget, repeats, scatterBlock, scatterSource, scatterTarget, section, width}
-use Rattle.model.specs.Models.LayOut.{assemble, begin, gather-block, gather-source, gather-target, layOut, loop-place, scatter-block, scatter-source, scatter-target, set, three, tokenLetters, Which}
+use Rattle.model.specs.Models.LayOut.{assemble, begin, gather-block, gather-source, gather-target, layOut, loop-place, scatter-block, scatter-source, scatter-target, set, three, tokenLetters}
 use Rattle.model.specs.Models.Tokens.{tokens}
 use Rattle.model.specs.Models.Words.{andWords, Fit, value}
 use Rattle.model.specs.Tree.{Tree}
+use Rattle.model.proofs.Image.Laid.{assemble-same}
 use Rattle.model.proofs.Image.OfEdges.{edgeSet, letters-of}
-use Rattle.model.proofs.Image.Rows.{set-same}
+use Rattle.model.proofs.Image.Rows.{join-same}
 use Rattle.model.proofs.Image.SameBits.{holds-one}
-use Rattle.model.proofs.Image.Sections.{after-repeats, length-assembled}
+use Rattle.model.proofs.Image.Sections.{length-assembled}
 use Rattle.model.proofs.Image.Shown.{letters-are}
 use Rattle.model.proofs.Image.Tokens.{length-tokens}
 use Rattle.model.proofs.Image.WellFormed.{well-fine}
@@ -34,24 +35,12 @@ use Rattle.image.specs.Work.{imageWords, leads, letterRow, repeatRow, th
 use Rattle.image.proofs.Laws.Tapes.{states-are}
 use Rattle.image.proofs.Laws.TokenWords.{in-class}
 
-join-below : (n a : ℕ) (f g : ℕ → List ℕ) → ((k : ℕ) → k < a + n → f k ≡ g k) → join n a f ≡ join n a g
-join-below zero a f g h = refl
-join-below (suc n) a f g h = ap₂ _++_ (h a (omega arith)) (join-below n (suc a) f g (λ k l. h k (omega arith)))
-
 -- six sections that are equal one by one
 sections-same : {a a′ l l′ r r′ s s′ g g′ p p′ : List ℕ} → a ≡ a′ → l ≡ l′ → r ≡ r′ → s ≡ s′ → g ≡ g′ → p ≡ p′
     → section a ++ (section l ++ (section r ++ (section s ++ (section g ++ section p))))
     ≡ section a′ ++ (section l′ ++ (section r′ ++ (section s′ ++ (section g′ ++ section p′))))
 sections-same ea el er es eg ep =
     λ i. section (ea i) ++ (section (el i) ++ (section (er i) ++ (section (es i) ++ (section (eg i) ++ section (ep i)))))
-
--- letters and repeats that are the same for every byte
-bytes-same : (m W d : ℕ) (L R L′ R′ : ℕ → ℕ → Bool) (B : Which → ℕ → ℕ → Bool) → ((b x : ℕ) → b < 256 → x < m → L b x ≡ L′ b x)
-    → ((b x : ℕ) → b < 256 → x < m → R b x ≡ R′ b x) → assemble m W d L R B ≡ assemble m W d L′ R′ B
-bytes-same m W d L R L′ R′ B hl hr =
-    ap₂ (λ (l r : List ℕ). section (m ∷ W ∷ d ∷ []) ++ (section l ++ (section r ++ after-repeats m W d L R B)))
-    (join-below 256 0 (λ b. set m W (L b)) (λ b. set m W (L′ b)) (λ b h. set-same m W (L b) (L′ b) (λ x l. hl b x h l)))
-    (join-below 256 0 (λ b. set m W (R b)) (λ b. set m W (R′ b)) (λ b h. set-same m W (R b) (R′ b) (λ x l. hr b x h l)))
 
 module _ (row : List ℕ) (tape : Tape) (s : Tree) (O : TreeOnTape s tape) where
   abbrev m : ℕ
@@ -91,7 +80,7 @@ module _ (row : List ℕ) (tape : Tape) (s : Tree) (O : TreeOnTape s tape) where
   three-rows : (d : ℕ) (block source target : Table) (f g h : ℕ → ℕ → Bool) → RowsAre s block d f → RowsAre s source d g → RowsAre s target d h
       → join d 0 (λ k. threeRows W (getD block k []) (getD source k []) (getD target k [])) ≡ join d 0 (λ k. three m W (f k) (g k) (h k))
   three-rows d block source target f g h B S T =
-      join-below d 0 (λ k. threeRows W (getD block k []) (getD source k []) (getD target k [])) (λ k. three m W (f k) (g k) (h k)) (λ k l.
+      join-same d 0 (λ k. threeRows W (getD block k []) (getD source k []) (getD target k [])) (λ k. three m W (f k) (g k) (h k)) (λ k l.
       let k′ : k < d = omega arith in
       ap₂ _++_ (first (f k) (B .row k k′)) (ap₂ _++_ (first (g k) (S .row k k′)) (first (h k) (T .row k k′))))
     where
@@ -102,8 +91,8 @@ module _ (row : List ℕ) (tape : Tape) (s : Tree) (O : TreeOnTape s tape) where
   pub written : imageWords W (depth s) row tape ≡ assemble m W (depth s) (leads row) looped (edgeSet s)
   written =
       sections-same (ap (λ (n : ℕ). n ∷ W ∷ depth s ∷ []) (states-are O))
-      (join-below 256 0 (λ b. take W (letterRow row (tape .length) b)) (λ b. set m W (leads row b)) (λ b l. letter-row b))
-      (join-below 256 0 (λ b. take W (repeatRow row (tape .length) loops b)) (λ b. set m W (looped b)) (λ b l. repeat-row b))
+      (join-same 256 0 (λ b. take W (letterRow row (tape .length) b)) (λ b. set m W (leads row b)) (λ b l. letter-row b))
+      (join-same 256 0 (λ b. take W (repeatRow row (tape .length) loops b)) (λ b. set m W (looped b)) (λ b l. repeat-row b))
       (three-rows (depth s) (tableOf tape scatter-block) (tableOf tape scatter-source) (tableOf tape scatter-target) (scatterBlock s) (scatterSource s)
       (scatterTarget s) (scatter-block-says tape s O) (scatter-source-says tape s O) (scatter-target-says tape s O))
       (three-rows (depth s) (tableOf tape gather-block) (tableOf tape gather-source) (tableOf tape gather-target) (gatherBlock s) (gatherSource s)
@@ -128,8 +117,8 @@ module _ (row : List ℕ) (tape : Tape) (s : Tree) (O : TreeOnTape s tape) where
     pub image-written : imageWords W (depth s) row tape ≡ image s
     image-written =
         written
-        ∙ bytes-same m W (depth s) (leads row) looped (letters s) (repeats s) (edgeSet s) letters-lead
-        (λ b x h l. ap (λ (a : Bool). a && bit (value loops) x) (letters-lead b x h l) ∙ loops-say tape s O b x l)
+        ∙ assemble-same m W (depth s) (leads row) looped (letters s) (repeats s) (edgeSet s) (edgeSet s) letters-lead
+        (λ b x h l. ap (λ (a : Bool). a && bit (value loops) x) (letters-lead b x h l) ∙ loops-say tape s O b x l) (λ w k x. refl)
 
 -- "The length is 9 + W(515 + 9d) words."
 pub length-image : (s : Tree) → length (image s) ≡ 9 + width (states s) * (515 + 9 * depth s)

@@ -6,7 +6,7 @@ use Prim.Native.Nat.{ℕ, zero, suc, _+_, _*_, _/_, _%_, _^_, _≤_, _<_}
 use native.Mathlib.Nat.{le-of-suc-le-suc, not-suc-le-zero, pow-suc}
 use native.Mathlib.Omega.{arith}
 use lib.Bits.{bitAnd, and-mask, block-half, block-odd}
-use lib.Dec.{eqb, eqb·suc-suc, eqb·suc-zero, eqb·zero-suc}
+use lib.Dec.{eqb}
 use lib.ListN.{List·getD-eq-default, getD, length, replicate}
 use lib.Pow.{pow-lt, pow-pos, shr-shr}
 use mir.Syntax.{w64}
@@ -66,22 +66,12 @@ shifted-bit n (suc i) =
 pub read-bit : (n i : ℕ) → eqb (bitAnd (n / 2 ^ i) 1) 1 ≡ bit n i
 read-bit n i = ap (λ (d : ℕ). eqb d 1) (and-mask (n / 2 ^ i) 1) ∙ sym (shifted-bit n i)
 
--- ---- a bit made by a shift, and the number of one bit
+-- ---- a bit made by a shift
 pub one-shifted : (i : ℕ) → 1 * 2 ^ (i % 64) % 2 ^ 64 ≡ 2 ^ (i % 64)
 one-shifted i =
     let h : i % 64 < 64 = omega arith in
     let p : 2 ^ (i % 64) < 2 ^ 64 = pow-lt h in
     omega arith
-
-pub power-bit : (i j : ℕ) → bit (2 ^ i) j ≡ eqb j i
-power-bit zero zero = refl
-power-bit zero (suc j) = bit-zero j ∙ sym (eqb·suc-zero j)
-power-bit (suc i) zero =
-    let e : 2 ^ suc i % 2 ≡ 0 = omega (arith, pow-suc 2 i) in
-    ap (λ (n : ℕ). eqb n 1) e ∙ sym (eqb·zero-suc i)
-power-bit (suc i) (suc j) =
-    let e : 2 ^ suc i / 2 ≡ 2 ^ i = omega (arith, pow-suc 2 i) in
-    ap (λ (n : ℕ). bit n j) e ∙ power-bit i j ∙ sym (eqb·suc-suc j i)
 
 -- ---- the row of no bits
 pub none-fit : (n : ℕ) → Fit (replicate n 0)

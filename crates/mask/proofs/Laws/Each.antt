@@ -6,6 +6,7 @@ use native.Mathlib.Nat.{le-of-suc-le-suc, not-suc-le-zero}
 use native.Mathlib.Omega.{arith}
 use lib.ListN.{length, getD, set}
 use Rattle.model.specs.Models.Words.{eachWord, notWords}
+use Rattle.model.proofs.Words.Operations.{each-length}
 use Rattle.mask.proofs.Laws.Filled.{Filled, filled-more, filled-all}
 
 module _ (op : ℕ → ℕ → ℕ) where
@@ -16,11 +17,6 @@ module _ (op : ℕ → ℕ → ℕ) where
   each-word (x ∷ xs) (y ∷ ys) zero h k = refl
   each-word (x ∷ xs) (y ∷ ys) (suc i) h k = each-word xs ys i (le-of-suc-le-suc h) (le-of-suc-le-suc k)
 
-  pub each-length : (xs ys : List ℕ) → length xs ≡ length ys → length (eachWord op xs ys) ≡ length xs
-  each-length [] ys e = refl
-  each-length (x ∷ xs) [] e = absurd (omega arith)
-  each-length (x ∷ xs) (y ∷ ys) e = ap suc (each-length xs ys (omega arith))
-
   -- the loop of and, or, xor and complement: one word more, and all words
   module _ {n : ℕ} (xs ys : List ℕ) (hx : length xs ≡ n) (hy : length ys ≡ n)
       {row : List ℕ} {i : ℕ} (F : Filled n (eachWord op xs ys) row i) where
@@ -28,7 +24,7 @@ module _ (op : ℕ → ℕ → ℕ) where
     each-more h = filled-more (op (getD xs i 0) (getD ys i 0)) F h (sym (each-word xs ys i (omega arith) (omega arith)))
 
     pub each-all : n ≤ i → row ≡ eachWord op xs ys
-    each-all h = filled-all F h (each-length xs ys (hx ∙ sym hy) ∙ hx)
+    each-all h = filled-all F h (each-length op xs ys (hx ∙ sym hy) ∙ hx)
 
 -- the complement is such an operation, of a row with itself
 abbrev pub notFirst : ℕ → ℕ → ℕ

@@ -1,8 +1,8 @@
 -- The ends of a text, computed: run the tree's own masks over the first p bytes and look at the accepting state, for each place p.
 use mathlib.Core.Logic.{_↔_}
 use mathlib.Core.Bool.{Bool}
-use mathlib.Core.List.{List, [], _∷_}
-use Prim.Native.Nat.{ℕ, zero, suc, _≤_}
+use mathlib.Core.List.{List, []}
+use Prim.Native.Nat.{ℕ, _≤_}
 use native.Mathlib.Nat.{le-refl}
 use lib.Dec.{T}
 use lib.ListN.{length, take}
@@ -20,23 +20,13 @@ use Rattle.model.proofs.Image.Rows.{room}
 use Rattle.model.proofs.Language.Stretches.{feed}
 use Rattle.model.proofs.Words.Full.{Full}
 use Rattle.model.proofs.Words.ImageRun.{tree-carry, treeMasks}
-use Rattle.model.proofs.Words.Run.{Bytes, end-words}
+use Rattle.model.proofs.Words.Run.{Bytes, bytes-fed, bytes-take, end-words}
 
 abbrev pub isEnd : Tree → List ℕ → ℕ → Bool
 isEnd t text p = bit (value (runWords (treeMasks (states t) (width (states t)) t) (depth t) (feed [] (take p text)))) (accepting t)
 
 abbrev pub treeEnds : Tree → List ℕ → List ℕ
 treeEnds t text = placesFrom (isEnd t text) 0 (length text)
-
--- the bytes read so far are bytes
-bytes-fed : (u v : List ℕ) → Bytes u → Bytes v → Bytes (feed u v)
-bytes-fed u [] h k = h
-bytes-fed u (b ∷ v) h k = bytes-fed (b ∷ u) v (k .0, h) (k .1)
-
-bytes-take : (p : ℕ) (text : List ℕ) → Bytes text → Bytes (take p text)
-bytes-take zero text h = tt
-bytes-take (suc p) [] h = tt
-bytes-take (suc p) (b ∷ text) h = (h .0, bytes-take p text (h .1))
 
 -- THEY ARE THE LIST OF ENDS
 pub tree-ends : (t : Tree) → Full t → (text : List ℕ) → Bytes text → EndsAre t text (treeEnds t text)

@@ -140,4 +140,4 @@ edge-sets s entering k x = enters-of s k x
 pub image-is : (s : Seq) → image s ≡ arcImage s
 image-is s =
     assemble-same (states s) (width (states s)) (depth s) (letters s) (repeats s) (letterSet (arcs s 0 0)) (loopSet (arcs s 0 0)) (edgeSet s) (treeSet s)
-    (λ b x l. letters-of s b x) (λ b x l. repeats-of s b x) (edge-sets s)
+    (λ b x h l. letters-of s b x) (λ b x h l. repeats-of s b x) (edge-sets s)

@@ -108,6 +108,7 @@ module _ (w : ℕ) (f : ℕ → List ℕ) (same : (k : ℕ) → length (f k) ≡
   pub past-join : (n c : ℕ) (r : List ℕ) → drop 1 (drop (w * n) (join n 0 f ++ (c ∷ r))) ≡ r
   past-join n c r = ap (drop 1) (drop-at (join n 0 f) (c ∷ r) (w * n) (length-join n 0))
 
-pub join-same : (n a : ℕ) (f g : ℕ → List ℕ) → ((k : ℕ) → f k ≡ g k) → join n a f ≡ join n a g
+-- parts that are equal for each number that comes
+pub join-same : (n a : ℕ) (f g : ℕ → List ℕ) → ((k : ℕ) → k < a + n → f k ≡ g k) → join n a f ≡ join n a g
 join-same zero a f g h = refl
-join-same (suc n) a f g h = ap₂ _++_ (h a) (join-same n (suc a) f g h)
+join-same (suc n) a f g h = ap₂ _++_ (h a (omega arith)) (join-same n (suc a) f g (λ k l. h k (omega arith)))

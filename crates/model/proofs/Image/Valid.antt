@@ -1,7 +1,7 @@
 -- A row of tokens is valid exactly if it is the tokens of a tree with good unions, some item and depth at most 8: the scan asks of each token
 -- just what the tree read back from the right needs there.
 use mathlib.Core.Path.{_≡_, refl, sym, ap, subst}
-use mathlib.Core.Bool.{Bool, true, false, not, _&&_}
+use mathlib.Core.Bool.{Bool, true, not, _&&_}
 use mathlib.Core.List.{List, [], _∷_}
 use mathlib.Core.Option.{Option, none, some}
 use Prim.Native.Nat.{ℕ, suc, _+_, _≤_}
@@ -13,7 +13,7 @@ use Rattle.model.specs.Edges.{altsDepth, depth, seqEmpty, seqEnd}
 use Rattle.model.specs.Models.LayOut.{afterBar, afterClose, afterSomeBar, begin, Frame, inside, nextAlternative, opened, outside, Scan, step, valid}
 use Rattle.model.specs.Models.Tokens.{aBar, aClose, aLetter, altsTokens, anOpen, Begun, parse, Parsed, parsed, prepend, Token, tokens}
 use Rattle.model.proofs.Image.Scan.{after, after-bar, after-end, after-letter, after-union, afterUnion, alternativeAt, isEnd}
-use Rattle.model.proofs.Laws.Bool.{and-both, and-split}
+use Rattle.model.proofs.Laws.Bool.{and-both, and-split, not-not}
 use Rattle.model.proofs.Laws.Trees.{NonEmpty}
 use Rattle.model.proofs.Reading.WellFormed.{Several}
 use Rattle.model.proofs.Words.Full.{Full, FullA}
@@ -44,10 +44,6 @@ not-end : (s : Seq) → NonEmpty s → T (not (isEnd s))
 not-end end h = absurd h
 not-end (letter c r s) h = tt
 not-end (union a s) h = tt
-
-not-not : (b : Bool) → (T (not b) → ⊥) → T b
-not-not true k = tt
-not-not false k = absurd (k tt)
 
 mutual
   passes : (s : Seq) (rest : List Token) (q : Scan) → GoodUnions s → length (q .stack) + depth s ≤ 8 → T (valid rest (after s q)) → T (valid (tokens s rest) q)

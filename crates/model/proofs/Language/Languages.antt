@@ -8,8 +8,9 @@ use native.Mathlib.Omega.{arith}
 use lib.Dec.{T}
 use Rattle.model.specs.Bits.{bit}
 use Rattle.model.specs.Tree.{Alts, canLoop, canSkip, end, last, letter, more, once, option, plus, Repeat, Seq, star, union}
-use Rattle.model.specs.Edges.{altsEmpty, altsEnd, seqEmpty, seqEnd}
+use Rattle.model.specs.Edges.{altsEmpty, altsEnd, seqEmpty, seqEnd, states}
 use Rattle.model.proofs.Laws.Bool.{and-split, or-split}
+use Rattle.model.proofs.Laws.Trees.{NonEmpty}
 
 abbrev pub Language : Type 1
 Language = List ℕ → Type 0
@@ -54,6 +55,12 @@ mutual
   pub altsEnd-lt : (a : Alts) (p : ℕ) → p < altsEnd a p
   altsEnd-lt (last s) p = seqEnd-le s (suc p)
   altsEnd-lt (more s a) p = omega (arith, seqEnd-le s (suc p), altsEnd-lt a (seqEnd s (suc p)))
+
+-- a sequence with an item has at least two states
+pub two-states : (s : Seq) → NonEmpty s → 2 ≤ states s
+two-states end h = absurd h
+two-states (letter c r s) h = omega (arith, seqEnd-le s 1)
+two-states (union a s) h = omega (arith, altsEnd-lt a 0, seqEnd-le s (suc (altsEnd a 0)))
 
 -- ---- what can spell the empty text keeps a text; a byte of the class goes through a letter, and more go round its loop
 pub skip-letter : (c : ℕ) (r : Repeat) (P : Language) (w : List ℕ) → T (canSkip r) → P w → afterLetter c r P w

@@ -55,6 +55,10 @@ pub is-not : (b : Bool) → (T b → ⊥) → b ≡ false
 is-not true h = absurd (h tt)
 is-not false h = refl
 
+pub not-not : (b : Bool) → (T (not b) → ⊥) → T b
+not-not true h = tt
+not-not false h = h tt
+
 pub same-truth : (a b : Bool) → (T a → T b) → (T b → T a) → a ≡ b
 same-truth true true f g = refl
 same-truth true false f g = absurd (f tt)

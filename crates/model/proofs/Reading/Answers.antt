@@ -10,7 +10,7 @@ use lib.ListN.{length}
 use Rattle.model.specs.Lists.{any, within}
 use Rattle.model.specs.Bytes.{byte, bytes}
 use Rattle.model.specs.Models.Reader.{bad, bind, case, got, over, past, Read}
-use Rattle.model.proofs.Laws.Bool.{cond-cases, is-false, unequal}
+use Rattle.model.proofs.Laws.Bool.{cond-cases, is-false, not-not, unequal}
 use Rattle.model.proofs.Laws.Lists.{any-in, any-out}
 
 -- ---- sound answers
@@ -78,11 +78,7 @@ not-among f x ys h k = not-T (within x ys) (λ w. T-not (any f ys) k (within-any
 
 -- a byte among ys passes a test which each of them passes
 pub among : (f : ℕ → Bool) (x : ℕ) (ys : List ℕ) → T (within x ys) → T (not (any (λ y. not (f y)) ys)) → T (f x)
-among f x ys w k = go (f x) (λ n. T-not (any (λ y. not (f y)) ys) k (within-any (λ y. not (f y)) x ys w n))
-  where
-    go : (b : Bool) → (T (not b) → ⊥) → T b
-    go true h = tt
-    go false h = h tt
+among f x ys w k = not-not (f x) (λ n. T-not (any (λ y. not (f y)) ys) k (within-any (λ y. not (f y)) x ys w n))
 
 -- a byte y that a test tells from x is not x
 pub past-other : (f : ℕ → Bool) (x y : ℕ) (ys : List ℕ) → T (f y) → T (not (f x)) → past x (y ∷ ys) ≡ bad (y ∷ ys)

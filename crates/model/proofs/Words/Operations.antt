@@ -16,15 +16,16 @@ use Rattle.model.proofs.Words.Holds.{Holds, Near, near-room, None, val-
 use Rattle.model.proofs.Words.Ripple.{carry, differenceBits, into, odd3, sumBits}
 use Rattle.model.proofs.Words.Sums.{add-fit, add-is, Adds, adds-length, difference-bits, shift-fit, shift-is, subtract-fit, subtract-is, Subtracts, sum-bits}
 
--- ---- an operation on each word apart, as g does on two bits
+-- ---- an operation on each word apart
+pub each-length : (op : ℕ → ℕ → ℕ) (xs ys : List ℕ) → length xs ≡ length ys → length (eachWord op xs ys) ≡ length xs
+each-length op [] ys e = refl
+each-length op (x ∷ xs) [] e = absurd (omega arith)
+each-length op (x ∷ xs) (y ∷ ys) e = ap suc (each-length op xs ys (omega arith))
+
+-- and as g does on two bits
 module _ (op : ℕ → ℕ → ℕ) (g : Bool → Bool → Bool) (nil : op 0 0 ≡ 0)
     (block : (k a b r s : ℕ) → r < 2 ^ k → s < 2 ^ k → op (a * 2 ^ k + r) (b * 2 ^ k + s) ≡ op a b * 2 ^ k + op r s)
     (lt : (k a b : ℕ) → a < 2 ^ k → b < 2 ^ k → op a b < 2 ^ k) (bit-op : (i a b : ℕ) → bit (op a b) i ≡ g (bit a i) (bit b i)) where
-  each-length : (xs ys : List ℕ) → length xs ≡ length ys → length (eachWord op xs ys) ≡ length xs
-  each-length [] ys e = refl
-  each-length (x ∷ xs) [] e = absurd (omega arith)
-  each-length (x ∷ xs) (y ∷ ys) e = ap suc (each-length xs ys (omega arith))
-
   each-fit : (xs ys : List ℕ) → Fit xs → Fit ys → Fit (eachWord op xs ys)
   each-fit [] ys h k = tt
   each-fit (x ∷ xs) [] h k = tt
@@ -51,7 +52,7 @@ module _ (op : ℕ → ℕ → ℕ) (g : Bool → Bool → Bool) (nil : op 0 0 �
 
     near-each : Near m W (eachWord op xs ys) (λ x. g (f x) (h x))
     near-each = record {
-      len = each-length xs ys same-length ∙ X .len;
+      len = each-length op xs ys same-length ∙ X .len;
       fit = each-fit xs ys (X .fit) (Y .fit);
       bits = λ x l. each-bit x ∙ ap₂ g (X .bits x l) (Y .bits x l);
     }

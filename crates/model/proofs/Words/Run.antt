@@ -60,8 +60,18 @@ pub record Carry (m W : ℕ) (s : Seq) (M : Masks) : Type 0 where
   pub propagate-target : (k : ℕ) → k ≤ depth s → Holds m W (M .propagateMask k 2) (λ x. enters s k x && not (leaves s k x))
   pub start : Holds m W (M .startMask) startSet
 
+-- ---- a text, and what was read of it
 abbrev pub Bytes : List ℕ → Type 0
 Bytes w = All (λ b. b < 256) w
+
+pub bytes-fed : (u v : List ℕ) → Bytes u → Bytes v → Bytes (feed u v)
+bytes-fed u [] h k = h
+bytes-fed u (b ∷ v) h k = bytes-fed (b ∷ u) v (k .0, h) (k .1)
+
+pub bytes-take : (p : ℕ) (text : List ℕ) → Bytes text → Bytes (take p text)
+bytes-take zero text h = tt
+bytes-take (suc p) [] h = tt
+bytes-take (suc p) (b ∷ text) h = (h .0, bytes-take p text (h .1))
 
 -- ---- from any row that holds a set
 module _ (m W : ℕ) (s : Seq) (F : Full s) (M : Masks) (C : Carry m W s M) where

@@ -1,7 +1,7 @@
 -- TAKE APART: from any words to a row of tokens, by the sets that the words hold where an image would have them.
 use mathlib.Core.Bool.{Bool, true, false, not, _&&_, _||_}
 use mathlib.Core.List.{List, [], _∷_}
-use Prim.Native.Nat.{ℕ, zero, suc, _*_}
+use Prim.Native.Nat.{ℕ, zero, suc, _+_, _*_}
 use lib.ListN.{getD, take, drop}
 use Rattle.model.specs.Bits.{bit, mask}
 use Rattle.model.specs.Tree.{once, option, plus, Repeat, star}
@@ -33,6 +33,16 @@ gatherIn ws = drop 1 (drop (3 * widthWord ws * depthWord ws) (scatterIn ws))
 
 abbrev pub propagateIn : List ℕ → List ℕ
 propagateIn ws = drop 1 (drop (3 * widthWord ws * depthWord ws) (gatherIn ws))
+
+-- where the masks of the last three sections begin, for W words to a mask and depth d
+abbrev pub scatterAt : ℕ → ℕ
+scatterAt W = 7 + 512 * W
+
+abbrev pub gatherAt : ℕ → ℕ → ℕ
+gatherAt W d = scatterAt W + 1 + 3 * W * d
+
+abbrev pub propagateAt : ℕ → ℕ → ℕ
+propagateAt W d = gatherAt W d + 1 + 3 * W * d
 
 -- part k of words that are cut into parts of w words
 abbrev pub chunk : ℕ → ℕ → List ℕ → List ℕ

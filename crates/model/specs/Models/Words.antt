@@ -1,9 +1,10 @@
 -- MASKS AS ROWS OF 64-BIT WORDS, low word first, and the operations of the run over any number of words.
 use mathlib.Core.Bool.{Bool, _||_}
 use mathlib.Core.List.{List, [], _∷_}
-use Prim.Native.Nat.{ℕ, _+_, _-_, _*_, _%_, _^_, _<_}
+use Prim.Native.Nat.{ℕ, _+_, _-_, _*_, _/_, _%_, _^_, _<_}
 use lib.Dec.{leb, ltb}
 use lib.Bits.{bitAnd, bitOr, bitXor}
+use lib.ListN.{getD, set}
 use Rattle.model.specs.Bits.{digit}
 
 -- the number that words make, how many bits it has, and that each of them is a word
@@ -18,6 +19,10 @@ bitsOf (w ∷ ws) = 64 + bitsOf ws
 abbrev pub Fit : List ℕ → Type 0
 Fit [] = Unit
 Fit (w ∷ ws) = (w < 2 ^ 64) × Fit ws
+
+-- a row with bit i, which is bit i mod 64 of word i / 64; at or past the end nothing changes
+abbrev pub putBit : List ℕ → ℕ → List ℕ
+putBit ws i = set ws (i / 64) (bitOr (getD ws (i / 64) 0) (2 ^ (i % 64)))
 
 -- ---- word by word
 abbrev pub eachWord : (ℕ → ℕ → ℕ) → List ℕ → List ℕ → List ℕ

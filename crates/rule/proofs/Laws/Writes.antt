@@ -9,21 +9,15 @@ use native.Mathlib.Omega.{arith}
 use lib.ListN.{length, getD, set, take, drop}
 use lib.Seq.{append-snoc, drop-cons, getD-set-other, set-comm, set-out, sets}
 use Rattle.model.proofs.Laws.Bool.{le-or-lt}
+use Rattle.model.proofs.Laws.Stores.{sets-cons, sets-nil}
 
 module _ {A : Type 0} where
-  -- ---- one run and the next
-  pub sets-append : (l : List A) (i : ℕ) (us vs : List A) → sets l i (us ++ vs) ≡ sets (sets l i us) (i + length us) vs
-  sets-append l i [] vs = ap (λ (k : ℕ). sets l k vs) (sym (add-zero i))
-  sets-append l i (u ∷ us) vs =
-      let e : suc i + length us ≡ i + suc (length us) = omega arith in
-      sets-append (set l i u) (suc i) us vs ∙ ap (λ (k : ℕ). sets (sets (set l i u) (suc i) us) k vs) e
-
+  -- ---- one run and the next: the next may be written first
   set-before : (l : List A) (i j : ℕ) (u : A) (vs : List A) → i < j → set (sets l j vs) i u ≡ sets (set l i u) j vs
   set-before l i j u [] h = refl
   set-before l i j u (v ∷ vs) h =
       set-before (set l j v) i (suc j) u vs (omega arith) ∙ ap (λ (k : List A). sets k (suc j) vs) (set-comm l j i v u (λ e. omega arith))
 
-  -- the next may be written first
   pub sets-before : (l : List A) (i : ℕ) (us vs : List A) → sets (sets l (i + length us) vs) i us ≡ sets l i (us ++ vs)
   sets-before l i [] vs = ap (λ (k : ℕ). sets l k vs) (add-zero i)
   sets-before l i (u ∷ us) vs =
@@ -36,15 +30,6 @@ module _ {A : Type 0} where
   pub sets-past : (l : List A) (i : ℕ) (vs : List A) → length l ≤ i → sets l i vs ≡ l
   sets-past l i [] h = refl
   sets-past l i (v ∷ vs) h = ap (λ (k : List A). sets k (suc i) vs) (set-out l i v h) ∙ sets-past l (suc i) vs (omega arith)
-
-  -- ---- by the list's head and tail
-  sets-nil : (i : ℕ) (vs : List A) → sets [] i vs ≡ []
-  sets-nil i [] = refl
-  sets-nil i (v ∷ vs) = sets-nil (suc i) vs
-
-  sets-cons : (x : A) (xs : List A) (i : ℕ) (vs : List A) → sets (x ∷ xs) (suc i) vs ≡ x ∷ sets xs i vs
-  sets-cons x xs i [] = refl
-  sets-cons x xs i (v ∷ vs) = sets-cons x (set xs i v) (suc i) vs
 
   -- what stands there already
   sets-take : (l : List A) (n : ℕ) → sets l 0 (take n l) ≡ l

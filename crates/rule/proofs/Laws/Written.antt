@@ -11,11 +11,12 @@ use Rattle.model.specs.Models.Tokens.{aLetter, Token, tokens}
 use Rattle.model.specs.Models.Words.{Fit, value}
 use Rattle.model.specs.Tree.{end, once, option, Repeat, Seq}
 use Rattle.model.proofs.Laws.Each.{each-app}
+use Rattle.model.proofs.Laws.Stores.{sets-append}
 use Rattle.rule.specs.Classes.{bytesOf, wordsOf}
 use Rattle.tape.specs.Rows.{repeatKind, rowWords, tokenWords}
 use Rattle.rule.specs.Tokens.{opened, timesWords}
 use Rattle.rule.specs.declared.Class.{Class}
-use Rattle.rule.proofs.Laws.Writes.{sets-append, sets-opened}
+use Rattle.rule.proofs.Laws.Writes.{sets-opened}
 
 -- ---- rows of tokens
 pub row-append : (a b : List Token) → rowWords (a ++ b) ≡ rowWords a ++ rowWords b

@@ -10,25 +10,25 @@ use lib.Dec.{eqb·suc-zero}
 use lib.ListN.{drop, getD, replicate, take}
 use Rattle.model.specs.Answers.{ImageOf}
 use Rattle.model.specs.Bits.{bit}
-use Rattle.model.specs.Edges.{altsEnd, depth, states}
+use Rattle.model.specs.Edges.{depth, states}
 use Rattle.model.specs.Image.{width}
-use Rattle.model.specs.Models.Apart.{chunk, gatherIn, lettersIn, propagateIn, repeatsIn, scatterIn}
+use Rattle.model.specs.Models.Apart.{chunk, gatherAt, gatherIn, lettersIn, propagateAt, propagateIn, repeatsIn, scatterAt, scatterIn}
 use Rattle.model.specs.Models.Words.{value}
-use Rattle.model.specs.Tree.{end, letter, Seq, Tree, union}
+use Rattle.model.specs.Tree.{Tree}
 use Rattle.model.proofs.Ends.Run.{letterSet, loopSet, startSet}
+use Rattle.model.proofs.Image.Address.{chunk-at, gather-at, propagate-at, repeats-at, scatter-at, three-at}
 use Rattle.model.proofs.Image.OfEdges.{image-is}
 use Rattle.model.proofs.Image.Sections.{length-assembled}
 use Rattle.model.proofs.Image.Sets.{arcImage, treeSet}
 use Rattle.model.proofs.Language.Arcs.{arcs}
-use Rattle.model.proofs.Language.Languages.{altsEnd-lt, seqEnd-le}
+use Rattle.model.proofs.Language.Languages.{two-states}
 use Rattle.model.proofs.Laws.Bits.{bit-zero}
 use Rattle.model.proofs.Laws.Trees.{NonEmpty}
 use Rattle.model.proofs.Reading.WellFormed.{rule-well}
 use Rattle.model.proofs.Words.Holds.{Holds, pad-holds}
 use Rattle.model.proofs.Words.ImageRun.{image-carry}
 use Rattle.model.proofs.Words.Run.{Carry}
-use Rattle.run.specs.Work.{gatherAt, gatherTable, masksOf, propagateAt, propagateTable, rowAt, scatterAt, scatterTable, shaped, startWords, tableAt}
-use Rattle.run.proofs.Image.Address.{chunk-at, gather-at, propagate-at, repeats-at, scatter-at, three-at}
+use Rattle.run.specs.Work.{gatherTable, masksOf, propagateTable, rowAt, scatterTable, shaped, startWords, tableAt}
 use Rattle.run.proofs.Laws.Rows.{table-row}
 use Rattle.run.proofs.Laws.Shape.{Shape, shape-is}
 
@@ -104,12 +104,6 @@ module _ (t : Tree) where
           propagate-target = λ k l. propagated k 2 _ l (omega arith) (C .propagate-target k l);
           start = start-holds m (omega arith);
         }
-
-  -- a rule's tree has a first item, so at least two states
-  two-states : (s : Seq) → NonEmpty s → 2 ≤ states s
-  two-states end h = absurd h
-  two-states (letter c r s) h = omega (arith, seqEnd-le s 1)
-  two-states (union a s) h = omega (arith, altsEnd-lt a 0, seqEnd-le s (suc (altsEnd a 0)))
 
   arc-shape : NonEmpty t → m ≤ 512 → d ≤ 8 → Shape A
   arc-shape f h k = record {

@@ -3,13 +3,13 @@ use mathlib.Core.Path.{_≡_, refl, sym, ap, ap₂, _∙_, subst}
 use mathlib.Core.Logic.{_↔_}
 use mathlib.Core.Bool.{Bool, true, false, _&&_, and-false, cond}
 use mathlib.Core.List.{List, [], _∷_, _++_}
-use Prim.Native.Nat.{ℕ, zero, suc, _+_, _-_, _≤_, _<_}
+use Prim.Native.Nat.{ℕ, suc, _+_, _-_, _≤_, _<_}
 use native.Mathlib.Nat.{add-zero, le-refl}
 use native.Mathlib.Omega.{arith}
 use lib.Dec.{T, leb}
-use lib.ListN.{getD, length, set, take}
-use lib.Seq.{sets, take-nil}
-use Rattle.model.specs.Answers.{done, ImageOf}
+use lib.ListN.{getD, length, take}
+use lib.Seq.{sets}
+use Rattle.model.specs.Answers.{ImageOf}
 use Rattle.model.specs.Bits.{bit}
 use Rattle.model.specs.Edges.{accepting, depth, states}
 use Rattle.model.specs.Ends.{EndsAre}
@@ -23,7 +23,8 @@ use Rattle.model.proofs.Ends.Stops.{StopsAt}
 use Rattle.model.proofs.Image.Decided.{rule-full}
 use Rattle.model.proofs.Language.Stretches.{feed}
 use Rattle.model.proofs.Laws.Bool.{le-false, le-true}
-use Rattle.model.proofs.Words.Run.{Bytes, end-words}
+use Rattle.model.proofs.Laws.Stores.{sets-fit}
+use Rattle.model.proofs.Words.Run.{Bytes, bytes-fed, bytes-take, end-words}
 use Rattle.run.specs.Says.{FindSays}
 use Rattle.run.specs.Work.{endsFound, endsFrom, endsWith, masksOf, noted, shaped, Written}
 use Rattle.run.proofs.Image.Carry.{as-arcs, carried, image-shaped}
@@ -55,32 +56,9 @@ module _ (M : Masks) (d last : ℕ) where
       later i = ap f (let e : suc p + i ≡ p + suc i = omega arith in e) ∙ h (suc i)
 
 -- ---- the bytes of a text
-bytes-fed : (u v : List ℕ) → Bytes u → Bytes v → Bytes (feed u v)
-bytes-fed u [] h k = h
-bytes-fed u (b ∷ v) h k = bytes-fed (b ∷ u) v (k .0, h) (k .1)
-
-bytes-take : (p : ℕ) (text : List ℕ) → Bytes text → Bytes (take p text)
-bytes-take zero text h = tt
-bytes-take (suc p) [] h = tt
-bytes-take (suc p) (b ∷ text) h = (h .0, bytes-take p text (h .1))
-
 pub all-bytes : (text : List ℕ) → ((i : ℕ) → getD text i 0 < 256) → Bytes text
 all-bytes [] h = tt
 all-bytes (b ∷ text) h = (h 0, all-bytes text (λ i. h (suc i)))
-
--- ---- WHAT IS WRITTEN: a store past the end changes nothing, so all stores are those that fit
-sets-nil : (i : ℕ) (ps : List ℕ) → sets [] i ps ≡ []
-sets-nil i [] = refl
-sets-nil i (p ∷ ps) = sets-nil (suc i) ps
-
-sets-cons : (x : ℕ) (l : List ℕ) (i : ℕ) (ps : List ℕ) → sets (x ∷ l) (suc i) ps ≡ x ∷ sets l i ps
-sets-cons x l i [] = refl
-sets-cons x l i (p ∷ ps) = sets-cons x (set l i p) (suc i) ps
-
-pub sets-fit : (l ps : List ℕ) → sets l 0 ps ≡ done ps l .lent
-sets-fit l [] = sym (ap (λ (k : List ℕ). k ++ l) (take-nil (length l)))
-sets-fit [] (p ∷ ps) = sets-nil 1 ps
-sets-fit (x ∷ l) (p ∷ ps) = sets-cons p l 0 ps ∙ ap (λ (k : List ℕ). p ∷ k) (sets-fit l ps)
 
 -- ---- the list found, by the two tests
 pub found-whole : (ws text : List ℕ) → shaped ws ≡ true → length text ≤ 65535 → endsWith (masksOf ws) (depthWord ws) (stateWord ws - 1) text ≡ endsFound ws text

@@ -2,10 +2,11 @@
 use mathlib.Core.Path.{_≡_, refl, sym, ap, _∙_}
 use mathlib.Core.List.{List, [], _∷_, _++_, append-assoc}
 use Prim.Native.Nat.{ℕ, zero, suc, _+_, _-_, _*_, _≤_, _<_}
-use native.Mathlib.Nat.{add-suc, add-zero, le-of-suc-le-suc, mul-le-mul-left, mul-suc, not-suc-le-zero, suc-add}
+use native.Mathlib.Nat.{add-suc, add-zero, le-of-suc-le-suc, not-suc-le-zero, suc-add}
 use native.Mathlib.Omega.{arith}
 use lib.ListN.{drop, getD, length, length-append, length-drop, length-replicate, List·getD-eq-default, replicate, set, take}
 use lib.Seq.{getD-drop, getD-take, length-take-le, set-at}
+use Rattle.model.proofs.Image.Address.{part-fits}
 use Rattle.run.specs.Work.{rowAt, rowsFrom, tableAt}
 
 -- ---- a row: words of zeros above are what lies past the end
@@ -75,6 +76,4 @@ module _ (ws : List ℕ) (at W j : ℕ) where
 
 -- ---- a row of a table lies within the table's words
 pub within-table : (W n k j : ℕ) → k < n → j < 3 → W * (3 * k + j) + W ≤ W * (3 * n)
-within-table W n k j h l =
-    let le : suc (3 * k + j) ≤ 3 * n = omega arith in
-    omega (arith, mul-suc W (3 * k + j), mul-le-mul-left W le)
+within-table W n k j h l = part-fits W {k = 3 * k + j} {n = 3 * n} (omega arith)

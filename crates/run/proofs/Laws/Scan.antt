@@ -1,20 +1,16 @@
 -- THE LOOP OVER A TEXT: what was noted and what is still to come is the whole list of ends, turn by turn.
 use mathlib.Core.Path.{_≡_, refl, sym, ap, ap₂, _∙_}
 use mathlib.Core.Bool.{Bool, true, false}
-use mathlib.Core.List.{List, [], _∷_, _++_}
+use mathlib.Core.List.{List, _++_}
 use Prim.Native.Nat.{ℕ, suc, _+_, _≤_, _<_}
-use native.Mathlib.Nat.{add-suc, add-zero, suc-add}
 use native.Mathlib.Omega.{arith}
-use lib.ListN.{drop, drop-of-length-le, getD, length, length-append, set}
+use lib.ListN.{drop, drop-of-length-le, getD, length, length-append}
 use lib.Seq.{drop-cons, length-sets, sets}
 use Rattle.model.specs.Bits.{bit}
 use Rattle.model.specs.Models.Run.{Masks, stepWords}
 use Rattle.model.specs.Models.Words.{value}
+use Rattle.model.proofs.Laws.Stores.{sets-append}
 use Rattle.run.specs.Work.{endsFrom, endsWith, noted, Written}
-
-sets-app : (l : List ℕ) (i : ℕ) (xs ys : List ℕ) → sets l i (xs ++ ys) ≡ sets (sets l i xs) (i + length xs) ys
-sets-app l i [] ys = ap (λ (n : ℕ). sets l n ys) (sym (add-zero i))
-sets-app l i (x ∷ xs) ys = sets-app (set l i x) (suc i) xs ys ∙ ap (λ (n : ℕ). sets (sets (set l i x) (suc i) xs) n ys) (suc-add i (length xs) ∙ sym (add-suc i (length xs)))
 
 pub noted-few : (b : Bool) (p : ℕ) → length (noted b p) ≤ 1
 noted-few true p = omega arith
@@ -59,7 +55,7 @@ module _ (M : Masks) (d last : ℕ) (text before : List ℕ) where
       long = ap length write′ ∙ length-sets places total (noted h p) ∙ S .long;
       counted = omega (arith, S .counted, count′, ap length split, length-append (noted h p) rest, ap length same);
       stored = ap (sets after (total + n)) same ∙ ap₂ (λ (l : List ℕ) (k : ℕ). sets l (total + k) rest) write′ count′
-          ∙ sym (sets-app places total (noted h p) rest) ∙ ap (sets places total) (sym split) ∙ S .stored;
+          ∙ sym (sets-append places total (noted h p) rest) ∙ ap (sets places total) (sym split) ∙ S .stored;
     }
       where
         rest : List ℕ

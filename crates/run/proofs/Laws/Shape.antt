@@ -2,14 +2,14 @@
 use mathlib.Core.Path.{_≡_, sym, ap, _∙_, subst}
 use mathlib.Core.Bool.{Bool, true, false, _&&_}
 use mathlib.Core.List.{List}
-use Prim.Native.Nat.{ℕ, _+_, _*_, _≤_, _<_}
-use native.Mathlib.Nat.{mul-add, mul-le-mul, mul-le-mul-left, mul-left-comm, mul-suc}
+use Prim.Native.Nat.{ℕ, _+_, _*_, _≤_}
+use native.Mathlib.Nat.{mul-add, mul-assoc, mul-le-mul, mul-left-comm}
 use native.Mathlib.Omega.{arith}
 use lib.Dec.{T, eqb, eqb-refl, eqb→eq, leb, leb→le, le→leb}
 use lib.ListN.{length}
-use Rattle.model.specs.Models.Apart.{depthWord, stateWord}
+use Rattle.model.specs.Models.Apart.{depthWord, gatherAt, propagateAt, scatterAt, stateWord}
 use Rattle.model.proofs.Laws.Bool.{and-both, and-split, is-not, is-true, le-true}
-use Rattle.run.specs.Work.{gatherAt, propagateAt, scatterAt, shaped, shapeLength, widthOf}
+use Rattle.run.specs.Work.{shaped, shapeLength, widthOf}
 
 pub record Shape (ws : List ℕ) : Type 0 where
   pub some-states : 2 ≤ stateWord ws
@@ -67,6 +67,13 @@ length-small W d h l = let k : 515 + 9 * d ≤ 587 = omega arith in omega (arith
 three-times : (W n : ℕ) → W * (3 * n) ≡ 3 * (W * n)
 three-times W n = mul-left-comm W 3 n
 
+-- the last two begin where code looks for them
+pub gather-place : (W d : ℕ) → 8 + 512 * W + 3 * (W * d) ≡ gatherAt W d
+gather-place W d = omega (arith, mul-assoc 3 W d)
+
+pub propagate-place : (W d : ℕ) → 9 + 512 * W + 6 * (W * d) ≡ propagateAt W d
+propagate-place W d = omega (arith, mul-assoc 3 W d)
+
 -- what W words to a mask and depth d ask of n words
 pub record Sections (W d n : ℕ) : Type 0 where
   pub narrow : W ≤ 8
@@ -84,8 +91,8 @@ sections W d n h k e = record {
   area = mul-le-mul h k;
   letters = omega (arith, words);
   scatters = omega (arith, words, three-times W d);
-  gathers = omega (arith, words, three-times W d);
-  propagates = omega (arith, words, three-times W (d + 1), mul-add W d 1);
+  gathers = omega (arith, words, three-times W d, mul-assoc 3 W d);
+  propagates = omega (arith, words, three-times W (d + 1), mul-add W d 1, mul-assoc 3 W d);
 }
   where
     -- with W * d as one number
@@ -99,7 +106,3 @@ sections-of ws h {w} {d} e f =
     subst (λ (x : ℕ). Sections x d (length ws)) (sym e)
     (subst (λ (x : ℕ). Sections (widthOf ws) x (length ws)) (sym f)
     (sections (widthOf ws) (depthWord ws) (length ws) (omega (arith, S .few-states)) (S .shallow) (S .long)))
-
--- a mask of W words, number b of n, ends within W * n words
-pub mask-within : (W b n : ℕ) → b < n → W * b + W ≤ W * n
-mask-within W b n h = omega (arith, mul-suc W b, mul-le-mul-left W h)

@@ -6,7 +6,7 @@ use Prim.Native.Nat.{ℕ, suc, _-_, _≤_, _<_}
 use native.Mathlib.Numerals.{add-one}
 use native.Mathlib.Omega.{arith}
 use borrow.Author.Needs.{needs}
-use Rattle.mask.specs.Rows.{putBit}
+use Rattle.model.specs.Models.Words.{putBit}
 use Rattle.image.specs.Work.{leads, letterRow}
 use Rattle.image.proofs.Laws.Letters.{set-with, set-without}
 use Rattle.image.proofs.letters.letter_row.Statement.{statement}

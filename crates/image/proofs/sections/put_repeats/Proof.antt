@@ -5,8 +5,9 @@ use native.Mathlib.Nat.{mul-comm}
 use native.Mathlib.Omega.{arith}
 use borrow.Author.Needs.{needs}
 use lib.ListN.{take}
+use Rattle.model.proofs.Image.Address.{part-fits}
 use Rattle.image.proofs.Laws.Lengths.{repeats-long}
-use Rattle.image.proofs.Laws.Parts.{part-fits, Parts, parts-all, parts-long, parts-more, parts-none}
+use Rattle.image.proofs.Laws.Parts.{Parts, parts-all, parts-long, parts-more, parts-none}
 use Rattle.image.proofs.sections.put_repeats.Statement.{statement}
 use Rattle.image.proofs.sections.put_repeats.Tie as tie
 use Rattle.image.specs.Work.{repeatRow}

@@ -3,8 +3,9 @@ use mathlib.Core.Path.{refl}
 use Prim.Native.Nat.{_+_, _*_, _-_}
 use native.Mathlib.Omega.{arith}
 use borrow.Author.Needs.{needs}
+use Rattle.model.proofs.Image.Address.{part-fits}
 use Rattle.image.proofs.Laws.Lengths.{depthRows, depths-long, eights}
-use Rattle.image.proofs.Laws.Parts.{part-fits, Parts, parts-all, parts-long, parts-more, parts-none}
+use Rattle.image.proofs.Laws.Parts.{Parts, parts-all, parts-long, parts-more, parts-none}
 use Rattle.image.proofs.sections.put_tables.Statement.{statement}
 use Rattle.image.proofs.sections.put_tables.Tie as tie
 

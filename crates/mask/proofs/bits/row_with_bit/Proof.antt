@@ -5,8 +5,8 @@ use native.Mathlib.Omega.{arith}
 use borrow.Author.Needs.{needs}
 use lib.Bits.{bitOr}
 use lib.ListN.{getD, set}
+use Rattle.model.proofs.Words.Put.{put-past}
 use Rattle.mask.proofs.Laws.Bits.{one-shifted}
-use Rattle.mask.proofs.Laws.Put.{put-past}
 use Rattle.mask.proofs.bits.row_with_bit.Statement.{statement}
 use Rattle.mask.proofs.bits.row_with_bit.Tie as tie
 

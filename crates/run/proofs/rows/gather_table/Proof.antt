@@ -1,9 +1,10 @@
 -- `gather_table`: words with a shape have the section whole.
-use mathlib.Core.Path.{ap₂, _∙_}
+use mathlib.Core.Path.{ap, ap₂, _∙_}
 use Prim.Native.Nat.{ℕ}
 use native.Mathlib.Omega.{arith}
-use Rattle.run.specs.Work.{gatherAt, tableAt}
-use Rattle.run.proofs.Laws.Shape.{sections-of}
+use Rattle.model.specs.Models.Apart.{gatherAt}
+use Rattle.run.specs.Work.{tableAt}
+use Rattle.run.proofs.Laws.Shape.{gather-place, sections-of}
 use borrow.Author.Needs.{needs}
 use Rattle.run.proofs.rows.gather_table.Statement.{statement}
 use Rattle.run.proofs.rows.gather_table.Tie as tie
@@ -33,12 +34,16 @@ table-requires : tie.Need-table-requires
 table-requires c κs =
     let s = c .before .before .before in
     let S = sections-of (s .args .image .now) (s .pre .0) (c .before .width .ensures) (c .depth .ensures) in
-    (S .narrow, omega (arith, S .deep), s .pre .1, S .gathers)
+    (S .narrow, omega (arith, S .deep), s .pre .1, omega (arith, S .gathers, gather-place (c .before .width .result) (c .depth .result)))
 
 returns : tie.Need-returns
 returns c =
     let a = c .before .before .before .before .args in
-    c .table .ensures ∙ ap₂ (λ (w d : ℕ). tableAt (a .image .now) (gatherAt w d) w d (a .which)) (c .before .before .width .ensures) (c .before .depth .ensures)
+    let w = c .before .before .width in
+    let d = c .before .depth in
+    c .table .ensures
+    ∙ ap (λ (at : ℕ). tableAt (a .image .now) at (w .result) (d .result) (a .which)) (gather-place (w .result) (d .result))
+    ∙ ap₂ (λ (w d : ℕ). tableAt (a .image .now) (gatherAt w d) w d (a .which)) (w .ensures) (d .ensures)
 
 pub gather-table-spec : {M : Type 1} → statement M
 gather-table-spec =

@@ -1,9 +1,10 @@
 -- `propagate_table`: words with a shape have the section whole.
-use mathlib.Core.Path.{ap₂, _∙_}
+use mathlib.Core.Path.{ap, ap₂, _∙_}
 use Prim.Native.Nat.{ℕ, _+_}
 use native.Mathlib.Omega.{arith}
-use Rattle.run.specs.Work.{propagateAt, tableAt}
-use Rattle.run.proofs.Laws.Shape.{sections-of}
+use Rattle.model.specs.Models.Apart.{propagateAt}
+use Rattle.run.specs.Work.{tableAt}
+use Rattle.run.proofs.Laws.Shape.{propagate-place, sections-of}
 use borrow.Author.Needs.{needs}
 use Rattle.run.proofs.rows.propagate_table.Statement.{statement}
 use Rattle.run.proofs.rows.propagate_table.Tie as tie
@@ -36,12 +37,16 @@ table-requires : tie.Need-table-requires
 table-requires c κs =
     let s = c .before .before .before in
     let S = sections-of (s .args .image .now) (s .pre .0) (c .before .width .ensures) (c .depth .ensures) in
-    (S .narrow, omega (arith, S .deep), s .pre .1, S .propagates)
+    (S .narrow, omega (arith, S .deep), s .pre .1, omega (arith, S .propagates, propagate-place (c .before .width .result) (c .depth .result)))
 
 returns : tie.Need-returns
 returns c =
     let a = c .before .before .before .before .args in
-    c .table .ensures ∙ ap₂ (λ (w d : ℕ). tableAt (a .image .now) (propagateAt w d) w (d + 1) (a .which)) (c .before .before .width .ensures) (c .before .depth .ensures)
+    let w = c .before .before .width in
+    let d = c .before .depth in
+    c .table .ensures
+    ∙ ap (λ (at : ℕ). tableAt (a .image .now) at (w .result) (d .result + 1) (a .which)) (propagate-place (w .result) (d .result))
+    ∙ ap₂ (λ (w d : ℕ). tableAt (a .image .now) (propagateAt w d) w (d + 1) (a .which)) (w .ensures) (d .ensures)
 
 pub propagate-table-spec : {M : Type 1} → statement M
 propagate-table-spec =

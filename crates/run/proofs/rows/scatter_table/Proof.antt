@@ -2,7 +2,8 @@
 use mathlib.Core.Path.{ap₂, _∙_}
 use Prim.Native.Nat.{ℕ}
 use native.Mathlib.Omega.{arith}
-use Rattle.run.specs.Work.{scatterAt, tableAt}
+use Rattle.model.specs.Models.Apart.{scatterAt}
+use Rattle.run.specs.Work.{tableAt}
 use Rattle.run.proofs.Laws.Shape.{sections-of}
 use borrow.Author.Needs.{needs}
 use Rattle.run.proofs.rows.scatter_table.Statement.{statement}

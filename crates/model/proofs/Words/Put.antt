@@ -1,20 +1,31 @@
--- One bit more in a row of words: the number that the words make has that bit more, and each of them is still a word.
+-- ONE BIT MORE IN A ROW OF WORDS: the number that the words make has that bit more, and each of them is still a word.
 use mathlib.Core.Path.{_≡_, refl, sym, ap, ap₂, _∙_}
 use mathlib.Core.Bool.{Bool, _||_}
 use mathlib.Core.List.{List, [], _∷_}
-use Prim.Native.Nat.{ℕ, zero, suc, _+_, _*_, _/_, _%_, _^_, _<_}
+use Prim.Native.Nat.{ℕ, zero, suc, _+_, _*_, _/_, _%_, _^_, _≤_, _<_}
 use native.Mathlib.Nat.{le-of-suc-le-suc, not-suc-le-zero, pow-suc}
 use native.Mathlib.Omega.{arith}
 use lib.Bits.{bitOr, or-block, or-lt, or-zero-r}
 use lib.Dec.{eqb, eqb·suc-suc, eqb·suc-zero, eqb·zero-suc}
-use lib.ListN.{getD, length, set}
+use lib.ListN.{getD, length, length-set, set}
 use lib.Pow.{pow-add, pow-lt, pow-pos}
+use lib.Seq.{set-out}
 use Rattle.model.specs.Bits.{bit}
-use Rattle.model.specs.Models.Words.{Fit, value}
+use Rattle.model.specs.Models.Words.{Fit, putBit, value}
 use Rattle.model.proofs.Laws.Bits.{bit-zero}
 use Rattle.model.proofs.Words.Bits.{bit-or}
-use Rattle.tape.specs.Tables.{setBit}
 
+-- the word that bit i stands in, with that bit
+abbrev newWord : List ℕ → ℕ → ℕ
+newWord ws i = bitOr (getD ws (i / 64) 0) (2 ^ (i % 64))
+
+pub put-length : (ws : List ℕ) (i : ℕ) → length (putBit ws i) ≡ length ws
+put-length ws i = length-set ws (i / 64) (newWord ws i)
+
+pub put-past : (ws : List ℕ) (i : ℕ) → 64 * length ws ≤ i → putBit ws i ≡ ws
+put-past ws i h = set-out ws (i / 64) (newWord ws i) (omega arith)
+
+-- ---- the number that the words make
 swap : (a n : ℕ) → a + 2 ^ 64 * n ≡ n * 2 ^ 64 + a
 swap a n = omega arith
 
@@ -44,12 +55,12 @@ bit-power (suc x) (suc y) =
     ap (λ (n : ℕ). bit n y) (let e : 2 ^ suc x / 2 ≡ 2 ^ x = omega (arith, pow-suc 2 x) in e) ∙ bit-power x y ∙ sym (eqb·suc-suc y x)
 
 -- THE BITS
-pub set-bit-at : (ws : List ℕ) (x y : ℕ) → x < 64 * length ws → Fit ws → bit (value (setBit ws x)) y ≡ (bit (value ws) y || eqb y x)
-set-bit-at ws x y h f =
-    ap (λ (n : ℕ). bit n y)
-    (value-set ws (x / 64) (x % 64) (omega arith) (omega arith) f
-    ∙ (let e : 64 * (x / 64) + x % 64 ≡ x = omega arith in ap (λ (n : ℕ). bitOr (value ws) (2 ^ n)) e))
-    ∙ bit-or y (value ws) (2 ^ x) ∙ ap (λ (b : Bool). bit (value ws) y || b) (bit-power x y)
+pub put-bit : (ws : List ℕ) (i j : ℕ) → i < 64 * length ws → Fit ws → bit (value (putBit ws i)) j ≡ (bit (value ws) j || eqb j i)
+put-bit ws i j h f =
+    ap (λ (n : ℕ). bit n j)
+    (value-set ws (i / 64) (i % 64) (omega arith) (omega arith) f
+    ∙ (let e : 64 * (i / 64) + i % 64 ≡ i = omega arith in ap (λ (n : ℕ). bitOr (value ws) (2 ^ n)) e))
+    ∙ bit-or j (value ws) (2 ^ i) ∙ ap (λ (b : Bool). bit (value ws) j || b) (bit-power i j)
 
 -- ---- words stay words
 fit-set : (ws : List ℕ) (i v : ℕ) → Fit ws → v < 2 ^ 64 → Fit (set ws i v)
@@ -62,7 +73,7 @@ fit-at [] i h = pow-pos 64
 fit-at (w ∷ ws) zero h = h .0
 fit-at (w ∷ ws) (suc i) h = fit-at ws i (h .1)
 
-pub set-bit-fit : (ws : List ℕ) (x : ℕ) → Fit ws → Fit (setBit ws x)
-set-bit-fit ws x h =
-    let e : x % 64 < 64 = omega arith in
-    fit-set ws (x / 64) (bitOr (getD ws (x / 64) 0) (2 ^ (x % 64))) h (or-lt 64 (getD ws (x / 64) 0) (2 ^ (x % 64)) (fit-at ws (x / 64) h) (pow-lt e))
+pub put-fit : (ws : List ℕ) (i : ℕ) → Fit ws → Fit (putBit ws i)
+put-fit ws i f =
+    let h : i % 64 < 64 = omega arith in
+    fit-set ws (i / 64) (newWord ws i) f (or-lt 64 (getD ws (i / 64) 0) (2 ^ (i % 64)) (fit-at ws (i / 64) f) (pow-lt h))

@@ -1,16 +1,19 @@
--- WHERE THE MASKS OF AN IMAGE LIE: a part of a section is words from one place on.
+-- WHERE THE MASKS OF AN IMAGE LIE: a section comes after the one before it and a count, so a part of it is words from one place on.
 use mathlib.Core.Path.{_≡_, refl, ap, _∙_}
 use mathlib.Core.List.{List, [], _∷_}
 use Prim.Native.Nat.{ℕ, zero, suc, _+_, _*_, _≤_, _<_}
-use native.Mathlib.Nat.{mul-add, mul-assoc, mul-left-comm}
+use native.Mathlib.Nat.{mul-add, mul-assoc, mul-le-mul-left, mul-left-comm, mul-suc}
 use native.Mathlib.Omega.{arith}
 use lib.ListN.{drop, take}
 use lib.Seq.{drop-drop, take-take}
-use Rattle.model.specs.Models.Apart.{chunk, depthWord, gatherIn, lettersIn, propagateIn, repeatsIn, scatterIn, widthWord}
-use Rattle.run.specs.Work.{gatherAt, propagateAt, scatterAt}
+use Rattle.model.specs.Models.Apart.{chunk, depthWord, gatherAt, gatherIn, lettersIn, propagateAt, propagateIn, repeatsIn, scatterAt, scatterIn, widthWord}
+
+-- there is room for part k where there is for n
+pub part-fits : (w : ℕ) {k n : ℕ} → k < n → w * k + w ≤ w * n
+part-fits w {k} h = omega (arith, mul-suc w k, mul-le-mul-left w h)
 
 -- a part of a part is a part of the whole
-part-of-part : (n m k : ℕ) (l : List ℕ) → m + n ≤ k → take n (drop m (take k l)) ≡ take n (drop m l)
+pub part-of-part : (n m k : ℕ) (l : List ℕ) → m + n ≤ k → take n (drop m (take k l)) ≡ take n (drop m l)
 part-of-part n zero k l h = take-take n k l (omega arith)
 part-of-part n (suc m) zero l h = absurd (omega arith)
 part-of-part n (suc m) (suc k) [] h = refl
@@ -60,9 +63,9 @@ module _ (ws : List ℕ) where
   pub gather-at : gatherIn ws ≡ drop (gatherAt W d) ws
   gather-at =
       past (scatterIn ws) ws (scatterAt W) (3 * W * d) scatter-at
-      ∙ ap (λ (n : ℕ). drop n ws) (let e : scatterAt W + 3 * W * d + 1 ≡ gatherAt W d = omega (arith, mul-assoc 3 W d) in e)
+      ∙ ap (λ (n : ℕ). drop n ws) (let e : scatterAt W + 3 * W * d + 1 ≡ gatherAt W d = omega arith in e)
 
   pub propagate-at : propagateIn ws ≡ drop (propagateAt W d) ws
   propagate-at =
       past (gatherIn ws) ws (gatherAt W d) (3 * W * d) gather-at
-      ∙ ap (λ (n : ℕ). drop n ws) (let e : gatherAt W d + 3 * W * d + 1 ≡ propagateAt W d = omega (arith, mul-assoc 3 W d) in e)
+      ∙ ap (λ (n : ℕ). drop n ws) (let e : gatherAt W d + 3 * W * d + 1 ≡ propagateAt W d = omega arith in e)

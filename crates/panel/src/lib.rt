@@ -1,0 +1,42 @@
+// The watcher's operations as a library for C and firmware: a symbol for each, which trusts no caller. Each gives one 64-bit number,
+// document 01's number times 2^32 plus the count.
+use watcher::Built;
+use watcher::build;
+ghost use mathlib.Core.List.{[]};
+ghost use mathlib.Core.Path.{_≡_};
+ghost use Prim.Native.Nat.{_+_, _*_, _^_, _≤_, _<_};
+ghost use Rattle.model.specs.Answers.{BuildSays};
+ghost use Rattle.watcher.specs.Answers.{builtAnswer};
+ghost use Rattle.panel.specs.Says.{Gives, packed};
+
+// Document 01's number and the count, in one.
+fn pack(number: u64, count: usize) -> u64
+    requires { ⌜ (number ≤ 8) × (count < 2 ^ 32) ⌝ }
+    ensures { λ r. ⌜ r ≡ number * 2 ^ 32 + count ⌝ }
+{
+    number * 0x1_0000_0000 + count as u64
+}
+
+// What build answered.
+fn pack_built(built: Built) -> u64
+    requires { ⌜ builtAnswer built [] .count < 2 ^ 32 ⌝ }
+    ensures { λ r. ⌜ r ≡ packed (builtAnswer built []) ⌝ }
+{
+    match built {
+        Built::TooLong => pack(1, 0),
+        Built::NotARule => pack(2, 0),
+        Built::TooManyStates => pack(3, 0),
+        Built::TooDeep => pack(4, 0),
+        Built::NoRoom => pack(5, 0),
+        Built::Done(length) => pack(0, length),
+    }
+}
+
+// Build: from rule bytes to an image in lent words.
+#[no_mangle]
+pub extern "C" fn lavumbishe_build(rule: &[u8], image: &mut [u64]) -> u64
+    ensures { λ r. ⌜ Gives (BuildSays (now (rule .entry)) (now (image .entry))) r (now (image .exit)) ⌝ }
+{
+    let built = build(rule, image);
+    pack_built(built)
+}

@@ -1,0 +1,304 @@
+//! The library for C, called through tests/driver.c: the outside vectors, document 01's examples and limits on build, and generated rules beside the
+//! independent program; number, count and every lent word. Usage: library VECTORS DRIVER (tests/library makes the driver)
+
+use outside_checks::driver::{Answer, Driver};
+use outside_checks::generate::{broken, jumbled, long, nested, sized, small, Random, TELLING};
+use outside_checks::independent::{build, depth, parse, states};
+use outside_checks::{bytes, expand, runs, vectors};
+use std::path::Path;
+use std::process::exit;
+
+/// The stack in bytes that a caller provides, as docs/DECISIONS.md says.
+const STACK: usize = 1 << 20;
+
+/// The length of the longest image.
+const LONGEST: usize = 4705;
+
+struct Checks {
+    driver: Driver,
+    passed: usize,
+    failed: usize,
+}
+
+impl Checks {
+    fn note(&mut self, what: &str, difference: Option<String>) {
+        let Some(difference) = difference else {
+            self.passed += 1;
+            return;
+        };
+        self.failed += 1;
+        if self.failed <= 10 {
+            println!("library: FAILED: {what}: {difference}");
+        }
+    }
+
+    fn same<T: PartialEq + std::fmt::Debug>(&mut self, what: &str, got: T, expected: T) {
+        let difference = (got != expected).then(|| format!("{got:?}, expected {expected:?}"));
+        self.note(what, difference);
+    }
+
+    /// One build, compared whole; what it gave.
+    fn build(&mut self, what: &str, rule: &[u8], expected: &Answer) -> Option<Answer> {
+        let room = expected.words.len();
+        let got = self.driver.build(rule, room);
+        let difference = got.as_ref().map_or_else(|why| Some(why.clone()), |answer| answer.difference(expected));
+        self.note(&format!("{what}, rule {}, {room} words lent", rule.escape_ascii()), difference);
+        got.ok()
+    }
+
+    /// One build beside the independent program; the words afterwards.
+    fn beside(&mut self, what: &str, rule: &[u8], room: usize) -> Vec<u64> {
+        let (number, image) = build(rule, room);
+        self.build(what, rule, &Answer::of(number, &image, room)).map_or(Vec::new(), |answer| answer.words)
+    }
+
+    /// A part of the checks, and how it went.
+    fn part(&mut self, name: &str, run: impl FnOnce(&mut Checks)) {
+        let (passed, failed) = (self.passed, self.failed);
+        run(self);
+        println!("library: {name}: {} passed, {} failed", self.passed - passed, self.failed - failed);
+    }
+}
+
+// ---- the outside vectors, and faults planted in copies of their answers
+
+fn outside(checks: &mut Checks, folder: &Path) -> Vec<(Answer, Answer)> {
+    let mut answers = Vec::new();
+    for v in vectors(folder, "build.txt", "build") {
+        let (rule, room, image) = (bytes(&v[0]), v[1].parse().expect("ROOM"), expand(&runs(&v[4])));
+        let expected = Answer::of(v[2].parse().expect("NUMBER"), &image, room);
+        assert_eq!(expected.count.to_string(), v[3], "COUNT");
+        if let Some(got) = checks.build("vector", &rule, &expected) {
+            answers.push((got, expected));
+        }
+    }
+    answers
+}
+
+/// Every fault must be seen: one thing wrong in a copy of an expected answer, and words that are changed without a call.
+fn planted(checks: &mut Checks, answers: &[(Answer, Answer)]) {
+    let mut r = Random::new(1);
+    for (got, expected) in answers {
+        for fault in faults(&mut r, expected) {
+            checks.same("a planted fault is seen", got.difference(&fault).is_some(), true);
+        }
+    }
+    for place in [-1, 7] {
+        let seen = checks.driver.spoil(place, 7).is_err();
+        checks.same("a change beside the lent words is seen", seen, true);
+    }
+    let spoilt = checks.driver.spoil(3, 7).ok().and_then(|answer| answer.difference(&Answer::of(0, &[], 7)));
+    checks.same("a change of a lent word is seen", spoilt.is_some(), true);
+}
+
+/// Copies of an answer, each with one thing wrong: the number, the count, a bit of a word of the image, a bit of a word past it.
+fn faults(r: &mut Random, right: &Answer) -> Vec<Answer> {
+    let mut faults = vec![right.clone(), right.clone()];
+    faults[0].number += 1;
+    faults[1].count += 1;
+    let image = right.count as usize;
+    for (from, to) in [(0, image), (image, right.words.len())] {
+        if from < to {
+            let mut fault = right.clone();
+            fault.words[r.between(from, to - 1)] ^= 1 << r.below(64);
+            faults.push(fault);
+        }
+    }
+    faults
+}
+
+// ---- document 01: "Measured examples", "The image", and the limits
+
+/// A section of an image, without its count.
+fn section(image: &[u64], number: usize) -> Vec<u64> {
+    let mut rest = image;
+    for _ in 1..number {
+        let Some((count, more)) = rest.split_first() else { break };
+        rest = more.get(*count as usize..).unwrap_or(&[]);
+    }
+    rest.split_first().map_or(Vec::new(), |(count, more)| more.iter().take(*count as usize).copied().collect())
+}
+
+fn pairs(count: usize, inner: &str) -> Vec<u8> {
+    [&vec![b'('; count], inner.as_bytes(), &vec![b')'; count]].concat()
+}
+
+/// Unions nested so deep, as short as can be: four states for each.
+fn unions(count: usize) -> Vec<u8> {
+    (0..count).fold(b"a".to_vec(), |inner, _| [b"(", &inner[..], b"|b)"].concat())
+}
+
+/// 512 states, eight deep.
+fn longest() -> Vec<u8> {
+    [unions(8), b"a{478}".to_vec()].concat()
+}
+
+fn refused(number: u64) -> Answer {
+    Answer::of(number, &[], LONGEST)
+}
+
+fn examples(checks: &mut Checks) {
+    let letters = (0..256).map(|byte| if byte == 97 { 2 } else { 0 });
+    let whole: Vec<u64> = [3, 2, 1, 0, 256].into_iter().chain(letters).chain([256]).chain([0; 256]).chain([0, 0, 3, 0, 0, 0]).collect();
+    assert_eq!(whole.len(), 524);
+    checks.build("the image of a, whole", b"a", &Answer::of(0, &whole, 530));
+    checks.build("the image of a in just its room", b"a", &Answer::of(0, &whole, 524));
+    checks.build("room one word short", b"a", &Answer::of(5, &[], 523));
+
+    for rule in [&b""[..], b"()", b"a||b", b"(a)*", b"[c-ab]", b"a{0}", b"a{3,}", b"a\n"] {
+        checks.build("refused with 2", rule, &refused(2));
+    }
+
+    let words = checks.beside("states", b"[AB]+B.{1,3}[BC]?.*C", LONGEST);
+    checks.same("[AB]+B.{1,3}[BC]?.*C: shape", section(&words, 1), vec![9, 1, 0]);
+    let words = checks.beside("states", b"a|b", LONGEST);
+    checks.same("a|b: shape", section(&words, 1), vec![6, 1, 1]);
+    let words = checks.beside("masks", b"A(BA|CD)(CD|AB)B", LONGEST);
+    checks.same("A(BA|CD)(CD|AB)B: shape", section(&words, 1), vec![17, 1, 1]);
+    checks.same("A(BA|CD)(CD|AB)B: scatter", section(&words, 4), vec![8256, 258, 4644]);
+    checks.same("A(BA|CD)(CD|AB)B: gather", section(&words, 5), vec![30960, 18576, 33024]);
+    let words = checks.beside("masks", b"A(AB|B?)(B?.*|AB)C", LONGEST);
+    checks.same("A(AB|B?)(B?.*|AB)C: shape", section(&words, 1), vec![16, 1, 1]);
+    checks.same("A(AB|B?)(B?.*|AB)C: propagate", section(&words, 6), vec![16514, 2, 16384, 1888, 288, 1088]);
+
+    for (rule, plain) in [("a{2,3}", "a?aa"), ("((ab))", "ab"), ("a|b", "(a|b)"), ("((a|b)|c)", "((a|b)|c)"), ("[ba]", "[a-b]")] {
+        let (_, image) = build(plain.as_bytes(), LONGEST);
+        checks.build("the image of its plain writing", rule.as_bytes(), &Answer::of(0, &image, LONGEST));
+    }
+}
+
+fn limits(checks: &mut Checks) {
+    let words = checks.beside("512 states", b"a{511}", LONGEST);
+    checks.same("a{511}: shape", section(&words, 1), vec![512, 8, 0]);
+    checks.build("513 states", b"a{512}", &refused(3));
+    checks.build("513 states, letter by letter", &[b'a'; 512], &refused(3));
+    let words = checks.beside("eight nested unions", &unions(8), LONGEST);
+    checks.same("eight nested unions: shape", section(&words, 1), vec![34, 1, 8]);
+    checks.build("nine nested unions", &unions(9), &refused(4));
+    let words = checks.beside("the longest image", &longest(), LONGEST);
+    checks.same("the longest image: shape", section(&words, 1), vec![512, 8, 8]);
+    checks.build("the longest image, room one word short", &longest(), &Answer::of(5, &[], LONGEST - 1));
+
+    let ((_, a), (_, ab)) = (build(b"a", LONGEST), build(b"ab", LONGEST));
+    checks.build("511 bracket pairs, 1,024 bytes", &pairs(511, "ab"), &Answer::of(0, &ab, LONGEST));
+    checks.build("511 bracket pairs, 1,025 bytes", &pairs(511, "abc"), &refused(1));
+    checks.build("a class, 1,024 bytes", &[&b"["[..], &[b'a'; 1022], b"]"].concat(), &Answer::of(0, &a, LONGEST));
+    checks.build("a class, 1,025 bytes", &[&b"["[..], &[b'a'; 1023], b"]"].concat(), &refused(1));
+    checks.build("1,024 letters", &[b'a'; 1024], &refused(3));
+    checks.build("1,024 opening brackets", &[b'('; 1024], &refused(2));
+
+    // "Checks run in the table's order."
+    checks.build("1 before 2 and 5", &[b')'; 1025], &Answer::of(1, &[], 0));
+    checks.build("2 before 3 and 5", b"a{999})", &Answer::of(2, &[], 0));
+    checks.build("3 before 4 and 5", &[unions(9), b"a{500}".to_vec()].concat(), &Answer::of(3, &[], 0));
+    checks.build("4 before 5", &unions(9), &Answer::of(4, &[], 0));
+}
+
+/// Rules that nest as deep, or go on as long, as 1,024 bytes allow.
+fn stack(checks: &mut Checks) {
+    let mut most = 0;
+    let class = [vec![b'('; 1023], b"[".to_vec()].concat();
+    for rule in [vec![b'('; 1024], pairs(511, "ab"), class, vec![b'a'; 1024], longest()] {
+        let taken = checks.driver.stack(&rule, LONGEST).unwrap_or(usize::MAX);
+        let more = (taken > STACK).then(|| format!("{taken} bytes"));
+        checks.note(&format!("stack for the rule {}", rule.escape_ascii()), more);
+        most = most.max(taken);
+    }
+    println!("library: the most stack that a build took: {most} bytes");
+}
+
+// ---- generated rules
+
+fn every_byte(checks: &mut Checks) {
+    for b in 0..=255 {
+        for rule in [&[b][..], &[b'\\', b], &[b'a', b], &[b'[', b, b']'], &[b'[', b, b'-', b'~', b']'], &[b'a', b'{', b, b'}']] {
+            checks.beside("every byte", rule, 530);
+        }
+    }
+    for &first in TELLING {
+        for &second in TELLING {
+            checks.beside("two bytes", &[first, second], 530);
+        }
+    }
+}
+
+fn seeds(checks: &mut Checks) {
+    let mut seen = Seen::default();
+    for seed in 0..5200 {
+        let mut r = Random::new(seed);
+        let rule = match seed {
+            0..1500 => small(&mut r),
+            1500..3500 => broken(&mut r),
+            3500..4400 => jumbled(&mut r),
+            4400..4500 => long(&mut r),
+            4500..4800 => {
+                let deep = r.between(1, 10);
+                nested(&mut r, deep)
+            }
+            _ => {
+                let sizes = [r.between(60, 70), r.between(71, 448), r.between(449, 512), r.between(510, 515)];
+                let (wanted, deep) = (sizes[r.below(4)], r.below(10));
+                sized(&mut r, wanted, deep)
+            }
+        };
+        let length = build(&rule, LONGEST).1.len();
+        let room = match r.below(6) {
+            0 => r.below(length + 1),
+            1 => length.saturating_sub(1),
+            2 => length,
+            3 => LONGEST + 100,
+            _ => length + r.below(20),
+        };
+        checks.beside(&format!("seed {seed}"), &rule, room);
+        seen.note(&rule, room);
+    }
+    seen.tell(checks);
+}
+
+/// What the generated rules were, so that no kind of them goes missing.
+#[derive(Default)]
+struct Seen {
+    numbers: [usize; 6],
+    over_64: usize,
+    over_448: usize,
+    eight_deep: usize,
+}
+
+impl Seen {
+    fn note(&mut self, rule: &[u8], room: usize) {
+        let number = build(rule, room).0;
+        self.numbers[number as usize] += 1;
+        if number == 0 {
+            let tree = parse(rule).expect("a rule");
+            self.over_64 += usize::from(states(&tree) > 64);
+            self.over_448 += usize::from(states(&tree) > 448);
+            self.eight_deep += usize::from(depth(&tree) == 8);
+        }
+    }
+
+    fn tell(&self, checks: &mut Checks) {
+        let Seen { numbers, over_64, over_448, eight_deep } = self;
+        println!("library: from seeds: {over_64} taken over 64 states, {over_448} over 448, {eight_deep} eight deep; numbers 0 to 5: {numbers:?}");
+        let fewest = numbers.iter().chain([over_64, over_448, eight_deep]).min();
+        checks.same("there are 20 of each kind", fewest >= Some(&20), true);
+    }
+}
+
+fn main() {
+    let arguments: Vec<String> = std::env::args().collect();
+    let [_, folder, driver] = &arguments[..] else {
+        eprintln!("usage: library VECTORS DRIVER");
+        exit(2);
+    };
+    let mut checks = Checks { driver: Driver::start(driver), passed: 0, failed: 0 };
+    let mut answers = Vec::new();
+    checks.part("outside vectors", |c| answers = outside(c, Path::new(folder)));
+    checks.part("faults planted in copies of their answers", |c| planted(c, &answers));
+    checks.part("document 01's examples", examples);
+    checks.part("limits", limits);
+    checks.part("stack", stack);
+    checks.part("rules of every byte", every_byte);
+    checks.part("rules from seeds", seeds);
+    println!("library: {} passed, {} failed", checks.passed, checks.failed);
+    exit(i32::from(checks.failed > 0));
+}

@@ -1,0 +1,235 @@
+//! Rules made by a fixed generator: valid ones in every way of writing, small, large and deep, and broken ones.
+
+use crate::independent::{parse, states};
+
+/// Numbers from a seed (splitmix64).
+pub struct Random(u64);
+
+impl Random {
+    pub fn new(seed: u64) -> Random {
+        Random(seed)
+    }
+
+    fn next(&mut self) -> u64 {
+        self.0 = self.0.wrapping_add(0x9e37_79b9_7f4a_7c15);
+        let mut z = self.0;
+        z = (z ^ (z >> 30)).wrapping_mul(0xbf58_476d_1ce4_e5b9);
+        z = (z ^ (z >> 27)).wrapping_mul(0x94d0_49bb_1331_11eb);
+        z ^ (z >> 31)
+    }
+
+    /// A number below n.
+    pub fn below(&mut self, n: usize) -> usize {
+        (self.next() % n as u64) as usize
+    }
+
+    /// A number from low to high.
+    pub fn between(&mut self, low: usize, high: usize) -> usize {
+        low + self.below(high - low + 1)
+    }
+
+    fn one_in(&mut self, n: usize) -> bool {
+        self.below(n) == 0
+    }
+
+    fn pick<'a, T>(&mut self, all: &'a [T]) -> &'a T {
+        &all[self.below(all.len())]
+    }
+}
+
+const SIGNS: &[u8] = b"\\|()[]{}?*+.";
+
+/// The bytes that rules are made of most often: signs, and what has a meaning beside them.
+pub const TELLING: &[u8] = b"\\|()[]{}?*+.-,019axAFg";
+
+/// A byte as an escape, or as itself where a class's single may be itself.
+fn single(r: &mut Random, byte: u8, out: &mut Vec<u8>) {
+    let special = byte == b'-' || SIGNS.contains(&byte);
+    if special && !r.one_in(3) {
+        out.extend([b'\\', byte]);
+    } else if special || !(33..=126).contains(&byte) || r.one_in(12) {
+        let written = if r.one_in(2) { format!("\\x{byte:02x}") } else { format!("\\x{byte:02X}") };
+        out.extend(written.bytes());
+    } else {
+        out.push(byte);
+    }
+}
+
+fn any_byte(r: &mut Random) -> u8 {
+    match r.below(4) {
+        0 => r.below(256) as u8,
+        1 => *r.pick(SIGNS),
+        _ => b'a' + r.below(6) as u8,
+    }
+}
+
+fn class(r: &mut Random, out: &mut Vec<u8>) {
+    out.push(b'[');
+    for _ in 0..r.between(1, 4) {
+        let (a, b) = (any_byte(r), any_byte(r));
+        if r.one_in(3) {
+            single(r, a.min(b), out);
+            out.push(b'-');
+            single(r, a.max(b), out);
+        } else {
+            single(r, a, out);
+        }
+    }
+    out.push(b']');
+}
+
+/// A letter with its repeat sign, which adds at most `most` states.
+fn letter(r: &mut Random, most: usize, out: &mut Vec<u8>) {
+    match r.below(10) {
+        0 => out.push(b'.'),
+        1 | 2 => class(r, out),
+        3 => {
+            let byte = any_byte(r);
+            single(r, byte, out);
+        }
+        4 => out.push(b'-'),
+        _ => out.push(b'a' + r.below(6) as u8),
+    }
+    let y = r.between(1, most);
+    let x = r.below(y + 1);
+    match r.below(12) {
+        0 => out.push(b'?'),
+        1 => out.push(b'*'),
+        2 => out.push(b'+'),
+        3 => out.extend(format!("{{{y}}}").bytes()),
+        4 => out.extend(format!("{{{x},{y}}}").bytes()),
+        5 => out.extend(format!("{{,{y}}}").bytes()),
+        _ => {}
+    }
+}
+
+/// A sequence of about `size` states, unions in it nested at most `depth` deep.
+pub fn sequence(r: &mut Random, size: usize, depth: usize, out: &mut Vec<u8>) {
+    let mut left = size.max(1) as isize;
+    while left > 0 {
+        let part = r.between(1, left as usize);
+        if depth > 0 && left > 3 && r.one_in(3) {
+            alternatives(r, part, depth - 1, true, out);
+            left -= part as isize + 3;
+        } else if r.one_in(12) {
+            alternatives(r, part, depth, false, out);
+            left -= part as isize;
+        } else {
+            let most = (left as usize).min(4);
+            letter(r, most, out);
+            left -= most.div_ceil(2) as isize;
+        }
+    }
+}
+
+/// In brackets: several alternatives of about `size` states together, or one.
+fn alternatives(r: &mut Random, size: usize, depth: usize, several: bool, out: &mut Vec<u8>) {
+    out.push(b'(');
+    let count = if several { r.between(2, 4) } else { 1 };
+    for i in 0..count {
+        if i > 0 {
+            out.push(b'|');
+        }
+        sequence(r, size / count, depth, out);
+    }
+    out.push(b')');
+}
+
+/// A small rule.
+pub fn small(r: &mut Random) -> Vec<u8> {
+    let mut out = Vec::new();
+    for i in 0..*r.pick(&[1, 1, 1, 2, 3]) {
+        if i > 0 {
+            out.push(b'|');
+        }
+        let (size, depth) = (r.between(1, 12), r.below(4));
+        sequence(r, size, depth, &mut out);
+    }
+    out
+}
+
+fn short(r: &mut Random, out: &mut Vec<u8>) {
+    let size = r.between(1, 2);
+    sequence(r, size, 0, out);
+}
+
+/// Unions nested just so deep.
+pub fn nested(r: &mut Random, depth: usize) -> Vec<u8> {
+    let mut out = Vec::new();
+    short(r, &mut out);
+    for _ in 0..depth {
+        let mut outer = vec![b'('];
+        if r.one_in(2) {
+            short(r, &mut outer);
+            outer.push(b'|');
+        }
+        if r.one_in(2) {
+            short(r, &mut outer);
+        }
+        outer.extend(out);
+        if r.one_in(2) {
+            short(r, &mut outer);
+        }
+        outer.push(b'|');
+        short(r, &mut outer);
+        outer.push(b')');
+        out = outer;
+    }
+    out
+}
+
+/// A rule of just so many states, in at most 1,024 bytes: parts as long as they fit, then one letter repeated.
+pub fn sized(r: &mut Random, wanted: usize, depth: usize) -> Vec<u8> {
+    let mut rule = nested(r, depth);
+    let mut size = wanted / 4;
+    while size > 0 {
+        let mut longer = rule.clone();
+        sequence(r, size, depth, &mut longer);
+        if longer.len() <= 1000 && count(&longer) <= wanted {
+            rule = longer;
+        } else {
+            size /= 2;
+        }
+    }
+    match wanted.saturating_sub(count(&rule)) {
+        0 => {}
+        n => rule.extend(format!("e{{{n}}}").bytes()),
+    }
+    rule
+}
+
+fn count(rule: &[u8]) -> usize {
+    states(&parse(rule).expect("a generated rule is in the grammar"))
+}
+
+/// A small rule in so many brackets that it has about 1,024 bytes.
+pub fn long(r: &mut Random) -> Vec<u8> {
+    let (rule, wanted) = (small(r), r.between(1020, 1028));
+    let around = wanted.saturating_sub(rule.len()) / 2;
+    [vec![b'('; around], rule, vec![b')'; around]].concat()
+}
+
+/// A rule with one to three of its bytes taken out, put in, changed or moved: most often no rule any more.
+pub fn broken(r: &mut Random) -> Vec<u8> {
+    let mut rule = small(r);
+    for _ in 0..r.between(1, 3) {
+        let at = r.below(rule.len() + 1);
+        let byte = if r.one_in(8) { r.below(256) as u8 } else { *r.pick(TELLING) };
+        match r.below(5) {
+            0 if at < rule.len() => drop(rule.remove(at)),
+            1 if at < rule.len() => rule[at] = byte,
+            2 => rule.truncate(at),
+            3 if at < rule.len() => {
+                let other = r.below(rule.len());
+                rule.swap(at, other);
+            }
+            _ => rule.insert(at, byte),
+        }
+    }
+    rule
+}
+
+/// A few of the telling bytes, in any order.
+pub fn jumbled(r: &mut Random) -> Vec<u8> {
+    (0..r.between(3, 12)).map(|_| *r.pick(TELLING)).collect()
+}

@@ -1,4 +1,3 @@
 -- What the proofs of the functions cite.
-pub mod Address
 pub mod Agree
 pub mod Verdict

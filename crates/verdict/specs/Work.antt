@@ -9,7 +9,7 @@ use lib.Bits.{bitOr}
 use lib.ListN.{drop, getD, length, replicate, take}
 use Rattle.model.specs.Bits.{bit}
 use Rattle.model.specs.Image.{join, width}
-use Rattle.model.specs.Models.Apart.{depthWord, repeatOf, stateWord, widthWord}
+use Rattle.model.specs.Models.Apart.{depthWord, gatherAt, propagateAt, repeatOf, scatterAt, stateWord, widthWord}
 use Rattle.model.specs.Models.LayOut.{gather-block, gather-source, gather-target, letter-place, loop-place, scatter-block, scatter-source, scatter-target}
 use Rattle.model.specs.Models.Verdict.{sameWords}
 use Rattle.model.specs.Models.Words.{andWords, eachWord, value}
@@ -23,16 +23,6 @@ use Rattle.image.specs.Work.{threeRows}
 use Rattle.verdict.specs.declared.apart.Marks.{Marks}
 use Rattle.verdict.specs.declared.header.Header.{Header}
 use Rattle.verdict.specs.declared.header.Header.the-variants.{Other, Sound}
-
--- ---- where the masks of a section begin, after its count
-abbrev pub scatterAt : ℕ → ℕ
-scatterAt W = 7 + 512 * W
-
-abbrev pub gatherAt : ℕ → ℕ → ℕ
-gatherAt W d = scatterAt W + 1 + 3 * W * d
-
-abbrev pub propagateAt : ℕ → ℕ → ℕ
-propagateAt W d = gatherAt W d + 1 + 3 * W * d
 
 -- n words from a place on
 abbrev pub wordsAt : List ℕ → ℕ → ℕ → List ℕ

@@ -17,7 +17,8 @@ ghost use mathlib.Core.Bool.{cond, not};
 ghost use Prim.Native.Nat.{_+_, _*_, _≤_, _<_, suc};
 ghost use lib.Dec.{eqb};
 ghost use lib.ListN.{length as lengthOf};
-ghost use Rattle.verdict.specs.Work.{gatherAt, propagateAt, sameAll, sameGather, samePropagate, sameRepeats, sameScatter, sameTables, scatterAt};
+ghost use Rattle.model.specs.Models.Apart.{gatherAt, propagateAt, scatterAt};
+ghost use Rattle.verdict.specs.Work.{sameAll, sameGather, samePropagate, sameRepeats, sameScatter, sameTables};
 
 // Each mask of the repeats is the byte's mask of the letters at the loops' places.
 fn repeats_differ(words: &[u64], width: usize, loops: [u64; 8]) -> bool

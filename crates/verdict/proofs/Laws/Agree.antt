@@ -14,7 +14,7 @@ use lib.Pow.{pow-mono}
 use lib.Seq.{drop-append-add, length-take-le, take-at}
 use Rattle.model.specs.Bits.{bit, mask}
 use Rattle.model.specs.Image.{join}
-use Rattle.model.specs.Models.Apart.{anyBelow, bitOf, chunk, depthWord, gatherIn, lettersIn, propagateIn, repeatsIn, scatterIn, stateWord, tape, widthWord}
+use Rattle.model.specs.Models.Apart.{anyBelow, bitOf, chunk, depthWord, gatherAt, gatherIn, lettersIn, propagateAt, propagateIn, repeatsIn, scatterAt, scatterIn, stateWord, tape, widthWord}
 use Rattle.model.specs.Models.LayOut.{begin, blockOf, gather-block, gather-source, gather-target, layOut, letter-place, loop-place, scatter-block, scatter-source, scatter-target, set, sourceOf, targetOf, three, tokenLetters, Which}
 use Rattle.model.specs.Models.Tokens.{Token}
 use Rattle.model.specs.Models.Verdict.{sameWords}
@@ -36,8 +36,8 @@ use Rattle.tape.proofs.Bare.{bares-lay, bares-length}
 use Rattle.tape.proofs.FirstWords.{first-words}
 use Rattle.tape.proofs.Painted.{propagate-block-is, propagate-source-is, propagate-target-is, row-is}
 use Rattle.image.specs.Work.{threeRows}
-use Rattle.verdict.specs.Work.{gatherAt, propagateAt, sameAll, sameGather, samePropagate, sameRepeats, sameScatter, sameTables, scatterAt, wordsAt}
-use Rattle.verdict.proofs.Laws.Address.{chunk-at, gather-at, part-of-part, propagate-at, repeats-at, scatter-at}
+use Rattle.verdict.specs.Work.{sameAll, sameGather, samePropagate, sameRepeats, sameScatter, sameTables, wordsAt}
+use Rattle.model.proofs.Image.Address.{chunk-at, gather-at, part-of-part, propagate-at, repeats-at, scatter-at}
 
 -- ---- a section and its parts
 join-below : (n a : ℕ) (f g : ℕ → List ℕ) → ((k : ℕ) → k < n → f (a + k) ≡ g (a + k)) → join n a f ≡ join n a g

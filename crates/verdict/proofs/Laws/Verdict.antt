@@ -13,7 +13,7 @@ use Rattle.model.specs.Answers.{ImageOf, NoImage}
 use Rattle.model.specs.Bits.{bit}
 use Rattle.model.specs.Edges.{depth, states}
 use Rattle.model.specs.Image.{width}
-use Rattle.model.specs.Models.Apart.{anyBelow, bitOf, depthWord, gatherIn, lettersIn, propagateIn, repeatsIn, scatterIn, stateWord, tape, tokenAt, widthWord}
+use Rattle.model.specs.Models.Apart.{anyBelow, bitOf, depthWord, gatherAt, gatherIn, lettersIn, propagateAt, propagateIn, repeatsIn, scatterAt, scatterIn, stateWord, tape, tokenAt, widthWord}
 use Rattle.model.specs.Models.LayOut.{begin, letter-place, loop-place, reach, valid}
 use Rattle.model.specs.Models.Tokens.{parse, Token, tokens}
 use Rattle.model.specs.Models.Verdict.{accepts, sameWords}
@@ -31,8 +31,8 @@ use Rattle.tape.specs.declared.Shape.{Shape}
 use Rattle.tape.specs.declared.Shape.the-variants.{Other, Tree}
 use Rattle.tape.specs.declared.Tape.{Tape}
 use Rattle.tape.proofs.Bare.{bares-length, bares-reach, bares-valid}
-use Rattle.verdict.specs.Work.{countsFit, headerFits, sameAll, sameGather, samePropagate, sameRepeats, sameScatter, shapeFits, gatherAt, propagateAt, scatterAt}
-use Rattle.verdict.proofs.Laws.Address.{gather-at, repeats-at, scatter-at}
+use Rattle.verdict.specs.Work.{countsFit, headerFits, sameAll, sameGather, samePropagate, sameRepeats, sameScatter, shapeFits}
+use Rattle.model.proofs.Image.Address.{gather-at, repeats-at, scatter-at}
 use Rattle.verdict.proofs.Laws.Agree.{gather-is, letters-is, propagate-is, repeats-is, scatter-is}
 
 same-number : {x y : ℕ} → x ≡ y → eqb x y ≡ true

@@ -6,7 +6,9 @@ mod building;
 use crate::building::store_tree;
 use rule::Outcome;
 use rule::read_rule;
-ghost use Rattle.model.specs.Answers.{BuildSays};
+use writing::Written;
+ghost use Rattle.model.specs.Answers.{BuildSays, ReadBackSays};
+ghost use Rattle.writing.specs.Says.{writtenAnswer};
 ghost use Rattle.watcher.specs.Answers.{builtAnswer};
 
 // What build answers: the refusals 1 to 5 in the table's order, or done, with the image's length.
@@ -32,4 +34,11 @@ pub fn build(rule: &[u8], image: &mut [u64]) -> Built
         Outcome::TooManyStates => Built::TooManyStates,
         Outcome::Tree(states) => store_tree(tokens, states, image),
     }
+}
+
+// Read back: from an image to the plain writing of its tree, in lent bytes. The refusals are 6 and 8; done gives the writing's length.
+pub fn read_back(image: &[u64], bytes: &mut [u8]) -> Written
+    ensures { λ r. ⌜ ReadBackSays (now (image .entry)) (now (bytes .entry)) (writtenAnswer r (now (bytes .exit))) ⌝ }
+{
+    writing::read_back(image, bytes)
 }

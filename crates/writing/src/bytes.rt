@@ -25,7 +25,7 @@ fn hex_digit(d: u8) -> u8
 
 // "plain and not `-`, itself; a sign or `-`, with `\` before it; else `\x` and two upper-case digits"; and the place after it
 pub fn write_byte(out: &mut [u8], at: usize, byte: u8) -> usize
-    requires { ⌜ at < 2 ^ 32 ⌝ }
+    requires { ⌜ at < 2 ^ 33 ⌝ }
     ensures place { λ r. ⌜ r ≡ at + length (byteWriting byte) ⌝ }
     ensures written { λ r. ⌜ now (out .exit) ≡ sets (now (out .entry)) at (byteWriting byte) ⌝ }
 {

@@ -1,0 +1,125 @@
+-- `write_byte`: two tests choose between three texts, each of them stored byte by byte.
+use mathlib.Core.Path.{sym, ap, _∙_}
+use mathlib.Core.Logic.{⊎-elim, inl, inr}
+use mathlib.Core.List.{List}
+use Prim.Native.Nat.{ℕ, _+_}
+use native.Mathlib.Numerals.{add-one, add-three, add-two}
+use borrow.Author.Needs.{needs}
+use borrow.Author.Tests.{leb-false, leb-true}
+use lib.ListN.{length}
+use Rattle.writing.proofs.Laws.Bytes.{number-writing, plain-writing, sign-writing}
+use Rattle.writing.proofs.bytes.write_byte.Statement.{statement}
+use Rattle.writing.proofs.bytes.write_byte.Tie as tie
+
+is-escaped-requires : tie.Need-is-escaped-requires
+is-escaped-requires c κs = search needs
+
+put-requires : tie.Need-put-requires
+put-requires c κs = search needs
+
+add-put : tie.Need-add-put
+add-put c = search needs
+
+put-requires-2 : tie.Need-put-requires-2
+put-requires-2 c κs = search needs
+
+add-result : tie.Need-add-result
+add-result c = search needs
+
+same-length : tie.Need-same-length
+same-length c = search needs
+
+returns : tie.Need-returns
+returns c =
+    let t = c .before .before .before .before .before .before .before .before in
+    let a = t .before .before .before .args in
+    let e = sign-writing (a .byte) (sym (t .before .is-escaped .ensures) ∙ t .if1 .taken) in
+    (ap (λ (w : List ℕ). a .at + length w) (sym e), rw e (cc (add-one (a .at))))
+
+put-requires-3 : tie.Need-put-requires-3
+put-requires-3 c κs = search needs
+
+add-result-2 : tie.Need-add-result-2
+add-result-2 c = search needs
+
+same-length-2 : tie.Need-same-length-2
+same-length-2 c = search needs
+
+returns-2 : tie.Need-returns-2
+returns-2 c =
+    let t = c .before .before .before .before in
+    let s = t .before .before in
+    let a = s .before .before .before .args in
+    let e = plain-writing (a .byte) (sym (s .before .is-escaped .ensures) ∙ s .if1 .left) (t .before .if2 .taken) (leb-true _ _ (t .if3 .taken)) in
+    (ap (λ (w : List ℕ). a .at + length w) (sym e), rw e (cc))
+
+put-requires-4 : tie.Need-put-requires-4
+put-requires-4 c κs = search needs
+
+add-put-2 : tie.Need-add-put-2
+add-put-2 c = search needs
+
+put-requires-5 : tie.Need-put-requires-5
+put-requires-5 c κs = search needs
+
+add-put-3 : tie.Need-add-put-3
+add-put-3 c = search needs
+
+hex-digit-requires : tie.Need-hex-digit-requires
+hex-digit-requires c κs = search needs
+
+put-requires-6 : tie.Need-put-requires-6
+put-requires-6 c κs = search needs
+
+add-put-4 : tie.Need-add-put-4
+add-put-4 c = search needs
+
+hex-digit-requires-2 : tie.Need-hex-digit-requires-2
+hex-digit-requires-2 c κs = search needs
+
+put-requires-7 : tie.Need-put-requires-7
+put-requires-7 c κs = search needs
+
+add-result-3 : tie.Need-add-result-3
+add-result-3 c = search needs
+
+same-length-3 : tie.Need-same-length-3
+same-length-3 c = search needs
+
+returns-3 : tie.Need-returns-3
+returns-3 c =
+    let n = c .before .before .before .before .before .before .before .before .before .before in
+    let t = n .before .before .before .before .before .before .before .before in
+    let s = t .before in
+    let a = s .before .before .before .args in
+    let beyond = ⊎-elim (λ w. inr (leb-false _ _ (w .1 .left))) (λ w. inl (w .left)) (t .if2 .came) in
+    let e = number-writing (a .byte) (sym (s .before .is-escaped .ensures) ∙ s .if1 .left) beyond in
+    (ap (λ (w : List ℕ). a .at + length w) (sym e), rw e (cc (add-one (a .at), add-two (a .at), add-three (a .at))))
+
+pub write-byte-spec : {M : Type 1} → statement M
+write-byte-spec =
+    tie.close
+    (tie.spec
+    is-escaped-requires
+    put-requires
+    add-put
+    put-requires-2
+    add-result
+    same-length
+    returns
+    put-requires-3
+    add-result-2
+    same-length-2
+    returns-2
+    put-requires-4
+    add-put-2
+    put-requires-5
+    add-put-3
+    hex-digit-requires
+    put-requires-6
+    add-put-4
+    hex-digit-requires-2
+    put-requires-7
+    add-result-3
+    same-length-3
+    returns-3)

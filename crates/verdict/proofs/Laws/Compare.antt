@@ -1,6 +1,6 @@
 -- A SECTION COMPARED WORD BY WORD WITH PARTS OF w WORDS EACH: word j of part k stands w * k + j words after the first, so where it differs the section
 -- is not the parts joined, and where none does it is.
-use mathlib.Core.Path.{_≡_, sym, ap, _∙_, subst}
+use mathlib.Core.Path.{_≡_, sym, ap, _∙_}
 use mathlib.Core.Bool.{true, false}
 use mathlib.Core.List.{List, _++_}
 use Prim.Native.Nat.{ℕ, zero, suc, _+_, _*_, _≤_, _<_}
@@ -12,7 +12,8 @@ use Rattle.model.specs.Image.{join}
 use Rattle.model.specs.Models.Verdict.{sameWords}
 use Rattle.mask.proofs.Laws.Filled.{Filled, filled-all, filled-next, filled-none}
 use Rattle.mask.proofs.Laws.Same.{same-false, same-true}
-use Rattle.image.proofs.Laws.Parts.{AllLong, length-section, part-fits}
+use Rattle.model.proofs.Image.Address.{part-fits}
+use Rattle.image.proofs.Laws.Parts.{AllLong, length-section}
 use Rattle.verdict.specs.Work.{wordsAt}
 -- Repeats: the section of the repeats beside the letters at the loops' places. Tables: three masks for each depth.
 pub mod Repeats
@@ -34,13 +35,13 @@ module _ (w : ℕ) (f : ℕ → List ℕ) where
   word-from (suc n) a zero j long h l =
       let e : w * 0 + j ≡ j = omega arith in
       let first : a + 0 ≡ a = omega arith in
-      let e₀ : length (f a) ≡ w = ap (λ (i : ℕ). length (f i)) (sym first) ∙ long 0 (omega arith) in
+      let long₀ : length (f a) ≡ w = ap (λ (i : ℕ). length (f i)) (sym first) ∙ long 0 (omega arith) in
       ap (λ (i : ℕ). getD (f a ++ join n (suc a) f) i 0) e
       ∙ List·getD-append (f a) (join n (suc a) f) 0 j (omega arith)
       ∙ ap (λ (i : ℕ). getD (f i) j 0) (sym first)
   word-from (suc n) a (suc k) j long h l =
       let first : a + 0 ≡ a = omega arith in
-      let e₀ : length (f a) ≡ w = ap (λ (i : ℕ). length (f i)) (sym first) ∙ long 0 (omega arith) in
+      let long₀ : length (f a) ≡ w = ap (λ (i : ℕ). length (f i)) (sym first) ∙ long 0 (omega arith) in
       let e : w * suc k + j ≡ length (f a) + (w * k + j) = omega (arith, mul-suc w k) in
       let next : (i : ℕ) → suc a + i ≡ a + suc i = λ i. omega arith in
       ap (λ (i : ℕ). getD (f a ++ join n (suc a) f) i 0) e

@@ -29,7 +29,7 @@ pub both : {A B : Type 0} {a b r : Bool} → (A → (a ≡ true) × (r ≡ b)) �
 both f g (inl w) = here (f w .0) (f w .1)
 both {b = b} f g (inr w) = stops b (g w .0) (g w .1)
 
-pub in-turn : (a b c d e : Bool) {first second third : Bool} → first ≡ (a && b) → second ≡ (first && c) → third ≡ (second && d)
+in-turn : (a b c d e : Bool) {first second third : Bool} → first ≡ (a && b) → second ≡ (first && c) → third ≡ (second && d)
     → (third && e) ≡ (a && (b && (c && (d && e))))
 in-turn a b c d e p q r =
     ap (λ (t : Bool). t && e) (r ∙ ap (λ (t : Bool). t && d) (q ∙ ap (λ (t : Bool). t && c) p))
@@ -115,9 +115,6 @@ module _ (ws : List ℕ) where
     pub wide : W ≡ width m
     pub shallow : d ≤ 8
 
-  pub narrow : Shape → W ≤ 8
-  narrow S = omega (arith, S .few-states, S .wide)
-
   pub shape-of : T (shapeFits ws) → Shape
   shape-of t =
       let a = and-split (leb 4 (length ws)) _ t in
@@ -181,39 +178,48 @@ pub not-told : (b : Bool) (ws : List ℕ) {answer : Header} → answer ≡ heade
 not-told true ws e f t = let z : _≡_ {A = ℕ} 0 1 = cc in omega arith
 not-told false ws e f t = t
 
--- the words' own numbers, and those told
+-- ---- the numbers told, and the words' own
+pub record Small (states width depth : ℕ) : Type 0 where
+  pub some-states : 2 ≤ states
+  pub few-states : states ≤ 512
+  pub narrow : width ≤ 8
+  pub shallow : depth ≤ 8
+
 module _ {b : Bool} {ws : List ℕ} {states width depth : ℕ} (K : Told b ws states width depth) where
-  pub length-told : 9 + width * (515 + 9 * depth) ≡ 9 + widthWord ws * (515 + 9 * depthWord ws)
+  pub small-told : Shape ws → Small states width depth
+  small-told S = record {
+    some-states = omega (arith, K .states-are, S .some-states);
+    few-states = omega (arith, K .states-are, S .few-states);
+    narrow = omega (arith, K .width-is, S .wide, S .few-states);
+    shallow = omega (arith, K .depth-is, S .shallow);
+  }
+
+  length-told : 9 + width * (515 + 9 * depth) ≡ 9 + widthWord ws * (515 + 9 * depthWord ws)
   length-told i = 9 + K .width-is i * (515 + 9 * K .depth-is i)
 
-  pub counts-told : countsFit ws width depth ≡ countsFit ws (widthWord ws) (depthWord ws)
+  counts-told : countsFit ws width depth ≡ countsFit ws (widthWord ws) (depthWord ws)
   counts-told i = countsFit ws (K .width-is i) (K .depth-is i)
 
-  pub sound-told : Sound states width depth ≡ Sound (stateWord ws) (widthWord ws) (depthWord ws)
+  sound-told : Sound states width depth ≡ Sound (stateWord ws) (widthWord ws) (depthWord ws)
   sound-told i = Sound (K .states-are i) (K .width-is i) (K .depth-is i)
 
--- where the shape was told, its numbers are small, and the length and the counts decide
+  pub long-told : Fits ws → length ws ≡ 9 + width * (515 + 9 * depth)
+  long-told F = F .long ∙ sym length-told
+
+-- ---- after the shape the length decides, and then the counts
+pub shape-fails : (ws : List ℕ) → (T (shapeFits ws) → ⊥) → Other ≡ headerIf (headerFits ws) ws
+shape-fails ws n = refused (headerFits ws) ws (λ t. n (and-split (shapeFits ws) _ t .0))
+
 module _ {ws : List ℕ} {states width depth : ℕ} (K : Told (shapeFits ws) ws states width depth) where
-  shape-told : Shape ws
-  shape-told = shape-of ws (K .passed)
-
-  pub narrow-told : width ≤ 8
-  narrow-told = omega (arith, K .width-is, narrow ws shape-told)
-
-  pub shallow-told : depth ≤ 8
-  shallow-told = omega (arith, K .depth-is, shape-told .shallow)
-
   pub length-fails : (length ws ≡ 9 + width * (515 + 9 * depth) → ⊥) → Other ≡ headerIf (headerFits ws) ws
-  length-fails n = refused (headerFits ws) ws (λ t. n (fits-of ws t .long ∙ sym (length-told K)))
+  length-fails n = refused (headerFits ws) ws (λ t. n (long-told K (fits-of ws t)))
 
   pub counts-fail : countsFit ws width depth ≡ false → Other ≡ headerIf (headerFits ws) ws
   counts-fail e = refused (headerFits ws) ws (λ t. subst T (sym (counts-told K) ∙ e) (fits-of ws t .counts))
 
-  pub header-passes : length ws ≡ 9 + width * (515 + 9 * depth) → countsFit ws width depth ≡ true → Sound states width depth ≡ headerIf (headerFits ws) ws
+  pub header-passes : length ws ≡ 9 + width * (515 + 9 * depth) → countsFit ws width depth ≡ true
+      → Sound states width depth ≡ headerIf (headerFits ws) ws
   header-passes l e =
       sound-told K
       ∙ taken (headerFits ws) ws
-      (header-fits ws (record { shape = shape-told; long = l ∙ length-told K; counts = subst T (sym e ∙ counts-told K) tt }))
-
-pub shape-fails : (ws : List ℕ) → (T (shapeFits ws) → ⊥) → Other ≡ headerIf (headerFits ws) ws
-shape-fails ws n = refused (headerFits ws) ws (λ t. n (and-split (shapeFits ws) _ t .0))
+      (header-fits ws (record { shape = shape-of ws (K .passed); long = l ∙ length-told K; counts = subst T (sym e ∙ counts-told K) tt }))

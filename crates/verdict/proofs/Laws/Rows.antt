@@ -16,7 +16,8 @@ use Rattle.model.specs.Models.Words.{eachWord, Fit, value}
 use Rattle.model.proofs.Laws.Bits.{bit-zero}
 use Rattle.model.proofs.Words.Bits.{bit-and, bit-not, bit-or}
 use Rattle.mask.proofs.Laws.Bits.{none-bit, none-fit, row-bit}
-use Rattle.mask.proofs.Laws.Each.{each-length, each-word}
+use Rattle.model.proofs.Words.Operations.{each-length}
+use Rattle.mask.proofs.Laws.Each.{each-word}
 use Rattle.tape.specs.Joins.{joinWord}
 use Rattle.tape.specs.declared.join.Join.the-variants.{Only}
 use Rattle.verdict.specs.Work.{enteredWords, orFirst, orRows, wordsAt}
@@ -60,14 +61,14 @@ one-more (x ∷ row) [] j h k = absurd (not-suc-le-zero k)
 one-more (x ∷ row) (y ∷ xs) zero h k = ap (λ (l : List ℕ). bitOr x y ∷ l) (sym (or-nothing row))
 one-more (x ∷ row) (y ∷ xs) (suc j) h k = ap (λ (l : List ℕ). bitOr x y ∷ l) (one-more row xs j (le-of-suc-le-suc h) (le-of-suc-le-suc k))
 
-pub or-more : (row xs : List ℕ) {either : List ℕ} {j : ℕ} (v : ℕ) → either ≡ orFirst row (take j xs) → j < length row → j < length xs → v ≡ getD xs j 0
-    → set either j (bitOr (getD either j 0) v) ≡ orFirst row (take (j + 1) xs)
+pub or-more : (row xs : List ℕ) {either : List ℕ} {j : ℕ} (v : ℕ) → either ≡ orFirst row (take j xs) → j < length row → j < length xs
+    → v ≡ getD xs j 0 → set either j (bitOr (getD either j 0) v) ≡ orFirst row (take (j + 1) xs)
 or-more row xs {either} {j} v e h k q =
     ap₂ (λ (l : List ℕ) (w : ℕ). set l j (bitOr (getD l j 0) w)) e q
     ∙ one-more row xs j h k ∙ ap (λ (i : ℕ). orFirst row (take i xs)) (sym (add-one j))
 
 -- ---- the bits
-pub or-length : (xs ys : List ℕ) → length (orFirst xs ys) ≡ length xs
+or-length : (xs ys : List ℕ) → length (orFirst xs ys) ≡ length xs
 or-length [] ys = refl
 or-length (x ∷ xs) [] = refl
 or-length (x ∷ xs) (y ∷ ys) = ap suc (or-length xs ys)

@@ -196,7 +196,7 @@ module _ (ws : List ℕ) (fit : Fit ws) (H : Headed ws) (t : Tape) (size : t .le
         propagate-count =
             count-at (gatherIn ws) ws (gatherAt W d) (3 * W * d) (8 + 512 * W + 6 * W * d) (gather-at ws) (omega (arith, mul-assoc 3 W d, mul-assoc 6 W d)) ∙ H .propagate-count;
         letters = letters-is ws t taken grown b narrow (H .few) fits letters eight fit-letters bits .0
-          (and-split letters-same (repeats-same && (scatter-same && (gather-same && propagate-same))) all .0);
+            (and-split letters-same (repeats-same && (scatter-same && (gather-same && propagate-same))) all .0);
         repeats = repeats-is ws t taken grown b narrow (omega (arith, H .long)) .0 (and-split repeats-same (scatter-same && (gather-same && propagate-same)) rest₁ .0);
         scatter = scatter-is ws t taken grown b narrow (H .shallow) .0 (and-split scatter-same (gather-same && propagate-same) rest₂ .0);
         gather = gather-is ws t taken grown b narrow (H .shallow) .0 (and-split gather-same propagate-same rest₃ .0);

@@ -20,7 +20,7 @@ use Rattle.image.proofs.Laws.Written.{length-image}
 use Rattle.writing.specs.Says.{WrittenSays}
 use Rattle.writing.specs.Work.{bytesAfter, Lettered, rangeText, writtenIf}
 use Rattle.writing.specs.declared.Written.{Written}
-use Rattle.writing.proofs.Laws.Whole.{all-written}
+use Rattle.writing.proofs.Laws.Plain.{all-written}
 
 module _ (ws : List ℕ) (s : Tree) (I : ImageOf ws s) where
   abbrev W : ℕ

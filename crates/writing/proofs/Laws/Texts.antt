@@ -12,6 +12,9 @@ abbrev pub Writes : (before : List ℕ) (at : ℕ) (text after : List ℕ) (plac
 Writes before at text after place = (place ≡ at + length text) × (after ≡ sets before at text)
 
 module _ (l : List ℕ) (at : ℕ) where
+  pub writes-none : Writes l at [] l at
+  writes-none = (omega arith, refl)
+
   pub writes-one : (b : ℕ) {r : List ℕ} → r ≡ set l at b → Writes l at (b ∷ []) r (at + 1)
   writes-one b e = (refl, e)
 

@@ -9,7 +9,8 @@ use lib.Bits.{bitAnd}
 use lib.ListN.{getD, length}
 use Rattle.model.specs.Models.Words.{andWords, eachWord}
 use Rattle.mask.proofs.Laws.Each.{each-word}
-use Rattle.image.proofs.Laws.Parts.{AllLong, part-fits}
+use Rattle.model.proofs.Image.Address.{part-fits}
+use Rattle.image.proofs.Laws.Parts.{AllLong}
 use Rattle.verdict.specs.Work.{sameRepeats, wordsAt}
 use Rattle.verdict.proofs.Laws.Compare.{differ-here, length-there, same-all, same-more, same-none, SameTo, word-there}
 
@@ -43,15 +44,13 @@ pub record RepeatsTo (ws : List ℕ) (W : ℕ) (loops : List ℕ) (q : ℕ) : Ty
   pub fits : 6 + 512 * W ≤ length ws
   pub same : SameTo ws (6 + 256 * W) (256 * W) W 256 (loopedRow ws W loops) q
 
-pub repeats-none : {ws : List ℕ} {W : ℕ} {loops : List ℕ} → W ≤ 8 → 6 + 512 * W ≤ length ws → length loops ≡ 8 → RepeatsTo ws W loops (W * 0)
+pub repeats-none : {ws : List ℕ} {W : ℕ} {loops : List ℕ} → W ≤ 8 → 6 + 512 * W ≤ length ws → length loops ≡ 8 → RepeatsTo ws W loops 0
 repeats-none {ws} {W} {loops} h fits e =
-    let narrow : W ≤ length loops = omega arith in
-    let z : 0 ≡ W * 0 = omega arith in
-    subst (RepeatsTo ws W loops) z (record {
+    let narrow : W ≤ length loops = omega arith in record {
       narrow = narrow;
       fits = fits;
       same = same-none (mul-comm 256 W) (looped-long ws W loops fits narrow) (omega arith);
-    })
+    }
 
 module _ {ws : List ℕ} {W : ℕ} {loops : List ℕ} {q : ℕ} (S : RepeatsTo ws W loops q) where
   pub repeats-at : {p : ℕ} → q ≡ p → RepeatsTo ws W loops p

@@ -12,7 +12,7 @@ use lib.Seq.{getD-append-add, getD-take}
 use Rattle.tape.specs.Tables.{Table}
 use Rattle.image.specs.Work.{threeRows}
 use Rattle.image.proofs.Laws.Lengths.{depthRows, depths-long, Eights, length-row}
-use Rattle.image.proofs.Laws.Parts.{part-fits}
+use Rattle.model.proofs.Image.Address.{part-fits}
 use Rattle.verdict.specs.Work.{sameTables}
 use Rattle.verdict.proofs.Laws.Compare.{differ-here, place-in, same-all, same-more, same-none, SameTo}
 

@@ -23,10 +23,14 @@ mul-or-entered : tie.Need-mul-or-entered Inv-loop μ-loop
 mul-or-entered c = search needs
 
 mul-or-entered-2 : tie.Need-mul-or-entered-2 Inv-loop μ-loop
-mul-or-entered-2 c = let a = c .before .before .before .args in omega (arith, mask-within (3 * a .width) (c .before .loop .k) (a .count) (c .loop-test .taken))
+mul-or-entered-2 c =
+    let a = c .before .before .before .args in
+    omega (arith, mask-within (3 * a .width) (c .before .loop .k) (a .count) (c .loop-test .taken))
 
 add-or-entered : tie.Need-add-or-entered Inv-loop μ-loop
-add-or-entered c = let a = c .before .before .before .args in omega (arith, mask-within (3 * a .width) (c .before .loop .k) (a .count) (c .loop-test .taken))
+add-or-entered c =
+    let a = c .before .before .before .args in
+    omega (arith, mask-within (3 * a .width) (c .before .loop .k) (a .count) (c .loop-test .taken))
 
 or-entered-requires : tie.Need-or-entered-requires Inv-loop μ-loop
 or-entered-requires c κs =

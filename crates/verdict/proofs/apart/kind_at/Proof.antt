@@ -92,14 +92,16 @@ returns-3 : tie.Need-returns-3
 returns-3 c =
     let a = c .before .before .before .before .before .before .before .before .before .before .before .args in
     ap (λ (b : Bool). cond b 4 5) (sym (c .if3 .taken) ∙ c .before .row-has-bit5 .ensures)
-    ∙ is-neither (a .marks) (a .i) (sym (c .before .before .before .before .before .row-has-bit .ensures) ∙ c .before .before .before .before .if1 .left)
+    ∙ is-neither (a .marks) (a .i)
+    (sym (c .before .before .before .before .before .row-has-bit .ensures) ∙ c .before .before .before .before .if1 .left)
     (sym (c .before .before .before .row-has-bit4 .ensures) ∙ c .before .before .if2 .left)
 
 returns-4 : tie.Need-returns-4
 returns-4 c =
     let a = c .before .before .before .before .before .before .before .before .before .before .before .args in
     ap (λ (b : Bool). cond b 4 5) (sym (c .if3 .left) ∙ c .before .row-has-bit5 .ensures)
-    ∙ is-neither (a .marks) (a .i) (sym (c .before .before .before .before .before .row-has-bit .ensures) ∙ c .before .before .before .before .if1 .left)
+    ∙ is-neither (a .marks) (a .i)
+    (sym (c .before .before .before .before .before .row-has-bit .ensures) ∙ c .before .before .before .before .if1 .left)
     (sym (c .before .before .before .row-has-bit4 .ensures) ∙ c .before .before .if2 .left)
 
 pub kind-at-spec : {M : Type 1} → statement M

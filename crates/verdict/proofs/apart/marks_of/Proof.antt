@@ -79,11 +79,11 @@ some-row-requires-4 c κs = search needs
 returns : tie.Need-returns
 returns c =
     let a = c .before .before .before .before .before .before .args in
-    let entered = c .before .before .entered-row .ensures ∙ ap (enteredRow (a .words .now) (propagateAt (a .width) (a .depth)) (a .width)) (add-one (a .depth)) in
+    let next = ap (enteredRow (a .words .now) (propagateAt (a .width) (a .depth)) (a .width)) (add-one (a .depth)) in
     λ i. record {
       letters = c .before .before .before .before .some-row .ensures i;
       loops = c .before .before .before .some-row2 .ensures i;
-      entered = entered i;
+      entered = (c .before .before .entered-row .ensures ∙ next) i;
       closes = c .before .some-row3 .ensures i;
       opens = c .some-row4 .ensures i;
     }

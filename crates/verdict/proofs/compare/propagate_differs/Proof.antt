@@ -24,7 +24,9 @@ returns c =
     let target = c .before in
     let source = target .before in
     let block = source .before in
-    rw (add-one (block .before .before .args .depth), block .propagate-block .ensures .0, source .propagate-source .ensures .0, target .propagate-target .ensures .0) at (c .tables-differ .ensures)
+    let e = add-one (block .before .before .args .depth) in
+    rw (e, block .propagate-block .ensures .0, source .propagate-source .ensures .0, target .propagate-target .ensures .0)
+    at (c .tables-differ .ensures)
 
 pub propagate-differs-spec : {M : Type 1} → statement M
 propagate-differs-spec =

@@ -2,11 +2,11 @@
 use mathlib.Core.Path.{_≡_, refl, sym, ap, _∙_}
 use mathlib.Core.Bool.{false, not}
 use Prim.Native.Nat.{_+_, _*_, _-_, _≤_}
-use native.Mathlib.Nat.{add-zero, mul-suc}
+use native.Mathlib.Nat.{add-zero, mul-suc, mul-zero}
 use native.Mathlib.Numerals.{add-one}
 use native.Mathlib.Omega.{arith}
 use borrow.Author.Needs.{needs}
-use Rattle.image.proofs.Laws.Parts.{part-fits}
+use Rattle.model.proofs.Image.Address.{part-fits}
 use Rattle.verdict.proofs.Laws.Compare.Repeats.{repeats-all, repeats-at, repeats-differ, repeats-more, repeats-none, RepeatsTo}
 use Rattle.verdict.proofs.compare.repeats_differ.Statement.{statement}
 use Rattle.verdict.proofs.compare.repeats_differ.Tie as tie
@@ -24,7 +24,11 @@ abbrev μ-search : tie.MeasureT-search
 μ-search words width loops differ₀ b₀ differ b = 256 - b
 
 search-holds : tie.Need-search-holds Inv-loop μ-loop Inv-search μ-search
-search-holds c = (refl, omega arith, repeats-none (c .pre .0) (c .pre .1) (c .good .1 .1 .0 .1 .0 .1))
+search-holds c = (
+  refl,
+  omega arith,
+  repeats-at (repeats-none (c .pre .0) (c .pre .1) (c .good .1 .1 .0 .1 .0 .1)) (sym (mul-zero (c .args .width))),
+)
 
 loop-holds : tie.Need-loop-holds Inv-loop μ-loop Inv-search μ-search
 loop-holds c =

@@ -4,7 +4,7 @@ use native.Mathlib.Omega.{arith}
 use borrow.Author.Needs.{needs}
 use borrow.Author.Tests.{not-false, not-true}
 use Rattle.verdict.specs.Work.{shapeFits}
-use Rattle.verdict.proofs.Laws.Header.{counts-fail, header-passes, length-fails, length-small, narrow-told, not-told, shallow-told, shape-fails, told}
+use Rattle.verdict.proofs.Laws.Header.{counts-fail, header-passes, length-fails, length-small, not-told, shape-fails, shape-of, small-told, told}
 use Rattle.verdict.proofs.header.read_header.Statement.{statement}
 use Rattle.verdict.proofs.header.read_header.Tie as tie
 
@@ -26,50 +26,61 @@ returns c =
 
 mul-if1 : tie.Need-mul-if1
 mul-if1 c =
-    let ws = c .before .before .before .before .before .args .words .now in
-    let K = told (shapeFits ws) ws (c .before .before .before .read-shape .ensures) (c .before .shape .given .1) in
-    omega (arith, shallow-told K)
+    let s = c .before in
+    let ws = s .before .before .before .before .args .words .now in
+    let K = told (shapeFits ws) ws (s .before .before .read-shape .ensures) (s .shape .given .1) in
+    omega (arith, small-told K (shape-of ws (K .passed)))
 
 add-if1 : tie.Need-add-if1
 add-if1 c =
-    let ws = c .before .before .before .before .before .args .words .now in
-    let K = told (shapeFits ws) ws (c .before .before .before .read-shape .ensures) (c .before .shape .given .1) in
-    omega (arith, shallow-told K)
+    let s = c .before in
+    let ws = s .before .before .before .before .args .words .now in
+    let K = told (shapeFits ws) ws (s .before .before .read-shape .ensures) (s .shape .given .1) in
+    omega (arith, small-told K (shape-of ws (K .passed)))
 
 mul-if1-2 : tie.Need-mul-if1-2
 mul-if1-2 c =
-    let ws = c .before .before .before .before .before .args .words .now in
-    let K = told (shapeFits ws) ws (c .before .before .before .read-shape .ensures) (c .before .shape .given .1) in
-    omega (arith, length-small _ _ (narrow-told K) (shallow-told K))
+    let s = c .before in
+    let ws = s .before .before .before .before .args .words .now in
+    let K = told (shapeFits ws) ws (s .before .before .read-shape .ensures) (s .shape .given .1) in
+    let S = small-told K (shape-of ws (K .passed)) in
+    omega (arith, length-small _ _ (S .narrow) (S .shallow))
 
 add-if1-2 : tie.Need-add-if1-2
 add-if1-2 c =
-    let ws = c .before .before .before .before .before .args .words .now in
-    let K = told (shapeFits ws) ws (c .before .before .before .read-shape .ensures) (c .before .shape .given .1) in
-    omega (arith, length-small _ _ (narrow-told K) (shallow-told K))
+    let s = c .before in
+    let ws = s .before .before .before .before .args .words .now in
+    let K = told (shapeFits ws) ws (s .before .before .read-shape .ensures) (s .shape .given .1) in
+    let S = small-told K (shape-of ws (K .passed)) in
+    omega (arith, length-small _ _ (S .narrow) (S .shallow))
 
 returns-2 : tie.Need-returns-2
 returns-2 c =
-    let ws = c .before .before .before .before .before .before .args .words .now in
-    let K = told (shapeFits ws) ws (c .before .before .before .before .read-shape .ensures) (c .before .before .shape .given .1) in
+    let s = c .before .before in
+    let ws = s .before .before .before .before .args .words .now in
+    let K = told (shapeFits ws) ws (s .before .before .read-shape .ensures) (s .shape .given .1) in
     length-fails K (c .if1 .taken)
 
 counts-fit-requires : tie.Need-counts-fit-requires
 counts-fit-requires c κs =
-    let ws = c .before .before .before .before .before .before .args .words .now in
-    let K = told (shapeFits ws) ws (c .before .before .before .before .read-shape .ensures) (c .before .before .shape .given .1) in
-    (narrow-told K, shallow-told K, c .if1 .left)
+    let s = c .before .before in
+    let ws = s .before .before .before .before .args .words .now in
+    let K = told (shapeFits ws) ws (s .before .before .read-shape .ensures) (s .shape .given .1) in
+    let S = small-told K (shape-of ws (K .passed)) in
+    (S .narrow, S .shallow, c .if1 .left)
 
 returns-3 : tie.Need-returns-3
 returns-3 c =
-    let ws = c .before .before .before .before .before .before .before .before .args .words .now in
-    let K = told (shapeFits ws) ws (c .before .before .before .before .before .before .read-shape .ensures) (c .before .before .before .before .shape .given .1) in
+    let s = c .before .before .before .before in
+    let ws = s .before .before .before .before .args .words .now in
+    let K = told (shapeFits ws) ws (s .before .before .read-shape .ensures) (s .shape .given .1) in
     counts-fail K (sym (c .before .counts-fit .ensures) ∙ not-true _ (c .if2 .taken))
 
 returns-4 : tie.Need-returns-4
 returns-4 c =
-    let ws = c .before .before .before .before .before .before .before .before .args .words .now in
-    let K = told (shapeFits ws) ws (c .before .before .before .before .before .before .read-shape .ensures) (c .before .before .before .before .shape .given .1) in
+    let s = c .before .before .before .before in
+    let ws = s .before .before .before .before .args .words .now in
+    let K = told (shapeFits ws) ws (s .before .before .read-shape .ensures) (s .shape .given .1) in
     header-passes K (c .before .before .if1 .left) (sym (c .before .counts-fit .ensures) ∙ not-false _ (c .if2 .left))
 
 pub read-header-spec : {M : Type 1} → statement M

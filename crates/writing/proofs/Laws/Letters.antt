@@ -14,15 +14,14 @@ use lib.Seq.{getD-drop, getD-take, set-getD}
 use Rattle.model.specs.Bits.{bit, digit}
 use Rattle.model.specs.Image.{words}
 use Rattle.model.specs.Models.Apart.{bitOf, chunk, lettersIn}
-use Rattle.model.specs.Models.Words.{Fit, value}
+use Rattle.model.specs.Models.Words.{Fit, putBit, value}
 use Rattle.model.proofs.Image.Rows.{val-words}
 use Rattle.model.proofs.Image.SameBits.{fit-drop, fit-take}
 use Rattle.model.proofs.Laws.Bool.{is-true, unequal}
 use Rattle.model.proofs.Words.Bits.{mask-lt}
 use Rattle.model.proofs.Words.Holds.{Holds}
-use Rattle.mask.specs.Rows.{putBit}
 use Rattle.mask.proofs.Laws.Bits.{none-bit, none-fit, one-shifted, read-bit, row-bit}
-use Rattle.mask.proofs.Laws.Put.{put-bit, put-fit, put-length}
+use Rattle.model.proofs.Words.Put.{put-bit, put-fit, put-length}
 use Rattle.writing.specs.Work.{classTo}
 
 -- whether byte b leads to the state

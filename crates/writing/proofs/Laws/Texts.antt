@@ -5,7 +5,7 @@ use Prim.Native.Nat.{ℕ, _+_}
 use native.Mathlib.Omega.{arith}
 use lib.ListN.{length, length-append, set}
 use lib.Seq.{sets}
-use Rattle.rule.proofs.Laws.Writes.{sets-append}
+use Rattle.model.proofs.Laws.Stores.{sets-append}
 
 -- what a function that writes a text leaves, and the place after it
 abbrev pub Writes : (before : List ℕ) (at : ℕ) (text after : List ℕ) (place : ℕ) → Type 0

@@ -22,7 +22,7 @@ use Rattle.model.specs.Models.Words.{andWords, Fit, value}
 use Rattle.model.proofs.Image.Compare.{tape-letters}
 use Rattle.model.proofs.Image.LetterPlaces.{letterPlaces, letters-by-or, no-letter-at-zero, or-is-places}
 use Rattle.model.proofs.Image.Rebuild.{whole}
-use Rattle.model.proofs.Image.Rows.{length-set, length-three, set-same, val-words, wide}
+use Rattle.model.proofs.Image.Rows.{join-same, length-set, length-three, set-same, val-words, wide}
 use Rattle.model.proofs.Image.SameBits.{rows-ext}
 use Rattle.model.proofs.Image.Verdict.{same-words, tape-fine, words-same}
 use Rattle.model.proofs.Laws.Bits.{below-out, below-same}
@@ -37,15 +37,9 @@ use Rattle.tape.proofs.FirstWords.{first-words}
 use Rattle.tape.proofs.Painted.{propagate-block-is, propagate-source-is, propagate-target-is, row-is}
 use Rattle.image.specs.Work.{threeRows}
 use Rattle.verdict.specs.Work.{sameAll, sameGather, samePropagate, sameRepeats, sameScatter, sameTables, wordsAt}
-use Rattle.model.proofs.Image.Address.{chunk-at, gather-at, part-of-part, propagate-at, repeats-at, scatter-at}
+use Rattle.model.proofs.Image.Address.{chunk-at, gather-at, part-fits, part-of-part, propagate-at, repeats-at, scatter-at}
 
 -- ---- a section and its parts
-join-below : (n a : ℕ) (f g : ℕ → List ℕ) → ((k : ℕ) → k < n → f (a + k) ≡ g (a + k)) → join n a f ≡ join n a g
-join-below zero a f g h = refl
-join-below (suc n) a f g h =
-    ap₂ _++_ (let e : a + 0 ≡ a = omega arith in subst (λ (j : ℕ). f j ≡ g j) e (h 0 (omega arith)))
-    (join-below n (suc a) f g (λ k l. let e : a + suc k ≡ suc a + k = omega arith in subst (λ (j : ℕ). f j ≡ g j) e (h (suc k) (omega arith))))
-
 chunk-below : (w n a : ℕ) (g : ℕ → List ℕ) → ((k : ℕ) → k < n → length (g (a + k)) ≡ w) → (k : ℕ) → k < n → chunk w k (join n a g) ≡ g (a + k)
 chunk-below w zero a g long k h = absurd (omega arith)
 chunk-below w (suc n) a g long zero h =
@@ -65,7 +59,7 @@ chunk-below w (suc n) a g long (suc k) h =
 module _ (w n : ℕ) (g : ℕ → List ℕ) (long : (k : ℕ) → k < n → length (g k) ≡ w) (S : List ℕ) where
   parts-of : take (w * n) S ≡ join n 0 g → (k : ℕ) → k < n → chunk w k S ≡ g k
   parts-of e k h =
-      sym (part-of-part w (w * k) (w * n) S (omega (arith, mul-suc w k, mul-le-mul-left w h)))
+      sym (part-of-part w (w * k) (w * n) S (part-fits w h))
       ∙ ap (chunk w k) e
       ∙ chunk-below w n 0 g (λ j l. ap (λ (i : ℕ). length (g i)) (zero-add j) ∙ long j l) k h
       ∙ ap g (zero-add k)
@@ -79,7 +73,7 @@ module _ (w n : ℕ) (g : ℕ → List ℕ) (long : (k : ℕ) → k < n → leng
   )
     where
       rows : join n 0 f ≡ join n 0 g
-      rows = join-below n 0 f g (λ k l. let e : k ≡ 0 + k = omega arith in subst (λ (j : ℕ). f j ≡ g j) e (r k l))
+      rows = join-same n 0 f g (λ k l. r k (omega arith))
 
 -- ---- the rows of a tape whose tokens are those taken from the words
 module _ (ws : List ℕ) (t : Tape) (taken : tokensOf t ≡ bares (tape ws)) (tree : T (isTree t)) (between : stateWord ws ≡ suc (length (tape ws)))

@@ -19,9 +19,9 @@ use Rattle.tape.specs.Tokens as kinds
 use Rattle.tape.specs.declared.Tape.{Tape}
 use Rattle.image.proofs.Laws.Tapes.{read-kind}
 use Rattle.verdict.specs.Work.{ApartAs, enteredWords, kindAt, marksOf, orRows, wordsAt}
-use Rattle.model.proofs.Image.Address.{gather-at, propagate-at, scatter-at}
+use Rattle.model.proofs.Image.Address.{gather-at, part-fits, propagate-at, scatter-at}
 use Rattle.verdict.proofs.Laws.Address.{chunk-at, repeats-at, three-at}
-use Rattle.verdict.proofs.Laws.Rows.{entered-long, Mask, mask-within, only-bit, only-fit, rows-bit, rows-fit, rows-length, words-long}
+use Rattle.verdict.proofs.Laws.Rows.{entered-long, Mask, only-bit, only-fit, rows-bit, rows-fit, rows-length, words-long}
 
 -- ---- a token by its kind
 kind-is : (l : Bool) (class : ℕ) (s p c o : Bool) → cond l (repeatKind (repeatOf s p)) (cond c 6 (cond o 4 5)) ≡ kindOf (tokenOf l class s p c o)
@@ -57,7 +57,7 @@ module _ (ws : List ℕ) (fit : Fit ws) (W d : ℕ) (narrow : W ≤ 8) (long : l
   words-mask at h = record { fit = words-fit at; few = omega (arith, words-long ws at W h) }
 
   letter-masks : (b : ℕ) → b < 256 → Mask (wordsAt ws (5 + W * b) W)
-  letter-masks b h = words-mask (5 + W * b) (omega (arith, mask-within W b 256 h))
+  letter-masks b h = words-mask (5 + W * b) (omega (arith, part-fits W h))
 
   -- THE LETTERS' ROW
   pub letters-row : (x : ℕ) → bit (value (marksOf ws W d .letters)) x ≡ anyBelow 256 (λ b. bitOf W (lettersIn ws) b x)
@@ -86,13 +86,13 @@ module _ (ws : List ℕ) (fit : Fit ws) where
     loops-row : (x : ℕ) → bit (value (marksOf ws W d .loops)) x ≡ anyBelow 256 (λ b. bitOf W (repeatsIn ws) b x)
     loops-row x =
         row-bit 256 (λ b. wordsAt ws (6 + 256 * W + W * b) W) (λ b. bitOf W (repeatsIn ws) b x) x
-        (λ b h. masks (6 + 256 * W + W * b) (omega (arith, mask-within W b 256 h)))
+        (λ b h. masks (6 + 256 * W + W * b) (omega (arith, part-fits W h)))
         (λ b h. mask-bit x (chunk-at ws (repeatsIn ws) (6 + 256 * W) W (repeats-at ws) b))
 
     closes-row : (x : ℕ) → bit (value (marksOf ws W d .closes)) x ≡ anyBelow d (λ k. bitOfThree W (gatherIn ws) 2 k x)
     closes-row x =
         row-bit d (λ k. wordsAt ws (at k) W) (λ k. bitOfThree W (gatherIn ws) 2 k x) x
-        (λ k h. masks (at k) (omega (arith, mask-within (3 * W) k d h)))
+        (λ k h. masks (at k) (omega (arith, part-fits (3 * W) h)))
         (λ k h. mask-bit x (three-at ws (gatherIn ws) (gatherAt W d) W (gather-at ws) 2 k (at k) (omega arith) (omega arith)))
       where
         at : ℕ → ℕ
@@ -101,7 +101,7 @@ module _ (ws : List ℕ) (fit : Fit ws) where
     opens-row : (x : ℕ) → bit (value (marksOf ws W d .opens)) x ≡ anyBelow d (λ k. bitOfThree W (scatterIn ws) 1 k x)
     opens-row x =
         row-bit d (λ k. wordsAt ws (at k) W) (λ k. bitOfThree W (scatterIn ws) 1 k x) x
-        (λ k h. masks (at k) (omega (arith, mask-within (3 * W) k d h)))
+        (λ k h. masks (at k) (omega (arith, part-fits (3 * W) h)))
         (λ k h. mask-bit x (three-at ws (scatterIn ws) (scatterAt W) W (scatter-at ws) 1 k (at k) (omega arith) (omega arith)))
       where
         at : ℕ → ℕ
@@ -128,7 +128,7 @@ module _ (ws : List ℕ) (fit : Fit ws) where
         mask-of = three-at ws (propagateIn ws) (propagateAt W d) W (propagate-at ws)
 
         room : (k : ℕ) → k < suc d → at k + 2 * W ≤ length ws
-        room k h = omega (arith, mask-within (3 * W) k (suc d) h)
+        room k h = omega (arith, part-fits (3 * W) h)
 
         block : (k : ℕ) → k < suc d → Mask (wordsAt ws (at k) W)
         block k h = masks (at k) (omega (arith, room k h))

@@ -3,7 +3,7 @@ use mathlib.Core.Path.{_≡_, refl, sym, ap, ap₂, _∙_}
 use mathlib.Core.Bool.{Bool, not, _&&_, _||_, or-comm}
 use mathlib.Core.List.{List, [], _∷_}
 use Prim.Native.Nat.{ℕ, zero, suc, _+_, _-_, _*_, _/_, _%_, _^_, _≤_, _<_}
-use native.Mathlib.Nat.{le-of-suc-le-suc, le-refl, mul-le-mul-left, mul-suc, not-suc-le-zero}
+use native.Mathlib.Nat.{le-of-suc-le-suc, le-refl, not-suc-le-zero}
 use native.Mathlib.Numerals.{add-one}
 use native.Mathlib.Omega.{arith}
 use lib.Bits.{and-lt, bitOr, or-lt, or-zero-l, or-zero-r}
@@ -29,10 +29,6 @@ module _ (ws : List ℕ) (at W : ℕ) (fits : at + W ≤ length ws) where
 
   pub word-at : (j : ℕ) → j < W → getD ws (at + j) 0 ≡ getD (wordsAt ws at W) j 0
   word-at j h = sym (getD-take W (drop at ws) j 0 h ∙ getD-drop at ws j 0)
-
--- mask k of several, with as many words from each to the next
-pub mask-within : (stride k n : ℕ) → k < n → stride * k + stride ≤ stride * n
-mask-within stride k n h = omega (arith, mul-suc stride k, mul-le-mul-left stride h)
 
 module _ (ws : List ℕ) (at W : ℕ) (fits : at + 2 * W ≤ length ws) where
   block-long : length (wordsAt ws at W) ≡ W

@@ -6,7 +6,7 @@ use native.Mathlib.Numerals.{add-one}
 use native.Mathlib.Omega.{arith}
 use borrow.Author.Needs.{needs}
 use Rattle.verdict.specs.Work.{enteredRow, enteredWords, orFirst}
-use Rattle.verdict.proofs.Laws.Rows.{mask-within}
+use Rattle.model.proofs.Image.Address.{part-fits}
 use Rattle.verdict.proofs.apart.entered_row.Statement.{statement}
 use Rattle.verdict.proofs.apart.entered_row.Tie as tie
 
@@ -25,17 +25,17 @@ mul-or-entered c = search needs
 mul-or-entered-2 : tie.Need-mul-or-entered-2 Inv-loop μ-loop
 mul-or-entered-2 c =
     let a = c .before .before .before .args in
-    omega (arith, mask-within (3 * a .width) (c .before .loop .k) (a .count) (c .loop-test .taken))
+    omega (arith, part-fits (3 * a .width) (c .loop-test .taken))
 
 add-or-entered : tie.Need-add-or-entered Inv-loop μ-loop
 add-or-entered c =
     let a = c .before .before .before .args in
-    omega (arith, mask-within (3 * a .width) (c .before .loop .k) (a .count) (c .loop-test .taken))
+    omega (arith, part-fits (3 * a .width) (c .loop-test .taken))
 
 or-entered-requires : tie.Need-or-entered-requires Inv-loop μ-loop
 or-entered-requires c κs =
     let s = c .before .before .before in
-    (s .pre .0, omega (arith, mask-within (3 * s .args .width) (c .before .loop .k) (s .args .count) (c .loop-test .taken)))
+    (s .pre .0, omega (arith, part-fits (3 * s .args .width) (c .loop-test .taken)))
 
 add-k : tie.Need-add-k Inv-loop μ-loop
 add-k c = search needs

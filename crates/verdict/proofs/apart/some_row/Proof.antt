@@ -6,7 +6,7 @@ use native.Mathlib.Numerals.{add-one}
 use native.Mathlib.Omega.{arith}
 use borrow.Author.Needs.{needs}
 use Rattle.verdict.specs.Work.{orFirst, someRow, wordsAt}
-use Rattle.verdict.proofs.Laws.Rows.{mask-within}
+use Rattle.model.proofs.Image.Address.{part-fits}
 use Rattle.verdict.proofs.apart.some_row.Statement.{statement}
 use Rattle.verdict.proofs.apart.some_row.Tie as tie
 
@@ -20,15 +20,15 @@ loop-holds : tie.Need-loop-holds Inv-loop μ-loop
 loop-holds c = (omega arith, refl)
 
 mul-or-row : tie.Need-mul-or-row Inv-loop μ-loop
-mul-or-row c = let a = c .before .before .before .args in omega (arith, mask-within (a .stride) (c .before .loop .k) (a .count) (c .loop-test .taken))
+mul-or-row c = let a = c .before .before .before .args in omega (arith, part-fits (a .stride) (c .loop-test .taken))
 
 add-or-row : tie.Need-add-or-row Inv-loop μ-loop
-add-or-row c = let a = c .before .before .before .args in omega (arith, mask-within (a .stride) (c .before .loop .k) (a .count) (c .loop-test .taken))
+add-or-row c = let a = c .before .before .before .args in omega (arith, part-fits (a .stride) (c .loop-test .taken))
 
 or-row-requires : tie.Need-or-row-requires Inv-loop μ-loop
 or-row-requires c κs =
     let s = c .before .before .before in
-    (s .pre .0, omega (arith, mask-within (s .args .stride) (c .before .loop .k) (s .args .count) (c .loop-test .taken)))
+    (s .pre .0, omega (arith, part-fits (s .args .stride) (c .loop-test .taken)))
 
 add-k : tie.Need-add-k Inv-loop μ-loop
 add-k c = search needs

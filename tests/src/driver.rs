@@ -68,6 +68,11 @@ impl<T: Lent> Answer<T> {
         Ok(Answer { number, count, lent })
     }
 
+    /// What the call wrote, by its count.
+    pub fn written(&self) -> &[T] {
+        &self.lent[..self.lent.len().min(self.count as usize)]
+    }
+
     /// Where this answer differs from the one expected, if it does.
     pub fn difference(&self, expected: &Answer<T>) -> Option<String> {
         if self.number != expected.number {

@@ -51,7 +51,7 @@ impl Damage<'_> {
             self.tally.refused += 1;
             return;
         }
-        let laid = parse(&answer.lent[..answer.count as usize]).map(|tree| image(&tree));
+        let laid = parse(answer.written()).map(|tree| image(&tree));
         self.checks.same(&format!("{what}: what was written has these words as its image"), laid.as_deref() == Some(words), true);
         let count = if words == self.image { &mut self.tally.same } else { &mut self.tally.other };
         *count += 1;

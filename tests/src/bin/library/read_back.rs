@@ -61,7 +61,7 @@ fn rooms(checks: &mut Checks, what: &str, image: &[u64], plain: &[u8]) {
 fn built(checks: &mut Checks, what: &str, rule: &[u8], plain: &[u8]) {
     let what = format!("{what}, rule {}", rule.escape_ascii());
     match checks.driver.build(rule, LONGEST) {
-        Ok(answer) => rooms(checks, &what, &answer.lent[..answer.count as usize], plain),
+        Ok(answer) => rooms(checks, &what, answer.written(), plain),
         Err(why) => checks.note(&what, Some(why)),
     }
 }

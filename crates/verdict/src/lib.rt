@@ -14,7 +14,9 @@ use crate::header::read_header;
 use tape::Shape;
 use tape::Tape;
 use tape::well_formed;
+ghost use mathlib.Core.Path.{_≡_};
 ghost use Rattle.verdict.specs.Says.{CheckSays};
+ghost use Rattle.verdict.specs.declared.Verdict.the-variants.{Other};
 
 // An image whose masks have so many words, or anything else.
 pub enum Verdict {
@@ -28,7 +30,10 @@ pub struct Checked {
     pub tape: Tape,
 }
 
-fn refuse() -> Checked {
+// Not an image.
+fn refuse() -> Checked
+    ensures { λ r. ⌜ r .verdict ≡ Other ⌝ }
+{
     let kinds = [0u8; 512];
     let tape = Tape { kinds, length: 0 };
     Checked {

@@ -28,7 +28,7 @@ read-letter option = refl
 read-letter star = refl
 read-letter plus = refl
 
-read-kind : (y : Token) → tokenOf (readKind (kindOf y)) ≡ bare y
+pub read-kind : (y : Token) → tokenOf (readKind (kindOf y)) ≡ bare y
 read-kind (aLetter c r) = read-letter r
 read-kind anOpen = refl
 read-kind aBar = refl

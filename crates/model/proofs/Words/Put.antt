@@ -47,7 +47,7 @@ value-set (w ∷ ws) (suc i) r h l f =
     (let e : 2 ^ (64 * i + r) * 2 ^ 64 + 0 ≡ 2 ^ 64 * 2 ^ (64 * i + r) = omega arith in e
     ∙ sym (pow-add 2 64 (64 * i + r)) ∙ (let d : 64 + (64 * i + r) ≡ 64 * suc i + r = omega arith in ap (λ (n : ℕ). 2 ^ n) d))
 
-bit-power : (x y : ℕ) → bit (2 ^ x) y ≡ eqb y x
+pub bit-power : (x y : ℕ) → bit (2 ^ x) y ≡ eqb y x
 bit-power zero zero = refl
 bit-power zero (suc y) = bit-zero y ∙ sym (eqb·suc-zero y)
 bit-power (suc x) zero = ap (λ (n : ℕ). eqb n 1) (let e : 2 ^ suc x % 2 ≡ 0 = omega (arith, pow-suc 2 x) in e) ∙ sym (eqb·zero-suc x)

@@ -251,6 +251,6 @@ module _ (ws : List ℕ) (t : Tape) (taken : tokensOf t ≡ bares (tape ws)) (tr
     letters-is = (
       λ h. there (same-words letters (getD (tableOf t letter-place) 0 []) h ∙ row letter-place 0 (omega arith)),
       λ c. subst (λ (z : List ℕ). T (sameWords letters z))
-        (rows-ext letters places (eight ∙ sym (held .near .len)) fit (held .near .fit) (each-bit c) ∙ sym (row letter-place 0 (omega arith)))
-        (words-same letters),
+          (rows-ext letters places (eight ∙ sym (held .near .len)) fit (held .near .fit) (each-bit c) ∙ sym (row letter-place 0 (omega arith)))
+          (words-same letters),
     )

@@ -6,7 +6,7 @@ use mathlib.Core.List.{List, [], _∷_}
 use Prim.Native.Nat.{ℕ, zero, suc, _+_, _-_, _*_, _≤_, _<_}
 use native.Mathlib.Nat.{mul-assoc, mul-comm}
 use native.Mathlib.Omega.{arith}
-use lib.Dec.{T, eqb, eqb→eq, eqb-refl, leb, leb→le, le→leb}
+use lib.Dec.{T, leb, le→leb}
 use lib.ListN.{drop, getD, length}
 use lib.Seq.{getD-drop}
 use Rattle.model.specs.Answers.{ImageOf, NoImage}
@@ -24,19 +24,17 @@ use Rattle.model.proofs.Image.Decided.{tape-of, verdict-some}
 use Rattle.model.proofs.Image.Rows.{room, wide}
 use Rattle.model.proofs.Image.Verdict.{image-complete, image-sound, is-image, IsImage}
 use Rattle.model.proofs.Image.WellFormed.{well-fine}
-use Rattle.model.proofs.Laws.Bool.{and-both, and-split, is-true, le-true}
+use Rattle.model.proofs.Laws.Bool.{and-both, and-split, is-true}
 use Rattle.model.proofs.Reading.WellFormed.{rule-well}
 use Rattle.tape.specs.Tapes.{bares, isTree, shapeOf, tableOf, TapeOf, tokensOf}
 use Rattle.tape.specs.declared.Shape.{Shape}
 use Rattle.tape.specs.declared.Shape.the-variants.{Other, Tree}
 use Rattle.tape.specs.declared.Tape.{Tape}
 use Rattle.tape.proofs.Bare.{bares-length, bares-reach, bares-valid}
-use Rattle.verdict.specs.Work.{countsFit, headerFits, sameAll, sameGather, samePropagate, sameRepeats, sameScatter, shapeFits}
+use Rattle.verdict.specs.Work.{headerFits, sameAll, sameGather, samePropagate, sameRepeats, sameScatter}
 use Rattle.model.proofs.Image.Address.{gather-at, repeats-at, scatter-at}
+use Rattle.verdict.proofs.Laws.Header.{counts-fit, counts-of, fits-of, header-fits}
 use Rattle.verdict.proofs.Laws.Agree.{gather-is, letters-is, propagate-is, repeats-is, scatter-is}
-
-same-number : {x y : ℕ} → x ≡ y → eqb x y ≡ true
-same-number {x} e = subst (λ (z : ℕ). eqb x z ≡ true) e (is-true (eqb x x) (eqb-refl x))
 
 -- ---- the header
 pub record Headed (ws : List ℕ) : Type 0 where
@@ -57,49 +55,42 @@ header-is ws = (there, back)
   where
     there : T (headerFits ws) → Headed ws
     there h =
-        let p = and-split (shapeFits ws) _ h in
-        let s = and-split (leb 4 (length ws)) _ (p .0) in
-        let s1 = and-split (eqb (getD ws 0 0) 3) _ (s .1) in
-        let s2 = and-split (leb 2 (stateWord ws)) _ (s1 .1) in
-        let s3 = and-split (leb (stateWord ws) 512) _ (s2 .1) in
-        let s4 = and-split (eqb (widthWord ws) (width (stateWord ws))) _ (s3 .1) in
-        let q = and-split (eqb (length ws) (9 + widthWord ws * (515 + 9 * depthWord ws))) _ (p .1) in
-        let c = and-split (eqb (getD ws 4 0) (256 * widthWord ws)) _ (q .1) in
-        let c1 = and-split (eqb (getD ws (5 + 256 * widthWord ws) 0) (256 * widthWord ws)) _ (c .1) in
-        let c2 = and-split (eqb (getD ws (6 + 512 * widthWord ws) 0) (3 * widthWord ws * depthWord ws)) _ (c1 .1) in
-        let c3 = and-split (eqb (getD ws (7 + 512 * widthWord ws + 3 * widthWord ws * depthWord ws) 0) (3 * widthWord ws * depthWord ws)) _ (c2 .1) in
+        let F = fits-of ws h in
+        let C = counts-of ws (widthWord ws) (depthWord ws) (F .counts) in
         record {
-          shape-count = eqb→eq (getD ws 0 0) 3 (s1 .0);
-          some = leb→le 2 (stateWord ws) (s2 .0);
-          few = leb→le (stateWord ws) 512 (s3 .0);
-          width-word = eqb→eq (widthWord ws) (width (stateWord ws)) (s4 .0);
-          shallow = leb→le (depthWord ws) 8 (s4 .1);
-          long = eqb→eq (length ws) (9 + widthWord ws * (515 + 9 * depthWord ws)) (q .0);
-          letters-count = eqb→eq (getD ws 4 0) (256 * widthWord ws) (c .0);
-          repeats-count = eqb→eq (getD ws (5 + 256 * widthWord ws) 0) (256 * widthWord ws) (c1 .0);
-          scatter-count = eqb→eq (getD ws (6 + 512 * widthWord ws) 0) (3 * widthWord ws * depthWord ws) (c2 .0);
-          gather-count = eqb→eq (getD ws (7 + 512 * widthWord ws + 3 * widthWord ws * depthWord ws) 0) (3 * widthWord ws * depthWord ws) (c3 .0);
-          propagate-count = eqb→eq (getD ws (8 + 512 * widthWord ws + 6 * widthWord ws * depthWord ws) 0) (3 * widthWord ws * suc (depthWord ws)) (c3 .1);
+          shape-count = F .shape .three;
+          some = F .shape .some-states;
+          few = F .shape .few-states;
+          width-word = F .shape .wide;
+          shallow = F .shape .shallow;
+          long = F .long;
+          letters-count = C .letters;
+          repeats-count = C .repeats;
+          scatter-count = C .scatters;
+          gather-count = C .gathers;
+          propagate-count = C .propagates;
         }
 
     back : Headed ws → T (headerFits ws)
-    back H = subst T (sym all) tt
-      where
-        all : headerFits ws ≡ true
-        all = rw (
-          le-true 4 (length ws) (omega (arith, H .long)),
-          same-number (H .shape-count),
-          le-true 2 (stateWord ws) (H .some),
-          le-true (stateWord ws) 512 (H .few),
-          same-number (H .width-word),
-          le-true (depthWord ws) 8 (H .shallow),
-          same-number (H .long),
-          same-number (H .letters-count),
-          same-number (H .repeats-count),
-          same-number (H .scatter-count),
-          same-number (H .gather-count),
-          same-number (H .propagate-count),
-        )
+    back H =
+        header-fits ws (record {
+          shape = record {
+            four = omega (arith, H .long);
+            three = H .shape-count;
+            some-states = H .some;
+            few-states = H .few;
+            wide = H .width-word;
+            shallow = H .shallow;
+          };
+          long = H .long;
+          counts = counts-fit ws (widthWord ws) (depthWord ws) (record {
+            letters = H .letters-count;
+            repeats = H .repeats-count;
+            scatters = H .scatter-count;
+            gathers = H .gather-count;
+            propagates = H .propagate-count;
+          });
+        })
 
 -- the count that follows n words of a section
 count-at : (S ws : List ℕ) (a n k : ℕ) → S ≡ drop a ws → a + n ≡ k → getD (drop n S) 0 0 ≡ getD ws k 0
@@ -205,7 +196,7 @@ module _ (ws : List ℕ) (fit : Fit ws) (H : Headed ws) (t : Tape) (size : t .le
         propagate-count =
             count-at (gatherIn ws) ws (gatherAt W d) (3 * W * d) (8 + 512 * W + 6 * W * d) (gather-at ws) (omega (arith, mul-assoc 3 W d, mul-assoc 6 W d)) ∙ H .propagate-count;
         letters = letters-is ws t taken grown b narrow (H .few) fits letters eight fit-letters bits .0
-          (and-split letters-same (repeats-same && (scatter-same && (gather-same && propagate-same))) all .0);
+            (and-split letters-same (repeats-same && (scatter-same && (gather-same && propagate-same))) all .0);
         repeats = repeats-is ws t taken grown b narrow (omega (arith, H .long)) .0 (and-split repeats-same (scatter-same && (gather-same && propagate-same)) rest₁ .0);
         scatter = scatter-is ws t taken grown b narrow (H .shallow) .0 (and-split scatter-same (gather-same && propagate-same) rest₂ .0);
         gather = gather-is ws t taken grown b narrow (H .shallow) .0 (and-split gather-same propagate-same rest₃ .0);

@@ -20,7 +20,7 @@ use Rattle.model.proofs.Laws.Bits.{bit-zero}
 use Rattle.model.proofs.Laws.Bool.{le-false, le-or-lt, le-true}
 use Rattle.model.proofs.Words.Bits.{bit-ext, bit-not}
 use Rattle.model.proofs.Words.Holds.{val-lt, width-is}
-use Rattle.mask.proofs.Laws.Bits.{power-bit}
+use Rattle.model.proofs.Words.Put.{bit-power}
 use Rattle.writing.proofs.Laws.Runs.{All}
 
 -- ---- four words make a class
@@ -29,7 +29,7 @@ class-of ws e f = subst (λ (k : ℕ). value ws < 2 ^ k) (width-is ws ∙ ap wid
 
 -- ---- a class of one byte
 pub one-byte : (c b : ℕ) → c < 2 ^ 256 → b < 256 → All false c 0 b → bit c b ≡ true → All false c (b + 1) 256 → c ≡ 2 ^ b
-one-byte c b s h A t B = bit-ext 256 c (2 ^ b) s (pow-lt h) (λ i k. same i k ∙ sym (power-bit b i))
+one-byte c b s h A t B = bit-ext 256 c (2 ^ b) s (pow-lt h) (λ i k. same i k ∙ sym (bit-power b i))
   where
     same : (i : ℕ) → i < 256 → bit c i ≡ eqb i b
     same i k =
@@ -43,13 +43,13 @@ abbrev pub NotOne : ℕ → Type 0
 NotOne c = (b : ℕ) → b < 256 → c ≡ 2 ^ b → ⊥
 
 power-of : (c b x : ℕ) → c ≡ 2 ^ b → bit c x ≡ true → x ≡ b
-power-of c b x e t = eqb-true x b (sym (power-bit b x) ∙ ap (λ (n : ℕ). bit n x) (sym e) ∙ t)
+power-of c b x e t = eqb-true x b (sym (bit-power b x) ∙ ap (λ (n : ℕ). bit n x) (sym e) ∙ t)
 
 pub two-bytes : (c x y : ℕ) → x < y → bit c x ≡ true → bit c y ≡ true → NotOne c
 two-bytes c x y h s t b k e = omega (arith, power-of c b x e s, power-of c b y e t)
 
 pub no-byte : (c : ℕ) → All false c 0 256 → NotOne c
-no-byte c A b h e = true≢false (sym (ap (λ (n : ℕ). bit n b) e ∙ power-bit b b ∙ eq-eqb b b refl) ∙ A b (omega arith) h)
+no-byte c A b h e = true≢false (sym (ap (λ (n : ℕ). bit n b) e ∙ bit-power b b ∙ eq-eqb b b refl) ∙ A b (omega arith) h)
 
 -- ---- the class of every byte
 every-bit : (i : ℕ) → i < 256 → bit every i ≡ true

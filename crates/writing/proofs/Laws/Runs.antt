@@ -13,7 +13,7 @@ use Rattle.model.specs.Writing.{inside, outside, runWriting}
 use Rattle.model.proofs.Laws.Bool.{le-or-lt}
 use Rattle.writing.specs.Work.{FirstIn, FirstOut}
 use Rattle.writing.proofs.Laws.Bytes.{run-short}
-use Rattle.writing.proofs.Laws.Texts.{Writes, writes-as, writes-then}
+use Rattle.writing.proofs.Laws.Texts.{Writes, writes-as, writes-none, writes-then}
 
 -- ---- the bytes from a on, and below b, are all in the class c, or all out of it
 abbrev pub All : Bool → ℕ → ℕ → ℕ → Type 0
@@ -76,7 +76,7 @@ module _ (c at : ℕ) (entry : List ℕ) where
   left-all lo f = record {
     done = [];
     parts = outside-skip 256 (256 - lo) c 0 lo refl (omega (arith, f .upto)) (f .from) (f .skipped);
-    writes = (omega arith, refl);
+    writes = writes-none entry at;
     short = omega arith;
     upto = f .upto;
     hit = f .hit;

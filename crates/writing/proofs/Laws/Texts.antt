@@ -5,13 +5,16 @@ use Prim.Native.Nat.{ℕ, _+_}
 use native.Mathlib.Omega.{arith}
 use lib.ListN.{length, length-append, set}
 use lib.Seq.{sets}
-use Rattle.rule.proofs.Laws.Writes.{sets-append}
+use Rattle.model.proofs.Laws.Stores.{sets-append}
 
 -- what a function that writes a text leaves, and the place after it
 abbrev pub Writes : (before : List ℕ) (at : ℕ) (text after : List ℕ) (place : ℕ) → Type 0
 Writes before at text after place = (place ≡ at + length text) × (after ≡ sets before at text)
 
 module _ (l : List ℕ) (at : ℕ) where
+  pub writes-none : Writes l at [] l at
+  writes-none = (omega arith, refl)
+
   pub writes-one : (b : ℕ) {r : List ℕ} → r ≡ set l at b → Writes l at (b ∷ []) r (at + 1)
   writes-one b e = (refl, e)
 

@@ -1,0 +1,78 @@
+-- TOKENS ONE AFTER ANOTHER: a range's text is that of its first tokens and then that of the rest, wherever it is cut; each token takes at most
+-- 4096 bytes, which bounds the places.
+use mathlib.Core.Path.{_≡_, sym, ap, ap₂, _∙_}
+use mathlib.Core.List.{List, _++_, append-assoc, append-nil}
+use Prim.Native.Nat.{ℕ, zero, suc, _+_, _-_, _*_, _≤_}
+use native.Mathlib.Nat.{add-zero, zero-add}
+use native.Mathlib.Numerals.{add-one}
+use native.Mathlib.Omega.{arith}
+use lib.ListN.{getD, length, set}
+use Rattle.model.specs.Image.{join}
+use Rattle.writing.specs.Work.{tokenText}
+use Rattle.writing.proofs.Laws.Texts.{Writes, writes-as, writes-none, writes-one, writes-then}
+use Rattle.writing.proofs.Laws.Tokens.{open-text, token-short}
+
+join-split : (g : ℕ → List ℕ) (n k a : ℕ) → join (n + k) a g ≡ join n a g ++ join k (a + n) g
+join-split g zero k a = ap₂ (λ (m b : ℕ). join m b g) (zero-add k) (sym (add-zero a))
+join-split g (suc n) k a =
+    let e : suc n + k ≡ suc (n + k) = omega arith in
+    let d : suc a + n ≡ a + suc n = omega arith in
+    ap (λ (m : ℕ). join m a g) e
+    ∙ ap (λ (t : List ℕ). g a ++ t) (join-split g n k (suc a) ∙ ap (λ (b : ℕ). join n (suc a) g ++ join k b g) d)
+    ∙ sym (append-assoc (g a) (join n (suc a) g) (join k (a + suc n) g))
+
+-- ---- the texts g of the numbers from `from` to i less 1, written from the place `at` on
+pub record Wrote (g : ℕ → List ℕ) (before : List ℕ) (at from i : ℕ) (after : List ℕ) (place : ℕ) : Type 0 where
+  pub since : from ≤ i
+  pub text : Writes before at (join (i - from) from g) after place
+  pub bound : place ≤ 4096 * i
+
+module _ (g : ℕ → List ℕ) (before : List ℕ) (at from : ℕ) where
+  pub wrote-none : at ≤ 4096 * from → Wrote g before at from from before at
+  wrote-none h =
+      let e : 0 ≡ from - from = omega arith in
+      record { since = omega arith; text = writes-as before at (ap (λ (n : ℕ). join n from g) e) (writes-none before at); bound = h }
+
+  wrote-one : {after : List ℕ} {q : ℕ} → at ≤ 4096 * from → length (g from) ≤ 4096 → Writes before at (g from) after q
+      → Wrote g before at from (from + 1) after q
+  wrote-one h l w =
+      let e : 1 ≡ from + 1 - from = omega arith in record {
+        since = omega arith;
+        text = writes-as before at (sym (append-nil (g from)) ∙ ap (λ (n : ℕ). join n from g) e) w;
+        bound = omega (arith, w .0);
+      }
+
+  wrote-then : {now after : List ℕ} {i p j q : ℕ} → Wrote g before at from i now p → Wrote g now p i j after q → Wrote g before at from j after q
+  wrote-then {i = i} {j = j} f h =
+      let e : (i - from) + (j - i) ≡ j - from = omega (arith, f .since, h .since) in
+      let d : i ≡ from + (i - from) = omega (arith, f .since) in record {
+        since = omega (arith, f .since, h .since);
+        text = writes-as before at
+            (ap (λ (b : ℕ). join (i - from) from g ++ join (j - i) b g) d
+            ∙ sym (join-split g (i - from) (j - i) from)
+            ∙ ap (λ (n : ℕ). join n from g) e)
+            (writes-then before at (join (i - from) from g) (join (j - i) i g) (f .text) (h .text));
+        bound = h .bound;
+      }
+
+-- ---- THE TOKENS OF A TAPE
+abbrev pub tokensOf : List ℕ → ℕ → List ℕ → ℕ → List ℕ
+tokensOf ws W kinds i = tokenText ws W (getD kinds i 0) (suc i)
+
+module _ (ws : List ℕ) (W : ℕ) (kinds before : List ℕ) (at from : ℕ) {i : ℕ} {now : List ℕ} {p : ℕ}
+    (w : Wrote (tokensOf ws W kinds) before at from i now p) where
+  one-more : {after : List ℕ} {q : ℕ} → Writes now p (tokensOf ws W kinds i) after q → Wrote (tokensOf ws W kinds) before at from (i + 1) after q
+  one-more t =
+      wrote-then (tokensOf ws W kinds) before at from w
+      (wrote-one (tokensOf ws W kinds) now p i (w .bound) (token-short ws W (getD kinds i 0) (suc i)) t)
+
+  pub wrote-token : {after : List ℕ} {q : ℕ} → Writes now p (tokenText ws W (getD kinds i 0) (i + 1)) after q
+      → Wrote (tokensOf ws W kinds) before at from (i + 1) after q
+  wrote-token t = one-more (writes-as now p (ap (tokenText ws W (getD kinds i 0)) (add-one i)) t)
+
+  -- a union's open, and then the tokens up to its close
+  pub wrote-union : {opened after : List ℕ} {close q : ℕ} → getD kinds i 0 ≡ 4 → opened ≡ set now p 40
+      → Wrote (tokensOf ws W kinds) opened (p + 1) (i + 1) close after q → Wrote (tokensOf ws W kinds) before at from close after q
+  wrote-union e o inner =
+      wrote-then (tokensOf ws W kinds) before at from
+      (one-more (writes-as now p (sym (open-text ws W (getD kinds i 0) (suc i) e)) (writes-one now p 40 o))) inner

@@ -1,0 +1,69 @@
+-- A TOKEN'S TEXT BY ITS KIND: the tests on the way choose one of the texts, and none is longer than a class's with a sign.
+use mathlib.Core.Path.{_≡_, refl}
+use mathlib.Core.Bool.{cond}
+use mathlib.Core.List.{List, [], _∷_, _++_}
+use Prim.Native.Nat.{ℕ, zero, suc, _≤_, _<_}
+use native.Mathlib.Omega.{arith}
+use lib.Dec.{eqb, ltb}
+use lib.ListN.{length, length-append}
+use Rattle.model.specs.Writing.{classWriting}
+use Rattle.model.proofs.Laws.Bool.{cond-cases, le-false, le-true, unequal}
+use Rattle.writing.specs.Work.{classTo, signText, tokenText}
+use Rattle.writing.proofs.Laws.Bounds.{class-short}
+
+-- ---- signs
+pub plus-sign : (kind : ℕ) → (kind ≡ 0 → ⊥) → (kind ≡ 1 → ⊥) → (kind ≡ 2 → ⊥) → signText kind ≡ 43 ∷ []
+plus-sign zero a b c = absurd (a refl)
+plus-sign (suc zero) a b c = absurd (b refl)
+plus-sign (suc (suc zero)) a b c = absurd (c refl)
+plus-sign (suc (suc (suc k))) a b c = refl
+
+sign-short : (kind : ℕ) → length (signText kind) ≤ 1
+sign-short zero = omega arith
+sign-short (suc zero) = omega arith
+sign-short (suc (suc zero)) = omega arith
+sign-short (suc (suc (suc k))) = omega arith
+
+-- ---- the choice, whatever a letter's text is
+module _ (kind : ℕ) (letter : List ℕ) where
+  abbrev chosen : List ℕ
+  chosen = cond (ltb kind 4) letter (cond (eqb kind 4) (40 ∷ []) (cond (eqb kind 5) (124 ∷ []) (41 ∷ [])))
+
+  chosen-letter : kind < 4 → chosen ≡ letter
+  chosen-letter h = rw (le-true (suc kind) 4 h)
+
+  chosen-open : kind ≡ 4 → chosen ≡ 40 ∷ []
+  chosen-open e = rw e
+
+  chosen-bar : kind ≡ 5 → chosen ≡ 124 ∷ []
+  chosen-bar e = rw e
+
+  chosen-close : 4 ≤ kind → (kind ≡ 4 → ⊥) → (kind ≡ 5 → ⊥) → chosen ≡ 41 ∷ []
+  chosen-close h o b = rw (le-false (suc kind) 4 (omega arith), unequal kind 4 o, unequal kind 5 b)
+
+  chosen-short : length letter ≤ 4096 → length chosen ≤ 4096
+  chosen-short h =
+      cond-cases (λ t. length t ≤ 4096) (ltb kind 4) (λ _. h) (λ _.
+      cond-cases (λ t. length t ≤ 4096) (eqb kind 4) (λ _. omega arith) (λ _.
+      cond-cases (λ t. length t ≤ 4096) (eqb kind 5) (λ _. omega arith) (λ _. omega arith)))
+
+module _ (ws : List ℕ) (W kind state : ℕ) where
+  abbrev letterText : List ℕ
+  letterText = classWriting (classTo ws W state) ++ signText kind
+
+  pub letter-text : kind < 4 → tokenText ws W kind state ≡ letterText
+  letter-text = chosen-letter kind letterText
+
+  pub open-text : kind ≡ 4 → tokenText ws W kind state ≡ 40 ∷ []
+  open-text = chosen-open kind letterText
+
+  pub bar-text : kind ≡ 5 → tokenText ws W kind state ≡ 124 ∷ []
+  bar-text = chosen-bar kind letterText
+
+  pub close-text : 4 ≤ kind → (kind ≡ 4 → ⊥) → (kind ≡ 5 → ⊥) → tokenText ws W kind state ≡ 41 ∷ []
+  close-text = chosen-close kind letterText
+
+  pub token-short : length (tokenText ws W kind state) ≤ 4096
+  token-short =
+      chosen-short kind letterText
+      (omega (arith, length-append (classWriting (classTo ws W state)) (signText kind), class-short (classTo ws W state), sign-short kind))

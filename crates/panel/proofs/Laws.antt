@@ -1,3 +1,4 @@
--- Given: what the number given to C tells. Build: its counts fit.
+-- Given: what the number given to C tells. Build, ReadBack: their counts fit.
 pub mod Build
 pub mod Given
+pub mod ReadBack

@@ -2,10 +2,13 @@
 // document 01's number times 2^32 plus the count.
 use watcher::Built;
 use watcher::build;
+use watcher::read_back;
+use writing::Written;
 ghost use mathlib.Core.List.{[]};
 ghost use mathlib.Core.Path.{_≡_};
 ghost use Prim.Native.Nat.{_+_, _*_, _^_, _≤_, _<_};
-ghost use Rattle.model.specs.Answers.{BuildSays};
+ghost use Rattle.model.specs.Answers.{BuildSays, ReadBackSays};
+ghost use Rattle.writing.specs.Says.{writtenAnswer};
 ghost use Rattle.watcher.specs.Answers.{builtAnswer};
 ghost use Rattle.panel.specs.Says.{Gives, packed};
 
@@ -39,4 +42,25 @@ pub extern "C" fn lavumbishe_build(rule: &[u8], image: &mut [u64]) -> u64
 {
     let built = build(rule, image);
     pack_built(built)
+}
+
+// What read back answered.
+fn pack_written(written: Written) -> u64
+    requires { ⌜ writtenAnswer written [] .count < 2 ^ 32 ⌝ }
+    ensures { λ r. ⌜ r ≡ packed (writtenAnswer written []) ⌝ }
+{
+    match written {
+        Written::NotAnImage => pack(6, 0),
+        Written::NoRoom => pack(8, 0),
+        Written::Done(length) => pack(0, length),
+    }
+}
+
+// Read back: from an image to the plain writing of its tree, in lent bytes.
+#[no_mangle]
+pub extern "C" fn lavumbishe_read_back(image: &[u64], writing: &mut [u8]) -> u64
+    ensures { λ r. ⌜ Gives (ReadBackSays (now (image .entry)) (now (writing .entry))) r (now (writing .exit)) ⌝ }
+{
+    let written = read_back(image, writing);
+    pack_written(written)
 }

@@ -1,68 +1,26 @@
-//! The library for C, called through tests/driver.c: the outside vectors, document 01's examples and limits on build, and generated rules beside the
-//! independent program; number, count and every lent word. Usage: library VECTORS DRIVER (tests/library makes the driver)
+//! Build: the outside vectors, document 01's examples and limits, and generated rules beside the independent program.
 
-use outside_checks::driver::{Answer, Driver};
+use crate::checks::{Checks, LONGEST};
+use outside_checks::driver::{build_call, Answer};
 use outside_checks::generate::{broken, jumbled, long, nested, sized, small, Random, TELLING};
 use outside_checks::independent::{build, depth, parse, states};
 use outside_checks::{bytes, expand, runs, vectors};
 use std::path::Path;
-use std::process::exit;
 
-/// The stack in bytes that a caller provides, as docs/DECISIONS.md says.
-const STACK: usize = 1 << 20;
-
-/// The length of the longest image.
-const LONGEST: usize = 4705;
-
-struct Checks {
-    driver: Driver,
-    passed: usize,
-    failed: usize,
-}
-
-impl Checks {
-    fn note(&mut self, what: &str, difference: Option<String>) {
-        let Some(difference) = difference else {
-            self.passed += 1;
-            return;
-        };
-        self.failed += 1;
-        if self.failed <= 10 {
-            println!("library: FAILED: {what}: {difference}");
-        }
-    }
-
-    fn same<T: PartialEq + std::fmt::Debug>(&mut self, what: &str, got: T, expected: T) {
-        let difference = (got != expected).then(|| format!("{got:?}, expected {expected:?}"));
-        self.note(what, difference);
-    }
-
-    /// One build, compared whole; what it gave.
-    fn build(&mut self, what: &str, rule: &[u8], expected: &Answer) -> Option<Answer> {
-        let room = expected.words.len();
-        let got = self.driver.build(rule, room);
-        let difference = got.as_ref().map_or_else(|why| Some(why.clone()), |answer| answer.difference(expected));
-        self.note(&format!("{what}, rule {}, {room} words lent", rule.escape_ascii()), difference);
-        got.ok()
-    }
-
-    /// One build beside the independent program; the words afterwards.
-    fn beside(&mut self, what: &str, rule: &[u8], room: usize) -> Vec<u64> {
-        let (number, image) = build(rule, room);
-        self.build(what, rule, &Answer::of(number, &image, room)).map_or(Vec::new(), |answer| answer.words)
-    }
-
-    /// A part of the checks, and how it went.
-    fn part(&mut self, name: &str, run: impl FnOnce(&mut Checks)) {
-        let (passed, failed) = (self.passed, self.failed);
-        run(self);
-        println!("library: {name}: {} passed, {} failed", self.passed - passed, self.failed - failed);
-    }
+pub fn all(checks: &mut Checks, folder: &Path) {
+    let mut answers = Vec::new();
+    checks.part("build: outside vectors", |c| answers = outside(c, folder));
+    checks.part("build: faults planted in copies of their answers", |c| planted(c, &answers));
+    checks.part("build: document 01's examples", examples);
+    checks.part("build: limits", limits);
+    checks.part("build: stack", stack);
+    checks.part("build: rules of every byte", every_byte);
+    checks.part("build: rules from seeds", seeds);
 }
 
 // ---- the outside vectors, and faults planted in copies of their answers
 
-fn outside(checks: &mut Checks, folder: &Path) -> Vec<(Answer, Answer)> {
+fn outside(checks: &mut Checks, folder: &Path) -> Vec<(Answer<u64>, Answer<u64>)> {
     let mut answers = Vec::new();
     for v in vectors(folder, "build.txt", "build") {
         let (rule, room, image) = (bytes(&v[0]), v[1].parse().expect("ROOM"), expand(&runs(&v[4])));
@@ -75,36 +33,14 @@ fn outside(checks: &mut Checks, folder: &Path) -> Vec<(Answer, Answer)> {
     answers
 }
 
-/// Every fault must be seen: one thing wrong in a copy of an expected answer, and words that are changed without a call.
-fn planted(checks: &mut Checks, answers: &[(Answer, Answer)]) {
-    let mut r = Random::new(1);
-    for (got, expected) in answers {
-        for fault in faults(&mut r, expected) {
-            checks.same("a planted fault is seen", got.difference(&fault).is_some(), true);
-        }
-    }
+fn planted(checks: &mut Checks, answers: &[(Answer<u64>, Answer<u64>)]) {
+    checks.planted(answers);
     for place in [-1, 7] {
-        let seen = checks.driver.spoil(place, 7).is_err();
+        let seen = checks.driver.spoil_word(place, 7).is_err();
         checks.same("a change beside the lent words is seen", seen, true);
     }
-    let spoilt = checks.driver.spoil(3, 7).ok().and_then(|answer| answer.difference(&Answer::of(0, &[], 7)));
+    let spoilt = checks.driver.spoil_word(3, 7).ok().and_then(|answer| answer.difference(&Answer::of(0, &[], 7)));
     checks.same("a change of a lent word is seen", spoilt.is_some(), true);
-}
-
-/// Copies of an answer, each with one thing wrong: the number, the count, a bit of a word of the image, a bit of a word past it.
-fn faults(r: &mut Random, right: &Answer) -> Vec<Answer> {
-    let mut faults = vec![right.clone(), right.clone()];
-    faults[0].number += 1;
-    faults[1].count += 1;
-    let image = right.count as usize;
-    for (from, to) in [(0, image), (image, right.words.len())] {
-        if from < to {
-            let mut fault = right.clone();
-            fault.words[r.between(from, to - 1)] ^= 1 << r.below(64);
-            faults.push(fault);
-        }
-    }
-    faults
 }
 
 // ---- document 01: "Measured examples", "The image", and the limits
@@ -124,16 +60,16 @@ fn pairs(count: usize, inner: &str) -> Vec<u8> {
 }
 
 /// Unions nested so deep, as short as can be: four states for each.
-fn unions(count: usize) -> Vec<u8> {
+pub fn unions(count: usize) -> Vec<u8> {
     (0..count).fold(b"a".to_vec(), |inner, _| [b"(", &inner[..], b"|b)"].concat())
 }
 
 /// 512 states, eight deep.
-fn longest() -> Vec<u8> {
+pub fn longest() -> Vec<u8> {
     [unions(8), b"a{478}".to_vec()].concat()
 }
 
-fn refused(number: u64) -> Answer {
+fn refused(number: u64) -> Answer<u64> {
     Answer::of(number, &[], LONGEST)
 }
 
@@ -149,15 +85,15 @@ fn examples(checks: &mut Checks) {
         checks.build("refused with 2", rule, &refused(2));
     }
 
-    let words = checks.beside("states", b"[AB]+B.{1,3}[BC]?.*C", LONGEST);
+    let words = checks.build_beside("states", b"[AB]+B.{1,3}[BC]?.*C", LONGEST);
     checks.same("[AB]+B.{1,3}[BC]?.*C: shape", section(&words, 1), vec![9, 1, 0]);
-    let words = checks.beside("states", b"a|b", LONGEST);
+    let words = checks.build_beside("states", b"a|b", LONGEST);
     checks.same("a|b: shape", section(&words, 1), vec![6, 1, 1]);
-    let words = checks.beside("masks", b"A(BA|CD)(CD|AB)B", LONGEST);
+    let words = checks.build_beside("masks", b"A(BA|CD)(CD|AB)B", LONGEST);
     checks.same("A(BA|CD)(CD|AB)B: shape", section(&words, 1), vec![17, 1, 1]);
     checks.same("A(BA|CD)(CD|AB)B: scatter", section(&words, 4), vec![8256, 258, 4644]);
     checks.same("A(BA|CD)(CD|AB)B: gather", section(&words, 5), vec![30960, 18576, 33024]);
-    let words = checks.beside("masks", b"A(AB|B?)(B?.*|AB)C", LONGEST);
+    let words = checks.build_beside("masks", b"A(AB|B?)(B?.*|AB)C", LONGEST);
     checks.same("A(AB|B?)(B?.*|AB)C: shape", section(&words, 1), vec![16, 1, 1]);
     checks.same("A(AB|B?)(B?.*|AB)C: propagate", section(&words, 6), vec![16514, 2, 16384, 1888, 288, 1088]);
 
@@ -168,14 +104,14 @@ fn examples(checks: &mut Checks) {
 }
 
 fn limits(checks: &mut Checks) {
-    let words = checks.beside("512 states", b"a{511}", LONGEST);
+    let words = checks.build_beside("512 states", b"a{511}", LONGEST);
     checks.same("a{511}: shape", section(&words, 1), vec![512, 8, 0]);
     checks.build("513 states", b"a{512}", &refused(3));
     checks.build("513 states, letter by letter", &[b'a'; 512], &refused(3));
-    let words = checks.beside("eight nested unions", &unions(8), LONGEST);
+    let words = checks.build_beside("eight nested unions", &unions(8), LONGEST);
     checks.same("eight nested unions: shape", section(&words, 1), vec![34, 1, 8]);
     checks.build("nine nested unions", &unions(9), &refused(4));
-    let words = checks.beside("the longest image", &longest(), LONGEST);
+    let words = checks.build_beside("the longest image", &longest(), LONGEST);
     checks.same("the longest image: shape", section(&words, 1), vec![512, 8, 8]);
     checks.build("the longest image, room one word short", &longest(), &Answer::of(5, &[], LONGEST - 1));
 
@@ -196,15 +132,9 @@ fn limits(checks: &mut Checks) {
 
 /// Rules that nest as deep, or go on as long, as 1,024 bytes allow.
 fn stack(checks: &mut Checks) {
-    let mut most = 0;
     let class = [vec![b'('; 1023], b"[".to_vec()].concat();
-    for rule in [vec![b'('; 1024], pairs(511, "ab"), class, vec![b'a'; 1024], longest()] {
-        let taken = checks.driver.stack(&rule, LONGEST).unwrap_or(usize::MAX);
-        let more = (taken > STACK).then(|| format!("{taken} bytes"));
-        checks.note(&format!("stack for the rule {}", rule.escape_ascii()), more);
-        most = most.max(taken);
-    }
-    println!("library: the most stack that a build took: {most} bytes");
+    let rules = [vec![b'('; 1024], pairs(511, "ab"), class, vec![b'a'; 1024], longest()];
+    checks.stack("build", &rules.map(|rule| build_call(&rule, LONGEST)));
 }
 
 // ---- generated rules
@@ -212,12 +142,12 @@ fn stack(checks: &mut Checks) {
 fn every_byte(checks: &mut Checks) {
     for b in 0..=255 {
         for rule in [&[b][..], &[b'\\', b], &[b'a', b], &[b'[', b, b']'], &[b'[', b, b'-', b'~', b']'], &[b'a', b'{', b, b'}']] {
-            checks.beside("every byte", rule, 530);
+            checks.build_beside("every byte", rule, 530);
         }
     }
     for &first in TELLING {
         for &second in TELLING {
-            checks.beside("two bytes", &[first, second], 530);
+            checks.build_beside("two bytes", &[first, second], 530);
         }
     }
 }
@@ -249,7 +179,7 @@ fn seeds(checks: &mut Checks) {
             3 => LONGEST + 100,
             _ => length + r.below(20),
         };
-        checks.beside(&format!("seed {seed}"), &rule, room);
+        checks.build_beside(&format!("seed {seed}"), &rule, room);
         seen.note(&rule, room);
     }
     seen.tell(checks);
@@ -282,23 +212,4 @@ impl Seen {
         let fewest = numbers.iter().chain([over_64, over_448, eight_deep]).min();
         checks.same("there are 20 of each kind", fewest >= Some(&20), true);
     }
-}
-
-fn main() {
-    let arguments: Vec<String> = std::env::args().collect();
-    let [_, folder, driver] = &arguments[..] else {
-        eprintln!("usage: library VECTORS DRIVER");
-        exit(2);
-    };
-    let mut checks = Checks { driver: Driver::start(driver), passed: 0, failed: 0 };
-    let mut answers = Vec::new();
-    checks.part("outside vectors", |c| answers = outside(c, Path::new(folder)));
-    checks.part("faults planted in copies of their answers", |c| planted(c, &answers));
-    checks.part("document 01's examples", examples);
-    checks.part("limits", limits);
-    checks.part("stack", stack);
-    checks.part("rules of every byte", every_byte);
-    checks.part("rules from seeds", seeds);
-    println!("library: {} passed, {} failed", checks.passed, checks.failed);
-    exit(i32::from(checks.failed > 0));
 }

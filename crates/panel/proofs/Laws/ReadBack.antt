@@ -1,0 +1,60 @@
+-- READ BACK'S COUNT FITS: a tree within 512 states has at most 511 tokens, and each is written with at most 2,307 bytes.
+use mathlib.Core.Path.{_≡_, refl, ap}
+use mathlib.Core.List.{List, [], _∷_}
+use Prim.Native.Nat.{ℕ, _*_, _/_, _%_, _^_, _≤_, _<_}
+use native.Mathlib.Omega.{arith}
+use lib.ListN.{length, length-append}
+use Rattle.model.specs.Answers.{Answer, no-room, not-an-image, ReadBackSays, written}
+use Rattle.model.specs.Edges.{states}
+use Rattle.model.specs.Models.Tokens.{aBar, aClose, aLetter, anOpen, Token, tokens}
+use Rattle.model.specs.Tree.{once, option, plus, Repeat, star, Tree}
+use Rattle.model.specs.Writing.{classWriting, repeatWriting, writing}
+use Rattle.model.proofs.Answers.ReadBack.{read-back-one}
+use Rattle.model.proofs.Image.Tokens.{length-tokens}
+use Rattle.model.proofs.Image.TokenWriting.{tokens-writing, tokensWriting, tokenWriting}
+use Rattle.writing.specs.Says.{writtenAnswer}
+use Rattle.writing.specs.declared.Written.{Written}
+use Rattle.writing.specs.declared.Written.the-variants.{Done, NoRoom, NotAnImage}
+use Rattle.writing.proofs.Laws.Bounds.{class-short}
+use Rattle.panel.specs.Says.{Gives}
+use Rattle.panel.proofs.Laws.Given.{count-is, number-is, one-given}
+
+sign-short : (r : Repeat) → length (repeatWriting r) ≤ 1
+sign-short once = omega arith
+sign-short option = omega arith
+sign-short star = omega arith
+sign-short plus = omega arith
+
+token-short : (x : Token) → length (tokenWriting x) ≤ 2307
+token-short (aLetter c r) = omega (arith, length-append (classWriting c) (repeatWriting r), class-short c, sign-short r)
+token-short anOpen = omega arith
+token-short aBar = omega arith
+token-short aClose = omega arith
+
+tokens-short : (xs : List Token) → length (tokensWriting xs) ≤ 2307 * length xs
+tokens-short [] = omega arith
+tokens-short (x ∷ xs) = omega (arith, length-append (tokenWriting x) (tokensWriting xs), token-short x, tokens-short xs)
+
+pub writing-small : (t : Tree) → states t ≤ 512 → length (writing t) ≤ 1178877
+writing-small t m = omega (arith, ap (λ (w : List ℕ). length w) (tokens-writing t), tokens-short (tokens t []), length-tokens t)
+
+module _ {words before : List ℕ} where
+  pub count-small : {a : Answer} → ReadBackSays words before a → a .count ≤ 1178877
+  count-small (not-an-image n e) = omega (arith, ap (λ (a : Answer). a .count) e)
+  count-small (no-room t i l e) = omega (arith, ap (λ (a : Answer). a .count) e)
+  count-small (written t i l e) = omega (arith, ap (λ (a : Answer). a .count) e, writing-small t (i .few))
+
+  -- WHAT A CALLER TAKES FROM THE NUMBER GIVEN is the table's number and count; and there is one number to be given
+  module _ {r : ℕ} {after : List ℕ} (G : Gives (ReadBackSays words before) r after) where
+    pub read-back-apart : (r / 2 ^ 32 ≡ G .answer .number) × (r % 2 ^ 32 ≡ G .answer .count)
+    read-back-apart = let l : G .answer .count < 2 ^ 32 = omega (arith, count-small (G .says)) in (number-is G l, count-is G l)
+
+    pub read-back-given : {q : ℕ} {later : List ℕ} → Gives (ReadBackSays words before) q later → (r ≡ q) × (after ≡ later)
+    read-back-given H = one-given G (read-back-one words before) H
+
+-- read back's answer as an enum: number and count do not depend on what was lent
+pub with-lent : (w : Written) (after : List ℕ)
+    → writtenAnswer w after ≡ record { number = writtenAnswer w [] .number; count = writtenAnswer w [] .count; lent = after }
+with-lent NotAnImage after = refl
+with-lent NoRoom after = refl
+with-lent (Done n) after = refl

@@ -1,0 +1,25 @@
+//! The library for C, called through tests/driver.c: the outside vectors, document 01's examples and limits, generated rules beside the independent
+//! program, and damaged images; number, count and everything lent. Usage: library VECTORS DRIVER (tests/library makes the driver)
+
+mod build;
+mod checks;
+mod damage;
+mod masks;
+mod read_back;
+
+use checks::Checks;
+use std::path::Path;
+use std::process::exit;
+
+fn main() {
+    let arguments: Vec<String> = std::env::args().collect();
+    let [_, folder, driver] = &arguments[..] else {
+        eprintln!("usage: library VECTORS DRIVER");
+        exit(2);
+    };
+    let mut checks = Checks::start(driver);
+    build::all(&mut checks, Path::new(folder));
+    read_back::all(&mut checks, Path::new(folder));
+    damage::all(&mut checks);
+    exit(i32::from(!checks.tell()));
+}

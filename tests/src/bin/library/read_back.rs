@@ -1,0 +1,169 @@
+//! Read back: the outside vectors, document 01's examples, images that the proved build gives, every byte, and writings longer than any rule.
+
+use crate::build::{longest, unions};
+use crate::checks::{Checks, LONGEST};
+use outside_checks::driver::{read_back_call, Answer};
+use outside_checks::generate::{nested, sized, small, Random};
+use outside_checks::independent::{build, image, parse, writing, Class, Item, Repeat, Sequence};
+use outside_checks::{bytes, expand, runs, vectors};
+use std::path::Path;
+
+pub fn all(checks: &mut Checks, folder: &Path) {
+    let mut answers = Vec::new();
+    checks.part("read back: outside vectors", |c| answers = outside(c, folder));
+    checks.part("read back: faults planted in copies of their answers", |c| planted(c, &answers));
+    checks.part("read back: document 01's examples", examples);
+    checks.part("read back: what build gives for the outside vectors", |c| built_vectors(c, folder));
+    checks.part("read back: what build gives for rules from seeds", built_seeds);
+    checks.part("read back: every byte", every_byte);
+    checks.part("read back: writings longer than 1,024 bytes", long_writings);
+    checks.part("read back: stack", stack);
+}
+
+// ---- the outside vectors, and faults planted in copies of their answers
+
+fn outside(checks: &mut Checks, folder: &Path) -> Vec<(Answer<u8>, Answer<u8>)> {
+    let mut answers = Vec::new();
+    for (i, v) in vectors(folder, "readback.txt", "readback").iter().enumerate() {
+        let (words, room, written) = (expand(&runs(&v[0])), v[1].parse().expect("ROOM"), bytes(&v[4]));
+        let expected = Answer::of(v[2].parse().expect("NUMBER"), &written, room);
+        assert_eq!(expected.count.to_string(), v[3], "COUNT");
+        if let Some(got) = checks.read_back(&format!("vector in line {}", i + 1), &words, &expected) {
+            answers.push((got, expected));
+        }
+    }
+    answers
+}
+
+fn planted(checks: &mut Checks, answers: &[(Answer<u8>, Answer<u8>)]) {
+    checks.planted(answers);
+    for place in [-1, 7] {
+        let seen = checks.driver.spoil_byte(place, 7).is_err();
+        checks.same("a change beside the lent bytes is seen", seen, true);
+    }
+    let spoilt = checks.driver.spoil_byte(3, 7).ok().and_then(|answer| answer.difference(&Answer::of(0, &[], 7)));
+    checks.same("a change of a lent byte is seen", spoilt.is_some(), true);
+}
+
+// ---- images read back in every room
+
+/// An image of a tree with this plain writing: room for more, just enough, one byte short, none.
+fn rooms(checks: &mut Checks, what: &str, image: &[u64], plain: &[u8]) {
+    for room in [plain.len() + 9, plain.len()] {
+        checks.read_back(what, image, &Answer::of(0, plain, room));
+    }
+    for room in [plain.len() - 1, 0] {
+        checks.read_back(what, image, &Answer::of(8, &[], room));
+    }
+}
+
+/// What the proved build gives for a rule, read back as the plain writing by the independent program.
+fn built(checks: &mut Checks, what: &str, rule: &[u8], plain: &[u8]) {
+    let what = format!("{what}, rule {}", rule.escape_ascii());
+    match checks.driver.build(rule, LONGEST) {
+        Ok(answer) => rooms(checks, &what, answer.written(), plain),
+        Err(why) => checks.note(&what, Some(why)),
+    }
+}
+
+fn plain(rule: &[u8]) -> Vec<u8> {
+    writing(&parse(rule).expect("a rule"))
+}
+
+fn examples(checks: &mut Checks) {
+    for (rule, plain) in [("a", "a"), ("a{2,3}", "a?aa"), ("((ab))", "ab"), ("a|b", "(a|b)"), ("((a|b)|c)", "((a|b)|c)"), ("[ba]", "[a-b]")] {
+        built(checks, "an example", rule.as_bytes(), plain.as_bytes());
+    }
+    built(checks, "512 states", b"a{511}", &[b'a'; 511]);
+    built(checks, "eight nested unions", &unions(8), &unions(8));
+    built(checks, "the longest image", &longest(), &[&unions(8)[..], &[b'a'; 478]].concat());
+}
+
+fn built_vectors(checks: &mut Checks, folder: &Path) {
+    for v in vectors(folder, "build.txt", "build").iter().filter(|v| v[2] == "0") {
+        let rule = bytes(&v[0]);
+        built(checks, "a vector of build", &rule, &plain(&rule));
+    }
+}
+
+fn built_seeds(checks: &mut Checks) {
+    for seed in 0..500 {
+        let mut r = Random::new(seed);
+        let rule = match seed {
+            0..300 => small(&mut r),
+            300..400 => {
+                let deep = r.between(1, 8);
+                nested(&mut r, deep)
+            }
+            _ => {
+                let (wanted, deep) = (r.between(60, 512), r.below(9));
+                sized(&mut r, wanted, deep)
+            }
+        };
+        if build(&rule, LONGEST).0 == 0 {
+            built(checks, &format!("seed {seed}"), &rule, &plain(&rule));
+        }
+    }
+}
+
+// ---- trees that no rule of 1,024 bytes has
+
+fn tree(checks: &mut Checks, what: &str, tree: &[Item]) {
+    rooms(checks, what, &image(tree), &writing(tree));
+}
+
+/// Each byte alone, up to it, from it on, and all others; with each repeat sign.
+fn every_byte(checks: &mut Checks) {
+    for b in 0..256 {
+        let repeat = [Repeat::Once, Repeat::Option, Repeat::Star, Repeat::Plus][b % 4];
+        let ways: [&dyn Fn(usize) -> bool; 4] = [&|x| x == b, &|x| x <= b, &|x| x >= b, &|x| x != b];
+        for is_in in ways {
+            let class = Class(std::array::from_fn(is_in));
+            tree(checks, &format!("byte {b}"), &[Item::Letter(class, repeat)]);
+        }
+    }
+}
+
+/// Classes whose writing is long: every other byte, two in three, and any.
+fn wide(r: &mut Random) -> Class {
+    match r.below(3) {
+        0 => Class(std::array::from_fn(|b| b % 2 == 0)),
+        1 => Class(std::array::from_fn(|b| b % 3 != 2)),
+        _ => Class(std::array::from_fn(|b| b == 97 || r.below(2) == 0)),
+    }
+}
+
+fn widen(r: &mut Random, sequence: &mut [Item]) {
+    for item in sequence {
+        match item {
+            Item::Letter(class, _) => *class = wide(r),
+            Item::Union(alternatives) => alternatives.iter_mut().for_each(|a| widen(r, a)),
+        }
+    }
+}
+
+fn long_writings(checks: &mut Checks) {
+    let mut longest = 0;
+    for seed in 0..40 {
+        let mut r = Random::new(seed);
+        let mut wider: Sequence = if seed < 4 {
+            parse(["a{511}", "a{,511}", "a{255}a*a{255}", "a+a{509}a+"][seed as usize].as_bytes()).expect("a rule")
+        } else {
+            let (wanted, deep) = (r.between(20, 512), r.below(9));
+            parse(&sized(&mut r, wanted, deep)).expect("a rule")
+        };
+        widen(&mut r, &mut wider);
+        let length = writing(&wider).len();
+        longest = longest.max(length);
+        checks.same(&format!("seed {seed}: the writing passes 1,024 bytes"), length > 1024, true);
+        tree(checks, &format!("wide classes, seed {seed}"), &wider);
+    }
+    println!("library: the longest writing read back: {longest} bytes");
+}
+
+fn stack(checks: &mut Checks) {
+    let mut wider = parse(&longest()).expect("a rule");
+    widen(&mut Random::new(0), &mut wider);
+    let images = [image(&parse(b"a").expect("a rule")), image(&wider), vec![0; 9], Vec::new()];
+    checks.stack("read back", &images.map(|words| read_back_call(&words, 1 << 19)));
+}

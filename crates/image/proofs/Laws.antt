@@ -1,4 +1,6 @@
 -- What the proofs of the functions cite.
+-- Letters is one more state in a byte's mask; TokenWords what a token's words tell, Tapes that they are the tree's tape; Written that what is written is
+-- the image, Answers what store says of it. Stores, Parts, Lengths and Whole: words, parts and sections written one after another.
 pub mod Letters
 pub mod TokenWords
 pub mod Tapes

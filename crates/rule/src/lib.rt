@@ -11,7 +11,7 @@ pub mod kinds;
 mod letters;
 mod readers;
 mod repeats;
-pub mod tokens;
+mod tokens;
 
 use crate::readers::bracket;
 use crate::readers::read_alternatives;

@@ -14,10 +14,9 @@ use tape::scatter_source;
 use tape::scatter_target;
 ghost use mathlib.Core.Path.{_≡_};
 ghost use mathlib.Core.Bool.{cond, not};
-ghost use Prim.Native.Nat.{_+_, _*_, _≤_, _<_, suc};
+ghost use Prim.Native.Nat.{_+_, _*_, _≤_, suc};
 ghost use lib.Dec.{eqb};
 ghost use lib.ListN.{length as lengthOf};
-ghost use Rattle.model.specs.Models.Apart.{gatherAt, propagateAt, scatterAt};
 ghost use Rattle.verdict.specs.Work.{sameAll, sameGather, samePropagate, sameRepeats, sameScatter, sameTables};
 
 // Each mask of the repeats is the byte's mask of the letters at the loops' places.

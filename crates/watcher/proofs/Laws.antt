@@ -1,2 +1,3 @@
--- Build puts reading and storing together.
+-- Build puts reading and storing together, match the check and the run.
 pub mod Build
+pub mod Match

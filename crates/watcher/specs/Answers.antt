@@ -8,6 +8,8 @@ use Rattle.image.specs.declared.Stored.{Stored}
 use Rattle.image.specs.declared.Stored.the-variants as stored
 use Rattle.watcher.specs.declared.Built.{Built}
 use Rattle.watcher.specs.declared.Built.the-variants.{Done, NoRoom, NotARule, TooDeep, TooLong, TooManyStates}
+use Rattle.watcher.specs.declared.Matched.{Matched}
+use Rattle.watcher.specs.declared.Matched.the-variants as matching
 
 abbrev pub builtAnswer : Built → List ℕ → Answer
 builtAnswer TooLong lent = refused 1 lent
@@ -16,6 +18,11 @@ builtAnswer TooManyStates lent = refused 3 lent
 builtAnswer TooDeep lent = refused 4 lent
 builtAnswer NoRoom lent = refused 5 lent
 builtAnswer (Done n) lent = record { number = 0; count = n; lent = lent }
+
+abbrev pub matchedAnswer : Matched → List ℕ → Answer
+matchedAnswer matching.NotAnImage lent = refused 6 lent
+matchedAnswer matching.TextTooLong lent = refused 7 lent
+matchedAnswer (matching.Done n) lent = record { number = 0; count = n; lent = lent }
 
 -- ---- what becomes of a tree's tokens
 abbrev pub builtOf : Stored → Built

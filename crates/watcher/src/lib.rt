@@ -6,10 +6,13 @@ mod building;
 use crate::building::store_tree;
 use rule::Outcome;
 use rule::read_rule;
+use run::ends::find;
+use verdict::Verdict;
+use verdict::check;
 use writing::Written;
-ghost use Rattle.model.specs.Answers.{BuildSays, ReadBackSays};
+ghost use Rattle.model.specs.Answers.{BuildSays, MatchSays, ReadBackSays};
 ghost use Rattle.writing.specs.Says.{writtenAnswer};
-ghost use Rattle.watcher.specs.Answers.{builtAnswer};
+ghost use Rattle.watcher.specs.Answers.{builtAnswer, matchedAnswer};
 
 // What build answers: the refusals 1 to 5 in the table's order, or done, with the image's length.
 pub enum Built {
@@ -41,4 +44,28 @@ pub fn read_back(image: &[u64], bytes: &mut [u8]) -> Written
     ensures { λ r. ⌜ ReadBackSays (now (image .entry)) (now (bytes .entry)) (writtenAnswer r (now (bytes .exit))) ⌝ }
 {
     writing::read_back(image, bytes)
+}
+
+// What match answers: the refusals 6 and 7, or done, with the total of the ends.
+pub enum Matched {
+    NotAnImage,
+    TextTooLong,
+    Done(usize),
+}
+
+// Match: from an image and a text to the places of the ends, rising, as far as what is lent reaches. The image is checked in this same call: what
+// was checked is what runs.
+pub fn match_ends(image: &[u64], text: &[u8], ends: &mut [u32]) -> Matched
+    ensures { λ r. ⌜ MatchSays (now (image .entry)) (now (text .entry)) (now (ends .entry)) (matchedAnswer r (now (ends .exit))) ⌝ }
+{
+    let checked = check(image);
+    let verdict = checked.verdict;
+    let Verdict::Image(_) = verdict else {
+        return Matched::NotAnImage;
+    };
+    if text.len() > 65535 {
+        return Matched::TextTooLong;
+    }
+    let total = find(image, text, ends);
+    Matched::Done(total as usize)
 }

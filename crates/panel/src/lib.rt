@@ -1,15 +1,17 @@
 // The watcher's operations as a library for C and firmware: a symbol for each, which trusts no caller. Each gives one 64-bit number,
 // document 01's number times 2^32 plus the count.
 use watcher::Built;
+use watcher::Matched;
 use watcher::build;
+use watcher::match_ends;
 use watcher::read_back;
 use writing::Written;
 ghost use mathlib.Core.List.{[]};
 ghost use mathlib.Core.Path.{_≡_};
 ghost use Prim.Native.Nat.{_+_, _*_, _^_, _≤_, _<_};
-ghost use Rattle.model.specs.Answers.{BuildSays, ReadBackSays};
+ghost use Rattle.model.specs.Answers.{BuildSays, MatchSays, ReadBackSays};
 ghost use Rattle.writing.specs.Says.{writtenAnswer};
-ghost use Rattle.watcher.specs.Answers.{builtAnswer};
+ghost use Rattle.watcher.specs.Answers.{builtAnswer, matchedAnswer};
 ghost use Rattle.panel.specs.Says.{Gives, packed};
 
 // Document 01's number and the count, in one.
@@ -63,4 +65,25 @@ pub extern "C" fn lavumbishe_read_back(image: &[u64], writing: &mut [u8]) -> u64
 {
     let written = read_back(image, writing);
     pack_written(written)
+}
+
+// What match answered.
+fn pack_matched(matched: Matched) -> u64
+    requires { ⌜ matchedAnswer matched [] .count < 2 ^ 32 ⌝ }
+    ensures { λ r. ⌜ r ≡ packed (matchedAnswer matched []) ⌝ }
+{
+    match matched {
+        Matched::NotAnImage => pack(6, 0),
+        Matched::TextTooLong => pack(7, 0),
+        Matched::Done(total) => pack(0, total),
+    }
+}
+
+// Match: from an image and a text to the places of the ends, in lent 32-bit numbers.
+#[no_mangle]
+pub extern "C" fn lavumbishe_match(image: &[u64], text: &[u8], ends: &mut [u32]) -> u64
+    ensures { λ r. ⌜ Gives (MatchSays (now (image .entry)) (now (text .entry)) (now (ends .entry))) r (now (ends .exit)) ⌝ }
+{
+    let matched = match_ends(image, text, ends);
+    pack_matched(matched)
 }

@@ -1,1 +1,3 @@
+-- Demands: the theorems over the three contracts. Laws: what the proofs of the code cite.
+pub mod Demands
 pub mod Laws

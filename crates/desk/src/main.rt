@@ -23,6 +23,5 @@ fn main() {
     let journal_length = read_file(b"journal", &mut journal);
     let mut text = [0u8; 22400];
     let length = report(&rule[..rule_length], &journal[..journal_length], &mut text);
-    let count = io::count(length as isize, &text);
-    io::write_all(1, &text[..count]);
+    io::write_all(1, &text[..length]);
 }

@@ -1,7 +1,7 @@
 -- WHAT THE THREE READERS' ANSWERS SAY: what the model read, the place after it, and its tokens, written from token n on.
 use mathlib.Core.Path.{_≡_}
 use mathlib.Core.List.{List, []}
-use Prim.Native.Nat.{ℕ, suc, _+_, _-_, _*_, _^_, _≤_, _<_}
+use Prim.Native.Nat.{ℕ, _+_, _-_, _*_, _^_, _≤_, _<_}
 use lib.ListN.{length}
 use lib.Seq.{sets}
 use Rattle.model.specs.Bytes.{byte}

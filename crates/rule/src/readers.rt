@@ -14,7 +14,7 @@ use letters::byte_at;
 use letters::read_letter;
 use letters::read_sign;
 ghost use mathlib.Core.Path.{_≡_};
-ghost use Prim.Native.Nat.{_+_, _*_, _≤_};
+ghost use Prim.Native.Nat.{_+_, _≤_};
 ghost use lib.ListN.{drop, length};
 ghost use Rattle.model.specs.Models.Reader.{over, readPiece};
 ghost use Rattle.model.proofs.Reading.Cycle.{alts, item as itemOf, seq};

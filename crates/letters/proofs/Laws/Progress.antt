@@ -6,7 +6,7 @@ use native.Mathlib.Omega.{arith}
 use lib.Dec.{eqb, leb}
 use lib.ListN.{drop, length, length-append, length-drop}
 use Rattle.model.specs.Bytes.{byte, digit, IsEscape}
-use Rattle.model.specs.Grammar.{absent, asterisk, bare, both, braces, class, cross, dot, escape, IsBounds, IsLetter, IsNumber, IsSign, one, plain-byte, plainly, question, same, Sign, span, three, times, two, upto}
+use Rattle.model.specs.Grammar.{absent, asterisk, bare, both, braces, class, cross, dot, escape, IsBounds, IsLetter, IsNumber, IsSign, one, plain-byte, question, same, Sign, span, three, two, upto}
 use Rattle.model.specs.Models.Reader.{bad, bind, case, got, Read, readEscape, readLetter, readMember, readSign, readSingle}
 use Rattle.model.proofs.Laws.Bool.{cond-cases}
 use Rattle.model.proofs.Reading.Answers.{Holds, past-cases, sound-holds}

@@ -1,14 +1,13 @@
 -- TOKENS WRITTEN ONE AFTER ANOTHER: a token is five words, so a row of n is 5 * n words; and a class's four words are those of its number.
 use mathlib.Core.Path.{_≡_, refl, sym, ap, ap₂, _∙_}
 use mathlib.Core.List.{List, [], _∷_, _++_, append-assoc, append-nil}
-use Prim.Native.Nat.{ℕ, zero, suc, _+_, _-_, _*_, _/_, _%_, _^_}
+use Prim.Native.Nat.{ℕ, zero, suc, _+_, _-_, _*_}
 use native.Mathlib.Omega.{arith}
 use lib.ListN.{length, take, drop, length-append}
 use lib.Seq.{sets}
 use Rattle.model.specs.Grammar.{copies, repeated, times}
-use Rattle.model.specs.Image.{words}
 use Rattle.model.specs.Models.Tokens.{aLetter, Token, tokens}
-use Rattle.model.specs.Models.Words.{Fit, value}
+use Rattle.model.specs.Models.Words.{Fit}
 use Rattle.model.specs.Tree.{end, once, option, Repeat, Seq}
 use Rattle.model.proofs.Laws.Each.{each-app}
 use Rattle.model.proofs.Laws.Stores.{sets-append}

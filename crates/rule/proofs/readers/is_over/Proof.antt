@@ -1,5 +1,5 @@
 -- The model looks at the first of the bytes that are left, which is the byte at the place, or at none.
-use mathlib.Core.Path.{_≡_, refl, sym, ap, _∙_}
+use mathlib.Core.Path.{refl, sym, ap}
 use mathlib.Core.Bool.{or-false}
 use lib.Dec.{eqb}
 use lib.ListN.{drop, getD, drop-of-length-le}

@@ -9,7 +9,7 @@ span-requires : tie.Need-span-requires
 span-requires c κs = search needs
 
 returns : tie.Need-returns
-returns c = c .span .ensures ∙ span-one (c .before .args .b) (search needs)
+returns c = c .span .ensures ∙ span-one (c .before .args .b) (c .before .good .0 .1)
 
 pub one-spec : {M : Type 1} → statement M
 one-spec = tie.close (tie.spec span-requires returns)

@@ -49,10 +49,7 @@ AlternativesSay rule n m before after (noAlternatives p) = Stopped rule m p
 abbrev pub afterLetter : ℕ → List ℕ → Read Seq
 afterLetter c l = bind (readSign l) (λ q r. got (repeated c q) r)
 
--- as one item; and before `)`
-abbrev pub asItem : Read Alts → Read Seq
-asItem m = bind m (λ a r. got (bracket a) r)
-
+-- as one item, before `)`
 abbrev pub closed : Read Alts → Read Seq
 closed m = bind m (λ a r. bind (past (byte ")") r) (λ y r′. got (bracket a) r′))
 

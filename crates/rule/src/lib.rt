@@ -1,5 +1,5 @@
-// Rules read: document 01, "The grammar". Readers go over the rule's bytes from a place on and answer what they read and the place after it, or
-// the place of the first byte that cannot be read. What an answer says is defined in specs/Answers.antt.
+// Rules read: document 01, "The grammar". Readers go over the rule's bytes from a place on, letter by letter (crate letters), and answer the place
+// after what they read, or the place of the first byte that cannot be read. What an answer says is defined in specs/Parts.antt.
 ghost use mathlib.Core.Path.{_≡_};
 ghost use Rattle.rule.specs.Says.{outcomeOf, reading, ReadSays};
 ghost use Rattle.rule.specs.Tokens.{noTokens};
@@ -11,13 +11,13 @@ use crate::readers::bracket;
 use crate::readers::read_alternatives;
 
 // An item or a sequence: the place after it and the number of the token after its own.
-pub enum Part {
+enum Part {
     Got(usize, usize),
     Bad(usize),
 }
 
 // Alternatives, one or several: likewise.
-pub enum Alternatives {
+enum Alternatives {
     One(usize, usize),
     Several(usize, usize),
     Bad(usize),

@@ -33,6 +33,11 @@ pub fn bytes(field: &str) -> Vec<u8> {
     (0..field.len() / 2).map(|i| u8::from_str_radix(&field[2 * i..2 * i + 2], 16).expect("hex")).collect()
 }
 
+/// A file's bytes, or no file.
+pub fn file(field: &str) -> Option<Vec<u8>> {
+    (field != "missing").then(|| bytes(field))
+}
+
 /// Words as LENGTH;RUNS.
 pub fn runs(field: &str) -> Runs {
     let (length, listed) = field.split_once(';').expect("LENGTH;RUNS");

@@ -2,8 +2,8 @@
 // driver ends WHICH FOLDER           writes the ends in the whole journal, one to a line, or why there are none
 // driver speed FOLDER                how fast the proved library is beside C, and beside Hyperscan: more than 1 is faster
 //
-// WHICH is proved, c or hyperscan. FOLDER has the files image, text and rule (its plain writing) that tests/src/bin/speed.rs writes. The proved library's
-// time is that of the whole call, the check of the image included.
+// WHICH is proved, c or hyperscan. FOLDER has the files image, text and rule (its plain writing) that tests/src/bin/speed.rs writes. The proved
+// library's time is that of the whole call, the check of the image included.
 #define _POSIX_C_SOURCE 199309L
 #include "lavumbishe.h"
 #include <fcntl.h>

@@ -9,7 +9,7 @@
  *         ...                                               refused: image is as it was
  *     size_t image_len = lavumbishe_count(built);           lend exactly these words to the other two
  *
- * examples/watch.c is a whole program.
+ * examples/watch.c is a whole program. 'rt staticlib panel' makes the library, target/staticlib/libpanel.a, for x86-64 and the calls of C on Linux.
  *
  * The result holds two numbers: the number of the table below times 2^32, and a count below 2^32. Take them apart with lavumbishe_number and
  * lavumbishe_count. The checks run in the table's order, and the first that fails gives its number. A refusal has count 0 and changes nothing that

@@ -1,7 +1,6 @@
-//! Rules and texts made by a fixed generator: valid rules in every way of writing, small, large and deep, and broken ones; texts in which a rule happens,
-//! nearly happens and does not.
+//! Rules made by a fixed generator: valid ones in every way of writing, small, large and deep, and broken ones.
 
-use crate::independent::{parse, states, Item, Repeat};
+use crate::independent::{parse, states};
 
 /// Numbers from a seed (splitmix64).
 pub struct Random(u64);
@@ -34,7 +33,7 @@ impl Random {
         self.below(n) == 0
     }
 
-    fn pick<'a, T>(&mut self, all: &'a [T]) -> &'a T {
+    pub fn pick<'a, T>(&mut self, all: &'a [T]) -> &'a T {
         &all[self.below(all.len())]
     }
 }
@@ -57,7 +56,8 @@ fn single(r: &mut Random, byte: u8, out: &mut Vec<u8>) {
     }
 }
 
-fn any_byte(r: &mut Random) -> u8 {
+/// Most often one of the small letters that generated rules are made of.
+pub fn any_byte(r: &mut Random) -> u8 {
     match r.below(4) {
         0 => r.below(256) as u8,
         1 => *r.pick(SIGNS),
@@ -234,51 +234,4 @@ pub fn broken(r: &mut Random) -> Vec<u8> {
 /// A few of the telling bytes, in any order.
 pub fn jumbled(r: &mut Random) -> Vec<u8> {
     (0..r.between(3, 12)).map(|_| *r.pick(TELLING)).collect()
-}
-
-// ---- texts
-
-/// One way to spell a tree, each letter repeated at most three times.
-pub fn spelled(r: &mut Random, sequence: &[Item], out: &mut Vec<u8>) {
-    for item in sequence {
-        match item {
-            Item::Letter(class, repeat) => {
-                let bytes: Vec<u8> = (0..=255).filter(|b| class.0[*b as usize]).collect();
-                let (least, most) = match repeat {
-                    Repeat::Once => (1, 1),
-                    Repeat::Option => (0, 1),
-                    Repeat::Star => (0, 3),
-                    Repeat::Plus => (1, 3),
-                };
-                for _ in 0..r.between(least, most) {
-                    out.push(*r.pick(&bytes));
-                }
-            }
-            Item::Union(alternatives) => {
-                let chosen = r.pick(alternatives);
-                spelled(r, chosen, out);
-            }
-        }
-    }
-}
-
-/// A text of just so many bytes: the rule spelled, spelled but for one byte, cut short, and other bytes, one after another.
-pub fn text(r: &mut Random, tree: &[Item], length: usize) -> Vec<u8> {
-    let mut text = Vec::new();
-    while text.len() < length {
-        let mut part = Vec::new();
-        spelled(r, tree, &mut part);
-        match r.below(5) {
-            0 if !part.is_empty() => {
-                let at = r.below(part.len());
-                part[at] = any_byte(r);
-            }
-            1 => part.truncate(r.below(part.len() + 1)),
-            2 => part = (0..r.between(1, 9)).map(|_| any_byte(r)).collect(),
-            _ => {}
-        }
-        text.extend(part);
-    }
-    text.truncate(length);
-    text
 }

@@ -1,9 +1,10 @@
 //! Reading the outside vectors (their format is in vectors/README.md); document 01 once more, independently; calls of the library for C, and rules
-//! for it.
+//! and texts for it.
 
 pub mod driver;
 pub mod generate;
 pub mod independent;
+pub mod texts;
 
 use std::fs;
 use std::path::Path;

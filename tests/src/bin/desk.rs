@@ -1,8 +1,9 @@
 //! The desk program, run in a folder for each case: what it writes must be, byte for byte, what the outside vector or the independent program says.
 //! Usage: desk VECTORS PROGRAM FOLDER (tests/desk makes the program)
 
-use outside_checks::generate::{broken, nested, sized, small, text, Random};
+use outside_checks::generate::{broken, nested, sized, small, Random};
 use outside_checks::independent::{desk, parse, writing};
+use outside_checks::texts::text;
 use outside_checks::{bytes, file, vectors};
 use std::fs;
 use std::path::{Path, PathBuf};

@@ -36,8 +36,8 @@ fn rules() -> Vec<String> {
 
 const JOURNALS: [&str; 3] = ["quiet", "busy", "hard"];
 
-/// A journal of 65,535 bytes by a fixed generator. Quiet: one event in 32 is of those that the rules name. Busy: all are. Hard: nearly all are A or B,
-/// which keep the most states live.
+/// A journal of 65,535 bytes by a fixed generator. Quiet: one event in 32 is of those that the rules name. Busy: all are. Hard: nearly all are A or
+/// B, which keep the most states live.
 fn journal(kind: &str) -> Vec<u8> {
     let mut state: u32 = 1;
     let mut below = |n: u32| {

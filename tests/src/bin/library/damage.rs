@@ -4,8 +4,9 @@ use crate::build::{longest, unions};
 use crate::checks::Checks;
 use crate::masks::{sections, Masks};
 use outside_checks::driver::Answer;
-use outside_checks::generate::{nested, sized, small, text, Random};
+use outside_checks::generate::{nested, sized, small, Random};
 use outside_checks::independent::{depth, ends, image, parse, states, writing, Class, Item, Repeat, Sequence};
+use outside_checks::texts::text;
 use std::ops::Range;
 
 pub fn all(checks: &mut Checks) {

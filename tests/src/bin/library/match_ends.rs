@@ -1,11 +1,12 @@
-//! Match: document 01's examples and limits, and generated rules on generated texts beside the independent program, all on images that the proved build
-//! gave; and the three operations one after another as the desk program calls them.
+//! Match: document 01's examples and limits, and generated rules on generated texts beside the independent program, all on images that the proved
+//! build gave; and the three operations one after another as the desk program calls them.
 
 use crate::build::{longest, unions};
 use crate::checks::{Checks, LONGEST};
 use outside_checks::driver::{build_call, match_call, read_back_call, Answer};
-use outside_checks::generate::{nested, sized, small, text, Random};
+use outside_checks::generate::{nested, sized, small, Random};
 use outside_checks::independent::{build, depth, ends, image, parse, states};
+use outside_checks::texts::text;
 use outside_checks::{bytes, file, vectors};
 use std::path::Path;
 

@@ -1,11 +1,11 @@
-// One rule from the desk to the panel. The rule: the dosing valve is opened (O) twice with no flow (F) between. The desk builds its image and reads
-// it back for the inspector; the panel gets the image alone and looks for the rule in a journal, one byte for each event.
+// One rule from the desk to the panel, that of examples/valve: the dosing valve is opened (O) twice with no flow (F) between. The desk builds its
+// image and reads it back for the inspector; the panel gets the image alone and looks for the rule in a journal, one byte for each event.
 #include "lavumbishe.h"
 #include <stdio.h>
 #include <string.h>
 
 static const char rule[] = "O[A-EG-NP-Z]*O";
-static const char journal[] = "SOFCSOCPOFCSOO";
+static const char journal[] = "OFCMOFCMOPCMOFCAKOFCOC";
 
 // What is stored and handed over: the words, and how many they are.
 static uint64_t image[LAVUMBISHE_IMAGE_WORDS];

@@ -1,5 +1,5 @@
 //! The desk program, run in a folder for each case: what it writes must be, byte for byte, what the outside vector or the independent program says.
-//! Usage: desk VECTORS PROGRAM FOLDER (tests/desk makes the program)
+//! Usage: desk VECTORS EXAMPLES PROGRAM FOLDER (tests/desk makes the program)
 
 use outside_checks::generate::{broken, nested, sized, small, Random};
 use outside_checks::independent::{desk, parse, writing};
@@ -106,6 +106,20 @@ fn outside(checks: &mut Checks, folder: &Path) {
     }
 }
 
+/// The shipped examples: folders with a rule, a journal and the report that is to come.
+fn examples(checks: &mut Checks, folder: &Path) {
+    let mut count = 0;
+    for entry in fs::read_dir(folder).unwrap_or_else(|e| panic!("{}: {e}", folder.display())) {
+        let example = entry.expect("an example").path();
+        let [rule, journal, report] = ["rule", "journal", "report"].map(|name| fs::read(example.join(name)));
+        let (Ok(rule), Ok(journal), Ok(report)) = (rule, journal, report) else { continue };
+        checks.note(&format!("{}: the independent program", example.display()), desk(&rule, &journal) == report);
+        checks.same(&example.display().to_string(), &File::Bytes(rule), &File::Bytes(journal), &report);
+        count += 1;
+    }
+    checks.note("there are examples", count > 0);
+}
+
 fn files(checks: &mut Checks) {
     let (a, aba) = (File::of("a"), File::of("aba"));
     checks.beside("document 01's example", &a, &aba, "a\ntotal 2\n1\n3\n");
@@ -187,11 +201,12 @@ fn faults(checks: &mut Checks) {
 
 fn main() {
     let arguments: Vec<String> = std::env::args().collect();
-    let [_, vectors, program, folder] = &arguments[..] else {
-        eprintln!("usage: desk VECTORS PROGRAM FOLDER");
+    let [_, vectors, shipped, program, folder] = &arguments[..] else {
+        eprintln!("usage: desk VECTORS EXAMPLES PROGRAM FOLDER");
         exit(2);
     };
     let mut checks = Checks { program: program.clone(), folder: PathBuf::from(folder), passed: 0, failed: 0 };
+    checks.part("shipped examples", |c| examples(c, Path::new(shipped)));
     checks.part("outside vectors", |c| outside(c, Path::new(vectors)));
     checks.part("faults planted in copies of an answer", faults);
     checks.part("files", files);

@@ -1,11 +1,12 @@
-//! Damaged images: each is refused with 6, or read back as exactly the tree whose image it is.
+//! Damaged images: each is refused with 6, or read back as exactly the tree whose image it is, and matched as that tree.
 
 use crate::build::{longest, unions};
 use crate::checks::Checks;
 use crate::masks::{sections, Masks};
 use outside_checks::driver::Answer;
 use outside_checks::generate::{nested, sized, small, Random};
-use outside_checks::independent::{depth, image, parse, states, writing, Class, Item, Repeat, Sequence};
+use outside_checks::independent::{depth, ends, image, parse, states, writing, Class, Item, Repeat, Sequence};
+use outside_checks::texts::text;
 use std::ops::Range;
 
 pub fn all(checks: &mut Checks) {
@@ -36,17 +37,31 @@ struct Damage<'a> {
     name: String,
     image: Vec<u64>,
     room: usize,
+    /// in which the tree's rule happens
+    text: Vec<u8>,
+    attempts: usize,
 }
 
 impl Damage<'_> {
     fn of<'a>(checks: &'a mut Checks, tally: &'a mut Tally, name: String, tree: &[Item]) -> Damage<'a> {
-        Damage { checks, tally, name, image: image(tree), room: writing(tree).len() + 64 }
+        let text = text(&mut Random::new(1), tree, 12);
+        Damage { checks, tally, name, image: image(tree), room: writing(tree).len() + 64, text, attempts: 0 }
+    }
+
+    /// Match of these words refuses as read back does, and finds the ends of the tree that read back writes. One text in 64 is too long.
+    fn matched(&mut self, what: &str, words: &[u64], number: u64) {
+        self.attempts += 1;
+        let long = vec![b'a'; if self.attempts % 64 == 0 { 65536 } else { 0 }];
+        let text = if long.is_empty() { &self.text } else { &long };
+        let Some(found) = self.checks.match_beside(what, words, text, 4) else { return };
+        self.checks.same(&format!("{what}: match and read back refuse alike"), found.number == 6, number == 6);
     }
 
     /// Words in its place: the answer is the independent program's, and a writing is that of a tree with exactly these words as its image.
     fn attempt(&mut self, how: &str, words: &[u64]) {
         let what = format!("{}, {how}", self.name);
         let Some(answer) = self.checks.read_back_beside(&what, words, self.room) else { return };
+        self.matched(&what, words, answer.number);
         if answer.number != 0 {
             self.tally.refused += 1;
             return;
@@ -201,8 +216,10 @@ fn other_class(checks: &mut Checks, r: &mut Random, name: &str, tree: &Sequence)
     if loops {
         masks = masks.flipped(1, byte, state);
     }
-    let plain = writing(&other);
-    checks.read_back(&format!("{name}, byte {byte} for state {state}"), &masks.laid(), &Answer::of(0, &plain, plain.len() + 5));
+    let (what, words, plain) = (format!("{name}, byte {byte} for state {state}"), masks.laid(), writing(&other));
+    checks.read_back(&what, &words, &Answer::of(0, &plain, plain.len() + 5));
+    let text = text(r, &other, 40);
+    checks.match_ends(&what, &words, &text, &Answer::of(0, &ends(&other, &text), 9));
     true
 }
 
@@ -222,11 +239,11 @@ fn every_bit(checks: &mut Checks) {
 fn seeds(checks: &mut Checks) {
     let mut tally = Tally::default();
     let [mut classes, mut over_64, mut over_448, mut eight_deep] = [0; 4];
-    for seed in 0..160 {
+    for seed in 0..140 {
         let mut r = Random::new(seed);
         let (wanted, deep) = match seed {
             0..110 => (0, r.between(6, 8)),
-            110..135 => (r.between(60, 200), r.below(9)),
+            110..128 => (r.between(60, 200), r.below(9)),
             _ => (r.between(449, 512), r.below(9)),
         };
         let rule = match seed {
@@ -279,6 +296,7 @@ fn ill_formed(checks: &mut Checks) {
     ];
     for (what, tree) in trees {
         checks.read_back(what, &image(&tree), &Answer::of(6, &[], 40));
+        checks.match_ends(what, &image(&tree), b"aab", &Answer::of(6, &[], 4));
     }
 }
 
@@ -304,5 +322,6 @@ fn random_words(checks: &mut Checks) {
             words.truncate(r.below(20));
         }
         checks.read_back_beside(&format!("random words, seed {seed}"), &words, 64);
+        checks.match_beside(&format!("random words, seed {seed}"), &words, b"aab", 4);
     }
 }

@@ -1,7 +1,7 @@
 -- WHAT THE THREE READERS' ANSWERS SAY: what the model read, the place after it, and its tokens, written from token n on.
 use mathlib.Core.Path.{_≡_}
 use mathlib.Core.List.{List, []}
-use Prim.Native.Nat.{ℕ, suc, _+_, _-_, _*_, _^_, _≤_, _<_}
+use Prim.Native.Nat.{ℕ, _+_, _-_, _*_, _^_, _≤_, _<_}
 use lib.ListN.{length}
 use lib.Seq.{sets}
 use Rattle.model.specs.Bytes.{byte}
@@ -9,7 +9,7 @@ use Rattle.model.specs.Grammar.{bracket, repeated}
 use Rattle.model.specs.Models.Reader.{bind, got, past, Read, readSign}
 use Rattle.model.specs.Models.Tokens.{aClose, anOpen, Token, tokens}
 use Rattle.model.specs.Tree.{Alts, last, more, Seq}
-use Rattle.rule.specs.Answers.{Stopped, Took}
+use Rattle.letters.specs.Answers.{Stopped, Took}
 use Rattle.tape.specs.Rows.{rowWords, tokenWords}
 use Rattle.rule.specs.Tokens.{between, opened}
 use Rattle.rule.specs.declared.Alternatives.{Alternatives}
@@ -49,10 +49,7 @@ AlternativesSay rule n m before after (noAlternatives p) = Stopped rule m p
 abbrev pub afterLetter : ℕ → List ℕ → Read Seq
 afterLetter c l = bind (readSign l) (λ q r. got (repeated c q) r)
 
--- as one item; and before `)`
-abbrev pub asItem : Read Alts → Read Seq
-asItem m = bind m (λ a r. got (bracket a) r)
-
+-- as one item, before `)`
 abbrev pub closed : Read Alts → Read Seq
 closed m = bind m (λ a r. bind (past (byte ")") r) (λ y r′. got (bracket a) r′))
 

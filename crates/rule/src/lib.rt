@@ -1,76 +1,23 @@
-// Rules read: document 01, "The grammar". Readers go over the rule's bytes from a place on and answer what they read and the place after it, or
-// the place of the first byte that cannot be read. What an answer says is defined in specs/Answers.antt.
+// Rules read: document 01, "The grammar". Readers go over the rule's bytes from a place on, letter by letter (crate letters), and answer the place
+// after what they read, or the place of the first byte that cannot be read. What an answer says is defined in specs/Parts.antt.
 ghost use mathlib.Core.Path.{_≡_};
-ghost use lib.ListN.{getD};
 ghost use Rattle.rule.specs.Says.{outcomeOf, reading, ReadSays};
 ghost use Rattle.rule.specs.Tokens.{noTokens};
 
-pub mod classes;
-mod escapes;
-pub mod kinds;
-mod letters;
 mod readers;
-mod repeats;
 mod tokens;
 
 use crate::readers::bracket;
 use crate::readers::read_alternatives;
 
-// One byte that was read.
-pub enum Byte {
-    Got(u8, usize),
-    Bad(usize),
-}
-
-// A set of bytes: byte b is bit b mod 64 of word b / 64.
-pub struct Class {
-    pub word0: u64,
-    pub word1: u64,
-    pub word2: u64,
-    pub word3: u64,
-}
-
-// A letter, or a part of a class: the bytes that it takes.
-pub enum Letter {
-    Got(Class, usize),
-    Bad(usize),
-}
-
-// A number in braces.
-pub enum Number {
-    Got(usize, usize),
-    Bad(usize),
-}
-
-// The two numbers in braces.
-pub enum Bounds {
-    Got(usize, usize, usize),
-    Bad(usize),
-}
-
-// How often a letter is taken.
-pub enum Repeat {
-    Once,
-    Option,
-    Star,
-    Plus,
-    Times(usize, usize),
-}
-
-// A letter's repeat sign.
-pub enum Sign {
-    Got(Repeat, usize),
-    Bad(usize),
-}
-
 // An item or a sequence: the place after it and the number of the token after its own.
-pub enum Part {
+enum Part {
     Got(usize, usize),
     Bad(usize),
 }
 
 // Alternatives, one or several: likewise.
-pub enum Alternatives {
+enum Alternatives {
     One(usize, usize),
     Several(usize, usize),
     Bad(usize),
@@ -88,13 +35,6 @@ pub enum Outcome {
 pub struct Reading {
     pub outcome: Outcome,
     pub tokens: [u64; 2555],
-}
-
-// The byte at a place; at the rule's end 0, which no reader takes.
-pub fn byte_at(rule: &[u8], at: usize) -> u8
-    ensures { λ r. ⌜ r ≡ getD (now (rule .entry)) at 0 ⌝ }
-{
-    if at < rule.len() { rule[at] } else { 0 }
 }
 
 // Of what a rule's alternatives are, as one item, and the whole rule's length.

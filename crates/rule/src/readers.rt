@@ -1,25 +1,24 @@
 // The three readers that call each other: "Alternatives hold sequences, sequences hold items, items hold alternatives" (document 01). Each writes
 // the tokens of what it reads from token n on. The bytes that remain fall from call to call, so brackets may nest as deep as the rule is long.
 use crate::Alternatives;
-use crate::Class;
-use crate::Letter;
 use crate::Part;
-use crate::Sign;
-use crate::byte_at;
-use crate::classes::none;
-use crate::letters::read_letter;
-use crate::repeats::read_sign;
 use crate::tokens::BAR;
 use crate::tokens::CLOSE;
 use crate::tokens::insert_open;
-use crate::tokens::put;
 use crate::tokens::put_letter;
+use crate::tokens::put_union;
+use letters::Class;
+use letters::Letter;
+use letters::Sign;
+use letters::byte_at;
+use letters::read_letter;
+use letters::read_sign;
 ghost use mathlib.Core.Path.{_≡_};
-ghost use Prim.Native.Nat.{_+_, _*_, _≤_};
+ghost use Prim.Native.Nat.{_+_, _≤_};
 ghost use lib.ListN.{drop, length};
 ghost use Rattle.model.specs.Models.Reader.{over, readPiece};
 ghost use Rattle.model.proofs.Reading.Cycle.{alts, item as itemOf, seq};
-ghost use Rattle.rule.specs.Classes.{bytesOf};
+ghost use Rattle.letters.specs.Classes.{bytesOf};
 ghost use Rattle.rule.specs.Parts.{afterLetter, AlternativesSay, bracketed, bracketWords, Closes, Countable, PartSays, Ready, Sane, severalOf};
 
 // The repeat sign of a letter.
@@ -59,7 +58,7 @@ pub fn bracket(tokens: &mut [u64; 2555], n: usize, alternatives: Alternatives) -
         Alternatives::One(p, next) => Part::Got(p, next),
         Alternatives::Several(p, next) => {
             insert_open(tokens, n, next);
-            put(tokens, next + 1, CLOSE, none());
+            put_union(tokens, next + 1, CLOSE);
             Part::Got(p, next + 2)
         }
         Alternatives::Bad(p) => Part::Bad(p),
@@ -141,7 +140,7 @@ pub fn read_alternatives(rule: &[u8], at: usize, tokens: &mut [u64; 2555], n: us
             if byte_at(rule, p) != b'|' {
                 return Alternatives::One(p, next);
             }
-            put(tokens, next, BAR, none());
+            put_union(tokens, next, BAR);
             let rest = read_alternatives(rule, p + 1, tokens, next + 1);
             several(rest)
         }

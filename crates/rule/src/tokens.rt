@@ -1,18 +1,19 @@
 // Tokens, written down as they are read: five words for each, its kind and its class. There is room for the 511 tokens between 512 states; what
 // lies past them is counted by the readers, and not written.
-use crate::Class;
-use crate::Repeat;
-use crate::classes::none;
+use letters::Class;
+use letters::Repeat;
+use letters::none;
 ghost use mathlib.Core.Path.{_≡_};
 ghost use mathlib.Core.List.{[], _∷_};
 ghost use Prim.Native.Nat.{_+_, _-_, _*_, _^_, _≤_, _<_};
 ghost use lib.ListN.{drop, length, take};
 ghost use lib.Seq.{sets};
 ghost use Rattle.model.specs.Grammar.{repeated};
+ghost use Rattle.model.specs.Image.{words};
 ghost use Rattle.model.specs.Models.Tokens.{anOpen, tokens as tokensOf};
-ghost use Rattle.rule.specs.Answers.{signOf};
-ghost use Rattle.rule.specs.Classes.{bytesOf, wordsOf};
-ghost use Rattle.rule.specs.Repeats.{Bounded};
+ghost use Rattle.letters.specs.Answers.{signOf};
+ghost use Rattle.letters.specs.Classes.{bytesOf, wordsOf};
+ghost use Rattle.letters.specs.Repeats.{Bounded};
 ghost use Rattle.tape.specs.Rows.{rowWords, tokenWords};
 ghost use Rattle.rule.specs.Tokens.{opened, timesWords};
 
@@ -53,6 +54,13 @@ pub fn put(tokens: &mut [u64; 2555], n: usize, kind: u64, class: Class)
     tokens[at + 4] = class.word3;
 }
 
+// Token n, a union's open, bar or close: one that has no class.
+pub fn put_union(tokens: &mut [u64; 2555], n: usize, kind: u64)
+    ensures { λ r. ⌜ now (tokens .exit) ≡ sets (now (tokens .entry)) (5 * n) (kind ∷ words 4 0) ⌝ }
+{
+    put(tokens, n, kind, none());
+}
+
 // The token n and those after it up to n + count - 1, all alike.
 pub fn put_many(tokens: &mut [u64; 2555], n: usize, count: usize, kind: u64, class: Class)
     requires { ⌜ n + count < 2 ^ 32 ⌝ }
@@ -85,7 +93,7 @@ pub fn insert_open(tokens: &mut [u64; 2555], from: usize, to: usize)
     ensures { λ r. ⌜ now (tokens .exit) ≡ opened (now (tokens .entry)) from (to - from) (tokenWords anOpen) ⌝ }
 {
     shift(tokens, from, to);
-    put(tokens, from, OPEN, none());
+    put_union(tokens, from, OPEN);
 }
 
 // A letter with its repeat sign, from token n on; and the number of the token after it.

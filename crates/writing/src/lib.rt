@@ -3,7 +3,7 @@
 
 mod bytes;
 mod classes;
-mod letters;
+mod letter;
 mod ranges;
 
 use crate::ranges::write_range;

@@ -1,11 +1,11 @@
 -- A RULE IS ITS ALTERNATIVES, READ TO THE LAST BYTE, AS ONE ITEM: the model's reader decides the grammar, so the outcome is the table's.
-use mathlib.Core.Path.{_≡_, refl, sym, ap, _∙_, subst}
+use mathlib.Core.Path.{_≡_, refl, sym, ap, _∙_}
 use mathlib.Core.Logic.{_⊎_, inl, inr}
 use mathlib.Core.List.{List, [], _∷_}
-use mathlib.Core.Option.{Option, none, some}
+use mathlib.Core.Option.{none, some}
 use Prim.Native.Nat.{ℕ, suc, _+_, _≤_, _<_}
 use native.Mathlib.Omega.{arith}
-use lib.ListN.{drop, drop-of-length-le, getD, length}
+use lib.ListN.{drop, drop-of-length-le, length}
 use lib.Seq.{drop-cons}
 use denote.Enum.Declared.{tagOf}
 use types.Run.{miss, OneOf}
@@ -17,7 +17,6 @@ use Rattle.model.proofs.Image.Tokens.{length-tokens}
 use Rattle.model.proofs.Laws.Bool.{le-false, le-or-lt, le-true}
 use Rattle.model.proofs.Reading.Cycle.{alts}
 use Rattle.model.proofs.Reading.Decides.{reads}
-use Rattle.rule.specs.Parts.{seqTokens}
 use Rattle.rule.specs.Says.{not-a-rule, outcomeOf, read, reading, ReadSays, too-many-states}
 use Rattle.rule.specs.Tokens.{noTokens}
 use Rattle.rule.specs.declared.Outcome.{Outcome}

@@ -1,21 +1,21 @@
 -- TOKENS WRITTEN ONE AFTER ANOTHER: a token is five words, so a row of n is 5 * n words; and a class's four words are those of its number.
 use mathlib.Core.Path.{_≡_, refl, sym, ap, ap₂, _∙_}
 use mathlib.Core.List.{List, [], _∷_, _++_, append-assoc, append-nil}
-use Prim.Native.Nat.{ℕ, zero, suc, _+_, _-_, _*_, _/_, _%_, _^_}
+use Prim.Native.Nat.{ℕ, zero, suc, _+_, _-_, _*_}
 use native.Mathlib.Omega.{arith}
 use lib.ListN.{length, take, drop, length-append}
 use lib.Seq.{sets}
 use Rattle.model.specs.Grammar.{copies, repeated, times}
-use Rattle.model.specs.Image.{words}
 use Rattle.model.specs.Models.Tokens.{aLetter, Token, tokens}
-use Rattle.model.specs.Models.Words.{Fit, value}
+use Rattle.model.specs.Models.Words.{Fit}
 use Rattle.model.specs.Tree.{end, once, option, Repeat, Seq}
 use Rattle.model.proofs.Laws.Each.{each-app}
 use Rattle.model.proofs.Laws.Stores.{sets-append}
-use Rattle.rule.specs.Classes.{bytesOf, wordsOf}
+use Rattle.letters.specs.Classes.{bytesOf, wordsOf}
 use Rattle.tape.specs.Rows.{repeatKind, rowWords, tokenWords}
 use Rattle.rule.specs.Tokens.{opened, timesWords}
-use Rattle.rule.specs.declared.Class.{Class}
+use Rattle.letters.specs.declared.Class.{Class}
+use Rattle.letters.proofs.Laws.Classes.{class-words}
 use Rattle.rule.proofs.Laws.Writes.{sets-opened}
 
 -- ---- rows of tokens
@@ -70,18 +70,7 @@ pub copies-length : (n c : ℕ) (r : Repeat) (s : Seq) → length (tokens (copie
 copies-length zero c r s = omega arith
 copies-length (suc n) c r s = omega (arith, copies-length n c r s)
 
--- ---- a class's words
-words-value : (ws : List ℕ) → Fit ws → words (length ws) (value ws) ≡ ws
-words-value [] f = refl
-words-value (w ∷ ws) f =
-    let low : (w + 2 ^ 64 * value ws) % 2 ^ 64 ≡ w = omega arith in
-    let high : (w + 2 ^ 64 * value ws) / 2 ^ 64 ≡ value ws = omega arith in
-    ap₂ (λ (x : ℕ) (xs : List ℕ). x ∷ xs) low (ap (words (length ws)) high ∙ words-value ws (f .1))
-
-pub class-words : (c : Class) → Fit (wordsOf c) → words 4 (bytesOf c) ≡ wordsOf c
-unfolding bytesOf
-class-words c f = words-value (wordsOf c) f
-
+-- ---- a letter's words
 pub letter-words : (c : Class) (r : Repeat) → Fit (wordsOf c) → tokenWords (aLetter (bytesOf c) r) ≡ repeatKind r ∷ wordsOf c
 letter-words c r f = ap (λ (ws : List ℕ). repeatKind r ∷ ws) (class-words c f)
 
@@ -92,15 +81,3 @@ times-row c x y f =
     row-copies (y - x) (bytesOf c) option (copies x (bytesOf c) once end)
     ∙ ap₂ _++_ (ap (timesWords (y - x)) (letter-words c option f))
     (row-copies x (bytesOf c) once end ∙ append-nil (timesWords x (tokenWords (aLetter (bytesOf c) once))) ∙ ap (timesWords x) (letter-words c once f))
-
--- no byte
-words-none : (ws : List ℕ) → value ws ≡ 0 → ws ≡ words (length ws) 0
-words-none [] h = refl
-words-none (w ∷ ws) h =
-    let low : w ≡ 0 = omega arith in
-    let high : value ws ≡ 0 = omega arith in
-    ap₂ (λ (x : ℕ) (xs : List ℕ). x ∷ xs) low (words-none ws high)
-
-pub no-words : (c : Class) → bytesOf c ≡ 0 → wordsOf c ≡ words 4 0
-unfolding bytesOf
-no-words c h = words-none (wordsOf c) h

@@ -1,6 +1,6 @@
 -- Case by case as it is defined.
-use mathlib.Core.Path.{_≡_, refl, sym, ap, _∙_}
-use Prim.Native.Nat.{ℕ, suc}
+use mathlib.Core.Path.{sym, ap}
+use Prim.Native.Nat.{suc}
 use native.Mathlib.Omega.{arith}
 use borrow.Author.Needs.{needs}
 use Rattle.model.proofs.Laws.Bool.{le-false, le-true}

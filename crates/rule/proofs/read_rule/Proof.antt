@@ -1,14 +1,12 @@
 -- What was read is the rule's alternatives as one item, and the outcome says what the table says of it.
-use mathlib.Core.Path.{_≡_, refl, sym, ap, _∙_, subst}
-use mathlib.Core.Logic.{_⊎_, inl, inr}
+use mathlib.Core.Path.{_≡_, sym, _∙_}
 use mathlib.Core.List.{List}
-use Prim.Native.Nat.{ℕ, _≤_, _<_}
-use native.Mathlib.Omega.{arith}
+use Prim.Native.Nat.{ℕ, _≤_}
 use lib.ListN.{length}
 use borrow.Author.Needs.{needs}
 use Rattle.model.proofs.Reading.Cycle.{alts}
 use Rattle.rule.specs.Parts.{AlternativesSay, bracketed, bracketWords}
-use Rattle.rule.specs.Says.{outcomeOf, reading, ReadSays, too-long}
+use Rattle.rule.specs.Says.{outcomeOf, ReadSays, too-long}
 use Rattle.rule.specs.Tokens.{noTokens}
 use Rattle.rule.specs.declared.Alternatives.{Alternatives}
 use Rattle.rule.specs.declared.Outcome.{Outcome}

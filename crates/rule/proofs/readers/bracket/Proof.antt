@@ -1,12 +1,13 @@
 -- Case by case as it is defined; several alternatives get their open by a shift and their close after them.
-use mathlib.Core.Path.{_≡_, refl, sym, ap, _∙_, subst}
-use mathlib.Core.List.{List, _∷_}
-use Prim.Native.Nat.{ℕ, _+_, _*_, _^_, _≤_, _<_}
+use mathlib.Core.Path.{sym, ap, _∙_, subst}
+use mathlib.Core.List.{List}
+use Prim.Native.Nat.{ℕ, _+_, _*_}
 use native.Mathlib.Omega.{arith}
 use lib.Seq.{sets}
 use borrow.Author.Needs.{needs}
+use Rattle.model.specs.Models.Tokens.{aClose}
+use Rattle.tape.specs.Rows.{tokenWords}
 use Rattle.rule.specs.Parts.{bracketed, bracketWords, Countable}
-use Rattle.rule.proofs.Laws.Written.{no-words}
 use Rattle.rule.proofs.readers.bracket.Statement.{statement}
 use Rattle.rule.proofs.readers.bracket.Tie as tie
 
@@ -22,23 +23,20 @@ insert-open-requires c κs =
     let h = subst (Countable (s .args .n)) (c .before .before .alternatives2 .given .1) (s .pre) in
     (h .0, omega (arith, h .1))
 
-add-put : tie.Need-add-put
-add-put c =
+add-put-union : tie.Need-add-put-union
+add-put-union c =
     let s = c .before .before .before .before .before .before in
     let h = subst (Countable (s .args .n)) (c .before .before .before .before .alternatives2 .given .1) (s .pre) in
     let k = h .1 in
     search needs
 
-none-requires : tie.Need-none-requires
-none-requires c = search needs
-
-put-requires : tie.Need-put-requires
-put-requires c κs = search needs
+put-union-requires : tie.Need-put-union-requires
+put-union-requires c κs = search needs
 
 add-t13 : tie.Need-add-t13
 add-t13 c =
-    let s = c .before .before .before .before .before .before .before .before in
-    let h = subst (Countable (s .args .n)) (c .before .before .before .before .before .before .alternatives2 .given .1) (s .pre) in
+    let s = c .before .before .before .before .before .before .before in
+    let h = subst (Countable (s .args .n)) (c .before .before .before .before .before .alternatives2 .given .1) (s .pre) in
     let k = h .1 in
     search needs
 
@@ -52,12 +50,11 @@ returns c =
 
 returns-2 : tie.Need-returns-2
 returns-2 c =
-    let a = c .before .before .before .before .before .before .before .before .args in
-    let e = c .before .before .before .before .before .before .alternatives2 .given in
-    let next = e .0 .1 .0 in (
+    let a = c .before .before .before .before .before .before .before .args in
+    let e = c .before .before .before .before .before .alternatives2 .given in (
       ap bracketed (sym (e .1)),
-      c .put .ensures
-          ∙ (λ i. sets (c .before .before .before .insert-open .ensures i) (5 * (next + 1)) (6 ∷ no-words (c .before .none .result) (c .before .none .ensures) i))
+      c .put-union .ensures
+          ∙ ap (λ (l : List ℕ). sets l (5 * (e .0 .1 .0 + 1)) (tokenWords aClose)) (c .before .before .insert-open .ensures)
           ∙ ap (bracketWords (a .tokens .now) (a .n)) (sym (e .1)),
     )
 
@@ -73,9 +70,8 @@ bracket-spec =
     enum-known-alternatives
     enum-known-alternatives-2
     insert-open-requires
-    add-put
-    none-requires
-    put-requires
+    add-put-union
+    put-union-requires
     add-t13
     enum-known-alternatives-3
     returns

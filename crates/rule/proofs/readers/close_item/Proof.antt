@@ -1,9 +1,8 @@
 -- The alternatives are an item as `bracket` leaves them, and `)` is the byte at the place after them.
-use mathlib.Core.Path.{_≡_, refl, sym, ap, _∙_, subst}
+use mathlib.Core.Path.{_≡_, sym, _∙_, subst}
 use mathlib.Core.List.{List}
-use Prim.Native.Nat.{ℕ, _≤_, _<_}
+use Prim.Native.Nat.{ℕ}
 use native.Mathlib.Omega.{arith}
-use lib.ListN.{length}
 use borrow.Author.Needs.{needs}
 use Rattle.model.specs.Models.Reader.{Read}
 use Rattle.model.specs.Tree.{Alts}
@@ -11,7 +10,7 @@ use Rattle.rule.specs.Parts.{AlternativesSay, bracketed, bracketWords, c
 use Rattle.rule.specs.declared.Alternatives.{Alternatives}
 use Rattle.rule.specs.declared.Part.{Part}
 use Rattle.rule.proofs.Laws.Cycle.{close-here, close-other, close-stops, countable, item-says, ItemSays}
-use Rattle.rule.proofs.Laws.Places.{inside}
+use Rattle.letters.proofs.Laws.Places.{inside}
 use Rattle.rule.proofs.readers.close_item.Statement.{statement}
 use Rattle.rule.proofs.readers.close_item.Tie as tie
 

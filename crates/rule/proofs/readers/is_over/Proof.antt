@@ -1,12 +1,12 @@
 -- The model looks at the first of the bytes that are left, which is the byte at the place, or at none.
-use mathlib.Core.Path.{_≡_, refl, sym, ap, _∙_}
+use mathlib.Core.Path.{refl, sym, ap}
 use mathlib.Core.Bool.{or-false}
 use lib.Dec.{eqb}
 use lib.ListN.{drop, getD, drop-of-length-le}
 use borrow.Author.Needs.{needs}
 use Rattle.model.specs.Models.Reader.{over}
 use Rattle.model.proofs.Laws.Bool.{unequal}
-use Rattle.rule.proofs.Laws.Places.{here}
+use Rattle.letters.proofs.Laws.Places.{here}
 use Rattle.rule.proofs.readers.is_over.Statement.{statement}
 use Rattle.rule.proofs.readers.is_over.Tie as tie
 

@@ -1,20 +1,14 @@
 -- A letter, and then its sign; the letter takes at least one byte, which allows for 999 tokens.
-use mathlib.Core.Path.{_≡_, refl, sym, ap, _∙_, subst}
-use mathlib.Core.List.{List}
-use Prim.Native.Nat.{ℕ, _+_, _*_, _≤_, _<_}
 use native.Mathlib.Omega.{arith}
-use lib.ListN.{drop, length}
 use borrow.Author.Needs.{needs}
-use Rattle.model.specs.Models.Reader.{Read}
-use Rattle.model.specs.Tree.{Seq}
 use Rattle.rule.specs.Parts.{afterLetter, PartSays}
-use Rattle.rule.proofs.Laws.Binds.{bind-goes, bind-stops}
-use Rattle.rule.proofs.Laws.Progress.{letter-on}
+use Rattle.letters.proofs.Laws.Binds.{bind-goes, bind-stops}
+use Rattle.letters.proofs.Laws.Progress.{letter-on}
 use Rattle.rule.proofs.readers.read_piece.Statement.{statement}
 use Rattle.rule.proofs.readers.read_piece.Tie as tie
 
 read-letter-requires : tie.Need-read-letter-requires
-read-letter-requires c κs = c .before .pre .inside
+read-letter-requires c κs = search needs
 
 enum-known-letter : tie.Need-enum-known-letter
 enum-known-letter c = search needs

@@ -1,22 +1,19 @@
 -- The sign decides how often the letter is written down: at most 999 times, which is what its byte allows for.
-use mathlib.Core.Path.{_≡_, refl, sym, ap, _∙_, subst}
-use mathlib.Core.List.{List}
-use Prim.Native.Nat.{ℕ, _+_, _*_, _≤_, _<_}
+use mathlib.Core.Path.{refl}
 use native.Mathlib.Omega.{arith}
-use lib.ListN.{drop, length}
 use borrow.Author.Needs.{needs}
 use Rattle.model.specs.Grammar.{repeated}
-use Rattle.model.specs.Models.Reader.{got, readSign}
-use Rattle.rule.specs.Answers.{signOf, SignSays}
-use Rattle.rule.specs.Classes.{bytesOf}
-use Rattle.rule.proofs.Laws.Binds.{bind-gives, bind-stops}
+use Rattle.model.specs.Models.Reader.{got}
+use Rattle.letters.specs.Answers.{signOf}
+use Rattle.letters.specs.Classes.{bytesOf}
+use Rattle.letters.proofs.Laws.Binds.{bind-gives, bind-stops}
 use Rattle.rule.proofs.Laws.Cycle.{repeated-few}
-use Rattle.rule.proofs.Laws.Progress.{sign-bounded, sign-on}
+use Rattle.letters.proofs.Laws.Progress.{sign-bounded, sign-on}
 use Rattle.rule.proofs.readers.read_repeated.Statement.{statement}
 use Rattle.rule.proofs.readers.read_repeated.Tie as tie
 
 read-sign-requires : tie.Need-read-sign-requires
-read-sign-requires c κs = c .before .pre .inside
+read-sign-requires c κs = search needs
 
 enum-known-sign : tie.Need-enum-known-sign
 enum-known-sign c = search needs

@@ -6,7 +6,7 @@ use native.Mathlib.Numerals.{add-one}
 use native.Mathlib.Omega.{arith}
 use borrow.Author.Needs.{needs}
 use lib.Seq.{sets}
-use Rattle.rule.specs.Classes.{wordsOf}
+use Rattle.letters.specs.Classes.{wordsOf}
 use Rattle.rule.specs.Tokens.{timesWords}
 use Rattle.rule.proofs.Laws.Written.{sets-times}
 use Rattle.rule.proofs.tokens.put_many.Statement.{statement}

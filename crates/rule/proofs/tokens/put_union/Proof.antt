@@ -1,0 +1,23 @@
+-- `put_union`: the four words of no byte are 0.
+use mathlib.Core.Path.{ap, _∙_}
+use mathlib.Core.List.{List, _∷_}
+use Prim.Native.Nat.{ℕ, _*_}
+use borrow.Author.Needs.{needs}
+use lib.Seq.{sets}
+use Rattle.letters.proofs.Laws.Classes.{no-words}
+use Rattle.rule.proofs.tokens.put_union.Statement.{statement}
+use Rattle.rule.proofs.tokens.put_union.Tie as tie
+
+none-requires : tie.Need-none-requires
+none-requires c κs = search needs
+
+put-requires : tie.Need-put-requires
+put-requires c κs = search needs
+
+returns : tie.Need-returns
+returns c =
+    let a = c .before .before .before .args in
+    c .put .ensures ∙ ap (λ (ws : List ℕ). sets (a .tokens .now) (5 * a .n) (a .kind ∷ ws)) (no-words (c .before .none .result) (c .before .none .ensures))
+
+pub put-union-spec : {M : Type 1} → statement M
+put-union-spec = tie.close (tie.spec none-requires put-requires returns)

@@ -1,51 +1,72 @@
 // The library `panel` for outside programs. A line on standard input is a call, a line on standard output its answer:
 //
-//     build RULE ROOM            lavumbishe_build with the rule's bytes (hex, `-` for none) and ROOM lent words; answers NUMBER COUNT WORDS
-//     readback IMAGE ROOM        lavumbishe_read_back with the image's words and ROOM lent bytes; answers NUMBER COUNT BYTES
+//     build RULE ROOM            lavumbishe_build with ROOM lent words
+//     readback IMAGE ROOM        lavumbishe_read_back with ROOM lent bytes
+//     match IMAGE TEXT ROOM      lavumbishe_match with ROOM lent ends
 //     stack CALL                 one of these calls; answers how many bytes of stack it went down
-//     spoil words PLACE ROOM     no call: changes the lent word at PLACE, or one just outside (-1, ROOM), so that a check can be seen to fail
-//     spoil bytes PLACE ROOM     the same for a lent byte
+//     spoil SIZE PLACE ROOM      no call: changes what is lent at PLACE, or just outside (-1, ROOM), in an area of elements of SIZE bytes
+//     spoil given PLACE BYTES    no call: changes a byte that is given to be read; both so that a check can be seen to fail
 //
-// An IMAGE is runs of words between commas, `-` for none: N:V is N words of the value V (hex). WORDS are all lent words after the call in the same
-// form, where N:= is N words as they were before the call. Word i was then (i + 1) * PATTERN, and so were the words on both sides of those lent.
-// BYTES are all lent bytes after the call (hex, `-` for none). Byte i was then the highest byte of (i + 1) * PATTERN with its highest bit set, which
-// no plain writing has, and so were the bytes on both sides. If a word or byte beside those lent has changed, or a byte of the rule or a word of the
-// image, the answer is `outside` and the place. For x86-64 with the kit's C library, whose headers are not there.
-typedef unsigned long word;
+// RULE, IMAGE and TEXT are values in hex between commas, `-` for none; N*V is N times the value V. A call is answered by NUMBER COUNT LENT, where
+// LENT is all that was lent as it is after the call, in the same form; an element that is as it was before is `=`. Element i was then the highest
+// bytes of (i + 1) * PATTERN, its highest bit set (which no end has, and no byte of a plain writing), and so were the elements on both sides of those
+// lent. If one of these has changed, the answer is `outside` and the place; if what was given to be read has, `outside given`.
+#include "lavumbishe.h"
+#include <string.h>
+#include <unistd.h>
 
-word lavumbishe_build(const unsigned char *rule, word rule_length, word *image, word image_length);
-word lavumbishe_read_back(const word *image, word image_length, unsigned char *writing, word writing_length);
-long read(int file, void *bytes, word most);
-long write(int file, const void *bytes, word length);
+#define PATTERN 0x9e3779b97f4a7c15u
+#define MOST_GIVEN (1l << 17)
+#define MOST_LENT (1l << 19)
+#define GUARD 128l
 
-#define PATTERN 0x9e3779b97f4a7c15ul
-#define MOST_RULE 2048
-#define MOST_WORDS 16384
-#define MOST_BYTES (1ul << 19)
-#define GUARD 1024
+// ---- areas of elements of 1, 4 or 8 bytes
+struct area {
+    uint64_t *at;
+    long size, length;
+};
 
-static unsigned char rule[MOST_RULE], rule_copy[MOST_RULE], bytes_around[GUARD + MOST_BYTES + GUARD];
-static word image[MOST_WORDS], image_copy[MOST_WORDS], words_around[GUARD + MOST_WORDS + GUARD];
-static word *const lent_words = words_around + GUARD;
-static unsigned char *const lent_bytes = bytes_around + GUARD;
+static void *place_of(struct area area, long place) { return (char *)area.at + area.size * place; }
+
+// One element, by copies of constant length: the emulator is slow.
+static uint64_t get(struct area area, long place) {
+    uint8_t byte;
+    uint32_t end;
+    uint64_t word;
+    if (area.size == 1)
+        return memcpy(&byte, place_of(area, place), 1), byte;
+    if (area.size == 4)
+        return memcpy(&end, place_of(area, place), 4), end;
+    return memcpy(&word, place_of(area, place), 8), word;
+}
+
+static void set(struct area area, long place, uint64_t word) {
+    uint8_t byte = (uint8_t)word;
+    uint32_t end = (uint32_t)word;
+    if (area.size == 1)
+        memcpy(place_of(area, place), &byte, 1);
+    else if (area.size == 4)
+        memcpy(place_of(area, place), &end, 4);
+    else
+        memcpy(place_of(area, place), &word, 8);
+}
 
 // ---- lines in and out
-static char line[32 * MOST_WORDS], input[65536], output[65536];
-static word input_at, input_length, output_length;
+static char line[1 << 20], input[65536], output[65536];
+static long input_at, input_length, output_length;
 
 static int next_byte(void) {
     if (input_at == input_length) {
-        long got = read(0, input, sizeof input);
-        if (got <= 0)
+        input_at = 0, input_length = read(0, input, sizeof input);
+        if (input_length <= 0)
             return -1;
-        input_at = 0, input_length = (word)got;
     }
     return (unsigned char)input[input_at++];
 }
 
 // A line without its last byte 10, closed by a byte 0; whether there was one.
 static int next_line(void) {
-    word length = 0;
+    size_t length = 0;
     int byte;
     while ((byte = next_byte()) >= 0 && byte != '\n')
         if (length + 1 < sizeof line)
@@ -55,12 +76,9 @@ static int next_line(void) {
 }
 
 static void flush(void) {
-    for (word at = 0; at < output_length;) {
-        long put = write(1, output + at, output_length - at);
-        if (put <= 0)
+    for (long at = 0, put; at < output_length; at += put)
+        if ((put = write(1, output + at, (size_t)(output_length - at))) <= 0)
             break;
-        at += (word)put;
-    }
     output_length = 0;
 }
 
@@ -75,7 +93,7 @@ static void put_text(const char *text) {
         put(*text++);
 }
 
-static void put_number(word n, word base) {
+static void put_number(uint64_t n, unsigned base) {
     char digits[24];
     int count = 0;
     do
@@ -89,90 +107,75 @@ static void put_number(word n, word base) {
 static const char *at;
 
 static int take(const char *name) {
-    const char *p = at;
-    while (*name && *p == *name)
-        p++, name++;
-    if (*name || *p != ' ')
+    size_t length = strlen(name);
+    if (strncmp(at, name, length) != 0 || at[length] != ' ')
         return 0;
-    at = p + 1;
+    at += length + 1;
     return 1;
 }
 
-static void end_field(void) {
-    if (*at == ' ')
-        at++;
+static int digit(char c) { return c >= '0' && c <= '9' ? c - '0' : c >= 'a' && c <= 'f' ? c - 'a' + 10 : 16; }
+
+static uint64_t take_digits(int base) {
+    uint64_t n = 0;
+    for (; digit(*at) < base; at++)
+        n = n * (uint64_t)base + (uint64_t)digit(*at);
+    return n;
 }
 
 static long take_number(void) {
-    long n = 0, sign = 1;
-    if (*at == '-')
-        sign = -1, at++;
-    while (*at >= '0' && *at <= '9')
-        n = 10 * n + (*at++ - '0');
-    return sign * n;
+    long sign = *at == '-' ? -1 : 1;
+    at += *at == '-';
+    long n = sign * (long)take_digits(10);
+    at += *at == ' ';
+    return n;
 }
 
-static int is_hex(char c) { return (c >= '0' && c <= '9') || (c >= 'a' && c <= 'f'); }
-
-static word hex_value(char c) { return (word)(c <= '9' ? c - '0' : c - 'a' + 10); }
-
-static word take_rule(void) {
-    word length = 0;
-    if (*at == '-')
-        at++;
-    for (; is_hex(at[0]) && is_hex(at[1]) && length < MOST_RULE; at += 2)
-        rule[length++] = (unsigned char)(16 * hex_value(at[0]) + hex_value(at[1]));
-    for (word i = 0; i < length; i++)
-        rule_copy[i] = rule[i];
-    end_field();
-    return length;
+// How often the value that comes next stands there: N before a `*`, or once.
+static long take_times(void) {
+    const char *start = at;
+    long times = (long)take_digits(10);
+    if (*at == '*')
+        return at++, times;
+    at = start;
+    return 1;
 }
 
-static word take_image(void) {
-    word length = 0;
-    if (*at == '-')
-        at++;
+// What is given to be read, and a copy to compare it with.
+static uint64_t given_at[2][MOST_GIVEN / 8], copy_at[2][MOST_GIVEN / 8];
+static struct area given[2];
+
+static struct area take_area(int which, long size) {
+    struct area area = {given_at[which], size, 0};
+    at += *at == '-';
     while (*at && *at != ' ') {
-        long count = take_number();
-        word value = 0;
-        for (at += *at == ':'; is_hex(*at); at++)
-            value = 16 * value + hex_value(*at);
-        while (count-- > 0 && length < MOST_WORDS)
-            image[length++] = value;
+        long times = take_times();
+        uint64_t value = take_digits(16);
+        while (times-- > 0 && area.length < MOST_GIVEN / size)
+            set(area, area.length++, value);
         if (*at != ',')
             break;
         at++;
     }
-    for (word i = 0; i < length; i++)
-        image_copy[i] = image[i];
-    end_field();
-    return length;
-}
-
-static long take_place(void) {
-    long place = take_number();
-    end_field();
-    return place;
-}
-
-static long take_room(word most) {
-    long n = take_number();
-    return n < 0 ? 0 : n > (long)most ? (long)most : n;
+    at += *at == ' ';
+    memcpy(copy_at[which], area.at, (size_t)(size * area.length));
+    return given[which] = area;
 }
 
 // ---- what is lent
-static word word_before(long i) { return ((word)i + 1) * PATTERN; }
+static uint64_t lent_at[2 * GUARD + MOST_LENT / 8];
 
-static unsigned char byte_before(long i) { return (unsigned char)(word_before(i) >> 56 | 0x80); }
-
-static void lend_words(long room) {
-    for (long i = -GUARD; i < room + GUARD; i++)
-        lent_words[i] = word_before(i);
+static uint64_t before(struct area area, long place) {
+    long bits = 8 * area.size;
+    return ((uint64_t)place + 1) * PATTERN >> (64 - bits) | (uint64_t)1 << (bits - 1);
 }
 
-static void lend_bytes(long room) {
-    for (long i = -GUARD; i < room + GUARD; i++)
-        lent_bytes[i] = byte_before(i);
+static struct area lend(long size, long room) {
+    long most = MOST_LENT / size;
+    struct area area = {lent_at + GUARD, size, room < 0 ? 0 : room > most ? most : room};
+    for (long i = -GUARD; i < area.length + GUARD; i++)
+        set(area, i, before(area, i));
+    return area;
 }
 
 static int outside(const char *of, long place) {
@@ -180,148 +183,109 @@ static int outside(const char *of, long place) {
     put_text(of);
     if (place < 0)
         put('-');
-    put_number((word)(place < 0 ? -place : place), 10);
+    put_number((uint64_t)(place < 0 ? -place : place), 10);
     return 1;
 }
 
-// One of the places beside those lent, from the first guard to the last.
-static long beside(long i, long room) { return i < GUARD ? i - GUARD : room + i - GUARD; }
-
-static int changed_beside_words(long room) {
-    for (long i = 0; i < 2 * GUARD; i++)
-        if (lent_words[beside(i, room)] != word_before(beside(i, room)))
-            return outside("", beside(i, room));
-    return 0;
-}
-
-static int changed_beside_bytes(long room) {
-    for (long i = 0; i < 2 * GUARD; i++)
-        if (lent_bytes[beside(i, room)] != byte_before(beside(i, room)))
-            return outside("", beside(i, room));
-    return 0;
-}
-
-static int changed_rule(word length) {
-    for (word i = 0; i < length; i++)
-        if (rule[i] != rule_copy[i])
-            return outside("rule ", (long)i);
-    return 0;
-}
-
-static int changed_image(word length) {
-    for (word i = 0; i < length; i++)
-        if (image[i] != image_copy[i])
-            return outside("image ", (long)i);
+static int changed_outside(struct area lent) {
+    for (int which = 0; which < 2; which++)
+        if (memcmp(given_at[which], copy_at[which], (size_t)(given[which].size * given[which].length)) != 0)
+            return outside("given ", which);
+    for (long i = -GUARD; i < lent.length + GUARD; i = i == -1 ? lent.length : i + 1)
+        if (get(lent, i) != before(lent, i))
+            return outside("", i);
     return 0;
 }
 
 // ---- answers
-static void show_number(word number) {
-    put_number(number >> 32, 10);
-    put(' ');
-    put_number(number & 0xfffffffful, 10);
-    put(' ');
-}
-
-static void show_words(word number, long room) {
-    if (changed_beside_words(room))
+static void show(uint64_t result, struct area lent) {
+    if (changed_outside(lent))
         return;
-    show_number(number);
-    if (room == 0)
+    put_number(lavumbishe_number(result), 10);
+    put(' ');
+    put_number(lavumbishe_count(result), 10);
+    put(' ');
+    if (lent.length == 0)
         put('-');
-    for (long i = 0, end; i < room; i = end) {
-        int kept = lent_words[i] == word_before(i);
-        for (end = i + 1; end < room && (kept ? lent_words[end] == word_before(end) : lent_words[end] == lent_words[i]); end++)
+    for (long i = 0, end; i < lent.length; i = end) {
+        int kept = get(lent, i) == before(lent, i);
+        for (end = i + 1; end < lent.length && get(lent, end) == (kept ? before(lent, end) : get(lent, i)); end++)
             ;
         if (i)
             put(',');
-        put_number((word)(end - i), 10);
-        put(':');
+        if (end - i > 1)
+            put_number((uint64_t)(end - i), 10), put('*');
         if (kept)
             put('=');
         else
-            put_number(lent_words[i], 16);
-    }
-}
-
-static void show_bytes(word number, long room) {
-    if (changed_beside_bytes(room))
-        return;
-    show_number(number);
-    if (room == 0)
-        put('-');
-    for (long i = 0; i < room; i++) {
-        put("0123456789abcdef"[lent_bytes[i] >> 4]);
-        put("0123456789abcdef"[lent_bytes[i] & 15]);
+            put_number(get(lent, i), 16);
     }
 }
 
 // ---- the stack below the caller, filled before a call and looked at after it
 #define STACK (2ul << 20)
 
-static __attribute__((noinline)) word stack_below(int fill) {
+static __attribute__((noinline)) unsigned long stack_below(int fill) {
     volatile unsigned char below[STACK];
-    word kept = 0;
-    for (word i = 0; fill && i < STACK; i++)
+    unsigned long kept = 0;
+    for (unsigned long i = 0; fill && i < STACK; i++)
         below[i] = 0xa7;
     while (!fill && kept < STACK && below[kept] == 0xa7)
         kept++;
     return STACK - kept;
 }
 
-// ---- calls
-static void call_build(int measured) {
-    word length = take_rule();
-    long room = take_room(MOST_WORDS);
-    lend_words(room);
+// ---- calls: an operation's name, and the sizes of what it is given and lent
+static const struct operation {
+    const char *name;
+    long given, text, lent;
+} operations[] = {{"build", 1, 0, 8}, {"readback", 8, 0, 1}, {"match", 8, 1, 4}};
+
+static void call(long which, int measured) {
+    const struct operation *of = &operations[which];
+    struct area first = take_area(0, of->given), text = {0, 0, 0};
+    if (of->text)
+        text = take_area(1, of->text);
+    struct area lent = lend(of->lent, take_number());
+    size_t length = (size_t)first.length, room = (size_t)lent.length;
+    uint64_t result;
     if (measured)
         stack_below(1);
-    word number = lavumbishe_build(rule, length, lent_words, (word)room);
+    if (which == 0)
+        result = lavumbishe_build((uint8_t *)first.at, length, lent.at, room);
+    else if (which == 1)
+        result = lavumbishe_read_back(first.at, length, (uint8_t *)lent.at, room);
+    else
+        result = lavumbishe_match(first.at, length, (uint8_t *)text.at, (size_t)text.length, (uint32_t *)lent.at, room);
     if (measured)
         put_number(stack_below(0), 10);
-    else if (!changed_rule(length))
-        show_words(number, room);
+    else
+        show(result, lent);
 }
 
-static void call_read_back(int measured) {
-    word length = take_image();
-    long room = take_room(MOST_BYTES);
-    lend_bytes(room);
-    if (measured)
-        stack_below(1);
-    word number = lavumbishe_read_back(image, length, lent_bytes, (word)room);
-    if (measured)
-        put_number(stack_below(0), 10);
-    else if (!changed_image(length))
-        show_bytes(number, room);
-}
-
-static void spoil_words(void) {
-    long place = take_place(), room = take_room(MOST_WORDS);
-    lend_words(room);
-    lent_words[place]++;
-    show_words(0, room);
-}
-
-static void spoil_bytes(void) {
-    long place = take_place(), room = take_room(MOST_BYTES);
-    lend_bytes(room);
-    lent_bytes[place]++;
-    show_bytes(0, room);
+static void spoil(void) {
+    struct area spoilt = lend(8, 0), lent = spoilt;
+    long size = take("given") ? 0 : take_number(), place = take_number();
+    if (size)
+        spoilt = lent = lend(size, take_number());
+    else
+        spoilt = take_area(0, 1);
+    set(spoilt, place, get(spoilt, place) + 1);
+    show(0, lent);
 }
 
 int main(void) {
     while (next_line()) {
         at = line;
+        given[0].length = given[1].length = 0;
         int measured = take("stack");
-        if (take("build"))
-            call_build(measured);
-        else if (take("readback"))
-            call_read_back(measured);
-        else if (take("spoil words"))
-            spoil_words();
-        else if (take("spoil bytes"))
-            spoil_bytes();
+        long which = 0;
+        while (which < 3 && !take(operations[which].name))
+            which++;
+        if (which < 3)
+            call(which, measured);
+        else if (take("spoil"))
+            spoil();
         else
             put_text("unknown");
         put('\n');

@@ -4,44 +4,30 @@ use std::fmt::LowerHex;
 use std::io::{BufRead, BufReader, Write};
 use std::process::{Child, ChildStdin, ChildStdout, Command, Stdio};
 
-/// What can be lent: words and bytes.
+/// What can be lent: words, bytes and ends.
 pub trait Lent: Copy + PartialEq + LowerHex {
-    /// What the driver lends at a place before the call: another one at nearly every place, and never 0 or a byte of a plain writing.
-    fn before(place: usize) -> Self;
-    /// All that was lent, from the last field of the driver's answer.
-    fn read(field: &str) -> Option<Vec<Self>>;
+    const BITS: u32;
+    /// The low bits of a word.
+    fn cut(word: u64) -> Self;
+
+    /// What the driver lends at a place before the call: another one at nearly every place, never a byte of a plain writing and never an end.
+    fn before(place: usize) -> Self {
+        let mixed = (place as u64 + 1).wrapping_mul(0x9e37_79b9_7f4a_7c15);
+        Self::cut(mixed >> (64 - Self::BITS) | 1 << (Self::BITS - 1))
+    }
 }
 
-impl Lent for u64 {
-    fn before(place: usize) -> u64 {
-        (place as u64 + 1).wrapping_mul(0x9e37_79b9_7f4a_7c15)
-    }
-
-    fn read(field: &str) -> Option<Vec<u64>> {
-        let mut words = Vec::new();
-        for run in field.split(',').filter(|r| *r != "-") {
-            let (n, value) = run.split_once(':')?;
-            let n: usize = n.parse().ok()?;
-            if value == "=" {
-                words.extend((words.len()..words.len() + n).map(u64::before));
-            } else {
-                words.extend(std::iter::repeat_n(u64::from_str_radix(value, 16).ok()?, n));
+macro_rules! lent {
+    ($($t:ty),*) => {$(
+        impl Lent for $t {
+            const BITS: u32 = <$t>::BITS;
+            fn cut(word: u64) -> $t {
+                word as $t
             }
         }
-        Some(words)
-    }
+    )*};
 }
-
-impl Lent for u8 {
-    fn before(place: usize) -> u8 {
-        (u64::before(place) >> 56) as u8 | 0x80
-    }
-
-    fn read(field: &str) -> Option<Vec<u8>> {
-        let digits = if field == "-" { "" } else { field };
-        (0..digits.len()).step_by(2).map(|i| u8::from_str_radix(digits.get(i..i + 2)?, 16).ok()).collect()
-    }
-}
+lent!(u8, u32, u64);
 
 /// What a call gave: document 01's number, the count, and all that was lent as it is afterwards.
 #[derive(Clone, PartialEq, Eq, Debug)]
@@ -52,16 +38,16 @@ pub struct Answer<T> {
 }
 
 impl<T: Lent> Answer<T> {
-    /// Document 01: the count is the length of what is written (0 after a refusal), and what lies past it stays as it was.
-    pub fn of(number: u64, written: &[T], room: usize) -> Answer<T> {
-        let kept = (written.len()..room).map(T::before);
-        Answer { number, count: written.len() as u64, lent: written.iter().copied().chain(kept).collect() }
+    /// Document 01: the count is the length of the whole (0 after a refusal), of which is written what fits, and what lies past it stays as it was.
+    pub fn of(number: u64, whole: &[T], room: usize) -> Answer<T> {
+        let kept = (whole.len()..room).map(T::before);
+        Answer { number, count: whole.len() as u64, lent: whole.iter().take(room).copied().chain(kept).collect() }
     }
 
     fn read(line: &str) -> Result<Answer<T>, String> {
         let fields = line.split(' ').collect::<Vec<_>>();
         let answer = match fields[..] {
-            [number, count, lent] => number.parse().ok().zip(count.parse().ok()).zip(T::read(lent)),
+            [number, count, lent] => number.parse().ok().zip(count.parse().ok()).zip(elements(lent)),
             _ => None,
         };
         let ((number, count), lent) = answer.ok_or_else(|| format!("the driver answers '{line}'"))?;
@@ -89,6 +75,40 @@ impl<T: Lent> Answer<T> {
     }
 }
 
+/// All that was lent, from the last field of the driver's answer.
+fn elements<T: Lent>(field: &str) -> Option<Vec<T>> {
+    let mut all = Vec::new();
+    for run in field.split(',').filter(|r| *r != "-") {
+        let (times, value) = run.split_once('*').unwrap_or(("1", run));
+        let times: usize = times.parse().ok()?;
+        if value == "=" {
+            all.extend((all.len()..all.len() + times).map(T::before));
+        } else {
+            all.extend(std::iter::repeat_n(T::cut(u64::from_str_radix(value, 16).ok()?), times));
+        }
+    }
+    Some(all)
+}
+
+/// Words or bytes as the driver takes them.
+pub fn listed<T: PartialEq + LowerHex>(values: &[T]) -> String {
+    let run = |run: &[T]| if run.len() == 1 { format!("{:x}", run[0]) } else { format!("{}*{:x}", run.len(), run[0]) };
+    let runs: Vec<String> = values.chunk_by(|a, b| a == b).map(run).collect();
+    if runs.is_empty() { "-".to_string() } else { runs.join(",") }
+}
+
+pub fn build_call(rule: &[u8], room: usize) -> String {
+    format!("build {} {room}", listed(rule))
+}
+
+pub fn read_back_call(image: &[u64], room: usize) -> String {
+    format!("readback {} {room}", listed(image))
+}
+
+pub fn match_call(image: &[u64], text: &[u8], room: usize) -> String {
+    format!("match {} {} {room}", listed(image), listed(text))
+}
+
 /// The driver, running.
 pub struct Driver {
     child: Child,
@@ -113,12 +133,9 @@ impl Driver {
         Ok(line.trim_end().to_string())
     }
 
-    pub fn build(&mut self, rule: &[u8], room: usize) -> Result<Answer<u64>, String> {
-        Answer::read(&self.ask(&build_call(rule, room))?)
-    }
-
-    pub fn read_back(&mut self, image: &[u64], room: usize) -> Result<Answer<u8>, String> {
-        Answer::read(&self.ask(&read_back_call(image, room))?)
+    /// A call, or one of the driver's other lines.
+    pub fn call<T: Lent>(&mut self, call: &str) -> Result<Answer<T>, String> {
+        Answer::read(&self.ask(call)?)
     }
 
     /// How many bytes of stack a call takes.
@@ -126,30 +143,4 @@ impl Driver {
         let line = self.ask(&format!("stack {call}"))?;
         line.parse().map_err(|_| format!("the driver answers '{line}'"))
     }
-
-    /// No call, but one lent word changed, so that the checks can be seen to fail.
-    pub fn spoil_word(&mut self, place: i64, room: usize) -> Result<Answer<u64>, String> {
-        Answer::read(&self.ask(&format!("spoil words {place} {room}"))?)
-    }
-
-    /// The same for a lent byte.
-    pub fn spoil_byte(&mut self, place: i64, room: usize) -> Result<Answer<u8>, String> {
-        Answer::read(&self.ask(&format!("spoil bytes {place} {room}"))?)
-    }
-}
-
-pub fn build_call(rule: &[u8], room: usize) -> String {
-    format!("build {} {room}", hex(rule))
-}
-
-pub fn read_back_call(image: &[u64], room: usize) -> String {
-    let runs: Vec<String> = image.chunk_by(|a, b| a == b).map(|run| format!("{}:{:x}", run.len(), run[0])).collect();
-    format!("readback {} {room}", if runs.is_empty() { "-".to_string() } else { runs.join(",") })
-}
-
-fn hex(bytes: &[u8]) -> String {
-    if bytes.is_empty() {
-        return "-".to_string();
-    }
-    bytes.iter().map(|b| format!("{b:02x}")).collect()
 }

@@ -33,7 +33,7 @@ impl Random {
         self.below(n) == 0
     }
 
-    fn pick<'a, T>(&mut self, all: &'a [T]) -> &'a T {
+    pub fn pick<'a, T>(&mut self, all: &'a [T]) -> &'a T {
         &all[self.below(all.len())]
     }
 }
@@ -56,7 +56,8 @@ fn single(r: &mut Random, byte: u8, out: &mut Vec<u8>) {
     }
 }
 
-fn any_byte(r: &mut Random) -> u8 {
+/// Most often one of the small letters that generated rules are made of.
+pub fn any_byte(r: &mut Random) -> u8 {
     match r.below(4) {
         0 => r.below(256) as u8,
         1 => *r.pick(SIGNS),

@@ -1,9 +1,10 @@
 //! Reading the outside vectors (their format is in vectors/README.md); document 01 once more, independently; calls of the library for C, and rules
-//! for it.
+//! and texts for it.
 
 pub mod driver;
 pub mod generate;
 pub mod independent;
+pub mod texts;
 
 use std::fs;
 use std::path::Path;
@@ -31,6 +32,11 @@ pub fn bytes(field: &str) -> Vec<u8> {
     }
     assert!(field.len() % 2 == 0, "odd hex: {field}");
     (0..field.len() / 2).map(|i| u8::from_str_radix(&field[2 * i..2 * i + 2], 16).expect("hex")).collect()
+}
+
+/// A file's bytes, or no file.
+pub fn file(field: &str) -> Option<Vec<u8>> {
+    (field != "missing").then(|| bytes(field))
 }
 
 /// Words as LENGTH;RUNS.

@@ -1,46 +1,16 @@
-//! Build: the outside vectors, document 01's examples and limits, and generated rules beside the independent program.
+//! Build: document 01's examples and limits, and generated rules beside the independent program.
 
 use crate::checks::{Checks, LONGEST};
 use outside_checks::driver::{build_call, Answer};
 use outside_checks::generate::{broken, jumbled, long, nested, sized, small, Random, TELLING};
 use outside_checks::independent::{build, depth, parse, states};
-use outside_checks::{bytes, expand, runs, vectors};
-use std::path::Path;
 
-pub fn all(checks: &mut Checks, folder: &Path) {
-    let mut answers = Vec::new();
-    checks.part("build: outside vectors", |c| answers = outside(c, folder));
-    checks.part("build: faults planted in copies of their answers", |c| planted(c, &answers));
+pub fn all(checks: &mut Checks) {
     checks.part("build: document 01's examples", examples);
     checks.part("build: limits", limits);
     checks.part("build: stack", stack);
     checks.part("build: rules of every byte", every_byte);
     checks.part("build: rules from seeds", seeds);
-}
-
-// ---- the outside vectors, and faults planted in copies of their answers
-
-fn outside(checks: &mut Checks, folder: &Path) -> Vec<(Answer<u64>, Answer<u64>)> {
-    let mut answers = Vec::new();
-    for v in vectors(folder, "build.txt", "build") {
-        let (rule, room, image) = (bytes(&v[0]), v[1].parse().expect("ROOM"), expand(&runs(&v[4])));
-        let expected = Answer::of(v[2].parse().expect("NUMBER"), &image, room);
-        assert_eq!(expected.count.to_string(), v[3], "COUNT");
-        if let Some(got) = checks.build("vector", &rule, &expected) {
-            answers.push((got, expected));
-        }
-    }
-    answers
-}
-
-fn planted(checks: &mut Checks, answers: &[(Answer<u64>, Answer<u64>)]) {
-    checks.planted(answers);
-    for place in [-1, 7] {
-        let seen = checks.driver.spoil_word(place, 7).is_err();
-        checks.same("a change beside the lent words is seen", seen, true);
-    }
-    let spoilt = checks.driver.spoil_word(3, 7).ok().and_then(|answer| answer.difference(&Answer::of(0, &[], 7)));
-    checks.same("a change of a lent word is seen", spoilt.is_some(), true);
 }
 
 // ---- document 01: "Measured examples", "The image", and the limits
@@ -134,7 +104,7 @@ fn limits(checks: &mut Checks) {
 fn stack(checks: &mut Checks) {
     let class = [vec![b'('; 1023], b"[".to_vec()].concat();
     let rules = [vec![b'('; 1024], pairs(511, "ab"), class, vec![b'a'; 1024], longest()];
-    checks.stack("build", &rules.map(|rule| build_call(&rule, LONGEST)));
+    checks.stack("build", 1 << 20, &rules.map(|rule| build_call(&rule, LONGEST)));
 }
 
 // ---- generated rules

@@ -1,11 +1,7 @@
 //! Calls of the driver compared with what is expected, and how many went well.
 
-use outside_checks::driver::{Answer, Driver, Lent};
-use outside_checks::generate::Random;
-use outside_checks::independent::{build, read_back, writing};
-
-/// The stack in bytes that a caller provides, as docs/DECISIONS.md says.
-const STACK: usize = 1 << 20;
+use outside_checks::driver::{build_call, match_call, read_back_call, Answer, Driver, Lent};
+use outside_checks::independent::{build, match_ends, read_back};
 
 /// The length of the longest image.
 pub const LONGEST: usize = 4705;
@@ -37,17 +33,25 @@ impl Checks {
         self.note(what, difference);
     }
 
-    fn compare<T: Lent>(&mut self, what: &str, got: Result<Answer<T>, String>, expected: &Answer<T>) -> Option<Answer<T>> {
-        let difference = got.as_ref().map_or_else(|why| Some(why.clone()), |answer| answer.difference(expected));
-        self.note(what, difference);
+    /// One call, compared whole; what it gave. Where it differs the call is printed, as the driver takes it.
+    fn compare<T: Lent>(&mut self, what: &str, call: &str, expected: &Answer<T>) -> Option<Answer<T>> {
+        let got = self.driver.call(call);
+        let difference = got.as_ref().map_or_else(|why| Some(why.clone()), |answer: &Answer<T>| answer.difference(expected));
+        self.note(what, difference.map(|d| format!("{d}; the call: {call}")));
         got.ok()
     }
 
-    /// One build, compared whole; what it gave.
     pub fn build(&mut self, what: &str, rule: &[u8], expected: &Answer<u64>) -> Option<Answer<u64>> {
-        let room = expected.lent.len();
-        let got = self.driver.build(rule, room);
-        self.compare(&format!("{what}, rule {}, {room} words lent", rule.escape_ascii()), got, expected)
+        let call = build_call(rule, expected.lent.len());
+        self.compare(&format!("{what}, rule {}", rule.escape_ascii()), &call, expected)
+    }
+
+    pub fn read_back(&mut self, what: &str, image: &[u64], expected: &Answer<u8>) -> Option<Answer<u8>> {
+        self.compare(what, &read_back_call(image, expected.lent.len()), expected)
+    }
+
+    pub fn match_ends(&mut self, what: &str, image: &[u64], text: &[u8], expected: &Answer<u32>) -> Option<Answer<u32>> {
+        self.compare(what, &match_call(image, text, expected.lent.len()), expected)
     }
 
     /// One build beside the independent program; the words afterwards.
@@ -56,43 +60,35 @@ impl Checks {
         self.build(what, rule, &Answer::of(number, &image, room)).map_or(Vec::new(), |answer| answer.lent)
     }
 
-    /// One read back, compared whole; what it gave.
-    pub fn read_back(&mut self, what: &str, image: &[u64], expected: &Answer<u8>) -> Option<Answer<u8>> {
-        let room = expected.lent.len();
-        let got = self.driver.read_back(image, room);
-        self.compare(&format!("{what}, {} words, {room} bytes lent", image.len()), got, expected)
-    }
-
     /// One read back beside the independent program; what it gave.
     pub fn read_back_beside(&mut self, what: &str, image: &[u64], room: usize) -> Option<Answer<u8>> {
-        let expected = match read_back(image).map(|tree| writing(&tree)) {
-            None => Answer::of(6, &[], room),
-            Some(written) if written.len() > room => Answer::of(8, &[], room),
-            Some(written) => Answer::of(0, &written, room),
-        };
-        self.read_back(what, image, &expected)
+        let (number, written) = read_back(image, room);
+        self.read_back(what, image, &Answer::of(number, &written, room))
     }
 
-    /// The stack that calls take, against what a caller provides.
-    pub fn stack(&mut self, name: &str, calls: &[String]) {
+    /// One match beside the independent program; what it gave.
+    pub fn match_beside(&mut self, what: &str, image: &[u64], text: &[u8], room: usize) -> Option<Answer<u32>> {
+        let (number, ends) = match_ends(image, text);
+        self.match_ends(what, image, text, &Answer::of(number, &ends, room))
+    }
+
+    /// What the proved build gives for a rule that it must accept.
+    pub fn built(&mut self, what: &str, rule: &[u8]) -> Option<Vec<u64>> {
+        let answer = self.driver.call::<u64>(&build_call(rule, LONGEST));
+        let image = answer.and_then(|a| if a.number == 0 { Ok(a.written().to_vec()) } else { Err(format!("refused with {}", a.number)) });
+        image.map_err(|why| self.note(&format!("{what}, rule {}", rule.escape_ascii()), Some(why))).ok()
+    }
+
+    /// The stack that calls take, against what include/lavumbishe.h asks of a caller.
+    pub fn stack(&mut self, name: &str, provided: usize, calls: &[String]) {
         let mut most = 0;
         for call in calls {
             let taken = self.driver.stack(call).unwrap_or(usize::MAX);
-            let more = (taken > STACK).then(|| format!("{taken} bytes"));
+            let more = (taken > provided).then(|| format!("{taken} bytes"));
             self.note(&format!("stack for the call {call}"), more);
             most = most.max(taken);
         }
         println!("library: the most stack that a {name} took: {most} bytes");
-    }
-
-    /// Every fault must be seen: one thing wrong in a copy of an expected answer.
-    pub fn planted<T: Lent + std::ops::BitXor<Output = T> + From<u8>>(&mut self, answers: &[(Answer<T>, Answer<T>)]) {
-        let mut r = Random::new(1);
-        for (got, expected) in answers {
-            for fault in faults(&mut r, expected) {
-                self.same("a planted fault is seen", got.difference(&fault).is_some(), true);
-            }
-        }
     }
 
     /// A part of the checks, and how it went.
@@ -107,20 +103,4 @@ impl Checks {
         println!("library: {} passed, {} failed", self.passed, self.failed);
         self.failed == 0
     }
-}
-
-/// Copies of an answer, each with one thing wrong: the number, the count, a bit of what was written, a bit past it.
-fn faults<T: Lent + std::ops::BitXor<Output = T> + From<u8>>(r: &mut Random, right: &Answer<T>) -> Vec<Answer<T>> {
-    let mut faults = vec![right.clone(), right.clone()];
-    faults[0].number += 1;
-    faults[1].count += 1;
-    let written = right.count as usize;
-    for (from, to) in [(0, written), (written, right.lent.len())] {
-        if from < to {
-            let (mut fault, place) = (right.clone(), r.between(from, to - 1));
-            fault.lent[place] = fault.lent[place] ^ T::from(1 << r.below(8));
-            faults.push(fault);
-        }
-    }
-    faults
 }

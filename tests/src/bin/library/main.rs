@@ -4,7 +4,10 @@
 mod build;
 mod checks;
 mod damage;
+mod damaged;
 mod masks;
+mod match_ends;
+mod outside;
 mod read_back;
 
 use checks::Checks;
@@ -18,8 +21,10 @@ fn main() {
         exit(2);
     };
     let mut checks = Checks::start(driver);
-    build::all(&mut checks, Path::new(folder));
+    outside::all(&mut checks, Path::new(folder));
+    build::all(&mut checks);
     read_back::all(&mut checks, Path::new(folder));
-    damage::all(&mut checks);
+    match_ends::all(&mut checks, Path::new(folder));
+    damaged::all(&mut checks);
     exit(i32::from(!checks.tell()));
 }

@@ -1,48 +1,20 @@
-//! Read back: the outside vectors, document 01's examples, images that the proved build gives, every byte, and writings longer than any rule.
+//! Read back: document 01's examples, images that the proved build gives, every byte, and writings longer than any rule.
 
 use crate::build::{longest, unions};
 use crate::checks::{Checks, LONGEST};
 use outside_checks::driver::{read_back_call, Answer};
 use outside_checks::generate::{nested, sized, small, Random};
 use outside_checks::independent::{build, image, parse, writing, Class, Item, Repeat, Sequence};
-use outside_checks::{bytes, expand, runs, vectors};
+use outside_checks::{bytes, vectors};
 use std::path::Path;
 
 pub fn all(checks: &mut Checks, folder: &Path) {
-    let mut answers = Vec::new();
-    checks.part("read back: outside vectors", |c| answers = outside(c, folder));
-    checks.part("read back: faults planted in copies of their answers", |c| planted(c, &answers));
     checks.part("read back: document 01's examples", examples);
     checks.part("read back: what build gives for the outside vectors", |c| built_vectors(c, folder));
     checks.part("read back: what build gives for rules from seeds", built_seeds);
     checks.part("read back: every byte", every_byte);
     checks.part("read back: writings longer than 1,024 bytes", long_writings);
     checks.part("read back: stack", stack);
-}
-
-// ---- the outside vectors, and faults planted in copies of their answers
-
-fn outside(checks: &mut Checks, folder: &Path) -> Vec<(Answer<u8>, Answer<u8>)> {
-    let mut answers = Vec::new();
-    for (i, v) in vectors(folder, "readback.txt", "readback").iter().enumerate() {
-        let (words, room, written) = (expand(&runs(&v[0])), v[1].parse().expect("ROOM"), bytes(&v[4]));
-        let expected = Answer::of(v[2].parse().expect("NUMBER"), &written, room);
-        assert_eq!(expected.count.to_string(), v[3], "COUNT");
-        if let Some(got) = checks.read_back(&format!("vector in line {}", i + 1), &words, &expected) {
-            answers.push((got, expected));
-        }
-    }
-    answers
-}
-
-fn planted(checks: &mut Checks, answers: &[(Answer<u8>, Answer<u8>)]) {
-    checks.planted(answers);
-    for place in [-1, 7] {
-        let seen = checks.driver.spoil_byte(place, 7).is_err();
-        checks.same("a change beside the lent bytes is seen", seen, true);
-    }
-    let spoilt = checks.driver.spoil_byte(3, 7).ok().and_then(|answer| answer.difference(&Answer::of(0, &[], 7)));
-    checks.same("a change of a lent byte is seen", spoilt.is_some(), true);
 }
 
 // ---- images read back in every room
@@ -59,10 +31,8 @@ fn rooms(checks: &mut Checks, what: &str, image: &[u64], plain: &[u8]) {
 
 /// What the proved build gives for a rule, read back as the plain writing by the independent program.
 fn built(checks: &mut Checks, what: &str, rule: &[u8], plain: &[u8]) {
-    let what = format!("{what}, rule {}", rule.escape_ascii());
-    match checks.driver.build(rule, LONGEST) {
-        Ok(answer) => rooms(checks, &what, answer.written(), plain),
-        Err(why) => checks.note(&what, Some(why)),
+    if let Some(image) = checks.built(what, rule) {
+        rooms(checks, &format!("{what}, rule {}", rule.escape_ascii()), &image, plain);
     }
 }
 
@@ -165,5 +135,5 @@ fn stack(checks: &mut Checks) {
     let mut wider = parse(&longest()).expect("a rule");
     widen(&mut Random::new(0), &mut wider);
     let images = [image(&parse(b"a").expect("a rule")), image(&wider), vec![0; 9], Vec::new()];
-    checks.stack("read back", &images.map(|words| read_back_call(&words, 1 << 19)));
+    checks.stack("read back", 16 << 10, &images.map(|words| read_back_call(&words, 1 << 19)));
 }

@@ -1,0 +1,64 @@
+// One rule from the desk to the panel, that of examples/valve: the dosing valve is opened (O) twice with no flow (F) between. The desk builds its
+// image and reads it back for the inspector; the panel gets the image alone and looks for the rule in a journal, one byte for each event.
+#include "lavumbishe.h"
+#include <stdio.h>
+#include <string.h>
+
+static const char rule[] = "O[A-EG-NP-Z]*O";
+static const char journal[] = "OFCMOFCMOPCMOFCAKOFCOC";
+
+// What is stored and handed over: the words, and how many they are.
+static uint64_t image[LAVUMBISHE_IMAGE_WORDS];
+static size_t image_len;
+
+static int refused(const char *what, uint64_t result) {
+    static const char *const why[] = {
+        "done",
+        "the rule is longer than 1,024 bytes",
+        "the rule is not in the grammar",
+        "the rule needs more than 512 states",
+        "the rule nests alternatives more than eight deep",
+        "the image does not fit",
+        "these words are not the image of a rule",
+        "the journal is longer than 65,535 bytes",
+        "the plain writing does not fit",
+    };
+    printf("%s refused with %u: %s.\n", what, lavumbishe_number(result), why[lavumbishe_number(result)]);
+    return 1;
+}
+
+static int desk(void) {
+    static uint8_t writing[1024];
+    uint64_t built = lavumbishe_build((const uint8_t *)rule, strlen(rule), image, LAVUMBISHE_IMAGE_WORDS);
+    if (lavumbishe_number(built) != LAVUMBISHE_DONE)
+        return refused("Build", built);
+    image_len = lavumbishe_count(built);
+    uint64_t written = lavumbishe_read_back(image, image_len, writing, sizeof writing);
+    if (lavumbishe_number(written) != LAVUMBISHE_DONE)
+        return refused("Read back", written);
+    printf("The rule %s is an image of %u words.\n", rule, (unsigned)image_len);
+    printf("These words say: %.*s\n", (int)lavumbishe_count(written), (const char *)writing);
+    return 0;
+}
+
+static int panel(void) {
+    static uint32_t ends[8];
+    const size_t room = sizeof ends / sizeof ends[0];
+    uint64_t found = lavumbishe_match(image, image_len, (const uint8_t *)journal, strlen(journal), ends, room);
+    if (lavumbishe_number(found) != LAVUMBISHE_DONE)
+        return refused("Match", found);
+    size_t total = lavumbishe_count(found);
+    printf("Times that the valve was opened again with no flow between, in the journal %s: %u\n", journal, (unsigned)total);
+    for (size_t i = 0; i < total && i < room; i++)
+        printf("  after %u events: %.*s\n", (unsigned)ends[i], (int)ends[i], journal);
+    return 0;
+}
+
+int main(void) {
+    if (desk() != 0 || panel() != 0)
+        return 1;
+    // A word of the image goes wrong in the panel's memory: match says so and reports nothing.
+    image[100] ^= 1;
+    printf("One bit of the image changed. ");
+    return panel() == 0;
+}

@@ -1,0 +1,86 @@
+/* Lavumbishe for C and C++: build, read back and match.
+ *
+ * A rule becomes an image, tables of bit masks in 64-bit words. The image is what the panel stores and runs; the rule is not needed again. What
+ * each function does is proved for every input, whatever the words and bytes are (docs/PROMISES.md); the rules' grammar is document 01's.
+ *
+ *     uint64_t image[LAVUMBISHE_IMAGE_WORDS];
+ *     uint64_t built = lavumbishe_build(rule, rule_len, image, LAVUMBISHE_IMAGE_WORDS);
+ *     if (lavumbishe_number(built) != LAVUMBISHE_DONE)
+ *         ...                                               refused: image is as it was
+ *     size_t image_len = lavumbishe_count(built);           lend exactly these words to the other two
+ *
+ * examples/watch.c is a whole program. 'rt staticlib panel' makes the library, target/staticlib/libpanel.a, for x86-64 and the calls of C on Linux.
+ *
+ * The result holds two numbers: the number of the table below times 2^32, and a count below 2^32. Take them apart with lavumbishe_number and
+ * lavumbishe_count. The checks run in the table's order, and the first that fails gives its number. A refusal has count 0 and changes nothing that
+ * was lent. After 'done' the count is how much there is of the result, and what lies past it in the lent area is as it was.
+ *
+ * What a caller provides:
+ *  - Areas. Each is a pointer and a length in elements, not in bytes. The area to be written must not overlap one to be read. A
+ *    pointer must be aligned for its type and must not be null, also where the length is 0.
+ *  - Stack: 1 MiB for build, since the readers nest as deep as the rule's brackets may; 16 KiB for read back, 64 KiB for match. The
+ *    tests measure some 800,000, 8,800 and 14,300 bytes on x86-64. Build may be left to the desk: a panel that gets images needs match alone.
+ *  - memcpy, memmove and memset, which the compiler may call. Nothing else is called.
+ *
+ * No heap and no variable data outside the stack is used, so calls from several threads or from an interrupt are safe as long as none writes an
+ * area that another reads or writes. Every call ends: the work is bounded by the lengths that are given.
+ */
+#ifndef LAVUMBISHE_H
+#define LAVUMBISHE_H
+
+#include <stddef.h>
+#include <stdint.h>
+
+#ifdef __cplusplus
+extern "C" {
+#endif
+
+/* The numbers, in the order of the checks. */
+enum {
+    LAVUMBISHE_DONE = 0,            /* all:              done */
+    LAVUMBISHE_RULE_TOO_LONG = 1,   /* build:            the rule has more than 1,024 bytes */
+    LAVUMBISHE_NOT_A_RULE = 2,      /* build:            the rule is not in the grammar (a closing newline is enough) */
+    LAVUMBISHE_TOO_MANY_STATES = 3, /* build:            more than 512 states */
+    LAVUMBISHE_TOO_DEEP = 4,        /* build:            unions nested more than 8 deep */
+    LAVUMBISHE_IMAGE_NO_ROOM = 5,   /* build:            the image is longer than the words lent */
+    LAVUMBISHE_NOT_AN_IMAGE = 6,    /* read back, match: the words are not exactly the image of a rule */
+    LAVUMBISHE_TEXT_TOO_LONG = 7,   /* match:            the text has more than 65,535 bytes */
+    LAVUMBISHE_WRITING_NO_ROOM = 8  /* read back:        the plain writing is longer than the bytes lent */
+};
+
+/* The largest sizes: every image fits into so many words, and no text has more ends than places, 0 to its length. */
+enum {
+    LAVUMBISHE_RULE_BYTES = 1024,
+    LAVUMBISHE_TEXT_BYTES = 65535,
+    LAVUMBISHE_IMAGE_WORDS = 4705,
+    LAVUMBISHE_ENDS = 65536
+};
+
+/* Build: from a rule to its image. Numbers 0 to 5. The count is the image's length in words, which are the first ones of those lent. Store it with
+ * the words: read back and match take exactly so many. */
+uint64_t lavumbishe_build(const uint8_t *rule, size_t rule_len, uint64_t *image, size_t image_len);
+
+/* Read back: from an image to the rule's plain writing, which is again a rule, of the same image. Numbers 0, 6, 8. The count is the writing's length
+ * in bytes; no byte 0 closes it. The writing of a short rule may be long: [..]{511} writes its class 511 times. The longest of any image has
+ * 1,178,877 bytes. */
+uint64_t lavumbishe_read_back(const uint64_t *image, size_t image_len, uint8_t *writing, size_t writing_len);
+
+/* Match: from an image and a text to the places at which the rule has just happened. A place is a number of bytes read, from 0 to text_len. It is an
+ * end if some stretch of the text that stops there, perhaps an empty one, is spelled by the rule. Numbers 0, 6, 7. The count is the total of ends,
+ * all of them; written are the first that fit, in rising order. A short list of ends is no refusal: compare the count with ends_len. A list of
+ * length 0 asks for the total alone.
+ *
+ * The image is checked in this same call, word by word, and then run from the very words that were checked: damaged memory gives 6 and not a wrong
+ * end. Match answers for the rule whose image it is given, whether or not build made it. */
+uint64_t lavumbishe_match(const uint64_t *image, size_t image_len, const uint8_t *text, size_t text_len, uint32_t *ends, size_t ends_len);
+
+/* The two halves of a result. */
+static inline unsigned lavumbishe_number(uint64_t result) { return (unsigned)(result >> 32); }
+
+static inline size_t lavumbishe_count(uint64_t result) { return (size_t)(result & 0xffffffffu); }
+
+#ifdef __cplusplus
+}
+#endif
+
+#endif

@@ -1,0 +1,10 @@
+// Stands in for the C library's header, which the kit has not: what our programs call of it.
+#ifndef STRING_H
+#define STRING_H
+#include <stddef.h>
+void *memcpy(void *to, const void *from, size_t length);
+int memcmp(const void *one, const void *other, size_t length);
+size_t strlen(const char *text);
+int strcmp(const char *one, const char *other);
+int strncmp(const char *one, const char *other, size_t most);
+#endif

@@ -1,0 +1,219 @@
+//! The desk program, run in a folder for each case: what it writes must be, byte for byte, what the outside vector or the independent program says.
+//! Usage: desk VECTORS EXAMPLES PROGRAM FOLDER (tests/desk makes the program)
+
+use outside_checks::generate::{broken, nested, sized, small, Random};
+use outside_checks::independent::{desk, parse, writing};
+use outside_checks::texts::text;
+use outside_checks::{bytes, file, vectors};
+use std::fs;
+use std::path::{Path, PathBuf};
+use std::process::{exit, Command};
+
+/// What stands under a file's name.
+#[derive(Clone)]
+enum File {
+    Missing,
+    Folder,
+    Bytes(Vec<u8>),
+}
+
+impl File {
+    fn of(bytes: impl Into<Vec<u8>>) -> File {
+        File::Bytes(bytes.into())
+    }
+
+    /// What counts: a file that can't be opened or read counts as empty (docs/DECISIONS.md).
+    fn bytes(&self) -> &[u8] {
+        if let File::Bytes(bytes) = self { bytes } else { &[] }
+    }
+
+    fn put(&self, path: &Path) {
+        match self {
+            File::Missing => Ok(()),
+            File::Folder => fs::create_dir(path),
+            File::Bytes(bytes) => fs::write(path, bytes),
+        }
+        .unwrap_or_else(|e| panic!("{}: {e}", path.display()));
+    }
+}
+
+struct Checks {
+    program: String,
+    folder: PathBuf,
+    passed: usize,
+    failed: usize,
+}
+
+impl Checks {
+    fn note(&mut self, what: &str, well: bool) {
+        if well {
+            self.passed += 1;
+        } else {
+            self.failed += 1;
+            if self.failed <= 10 {
+                println!("desk: FAILED: {what}");
+            }
+        }
+    }
+
+    /// What the program writes in a folder with these files.
+    fn run(&self, rule: &File, journal: &File) -> Vec<u8> {
+        let _ = fs::remove_dir_all(&self.folder);
+        fs::create_dir_all(&self.folder).unwrap_or_else(|e| panic!("{}: {e}", self.folder.display()));
+        rule.put(&self.folder.join("rule"));
+        journal.put(&self.folder.join("journal"));
+        let output = Command::new(&self.program).current_dir(&self.folder).output().unwrap_or_else(|e| panic!("{}: {e}", self.program));
+        if output.status.code().is_none() {
+            return b"(killed by a signal)".to_vec();
+        }
+        output.stdout
+    }
+
+    fn same(&mut self, what: &str, rule: &File, journal: &File, expected: &[u8]) {
+        let got = self.run(rule, journal);
+        let start = |bytes: &[u8]| bytes.iter().take(60).copied().collect::<Vec<u8>>().escape_ascii().to_string();
+        let told = format!(
+            "{what}: rule {}, {} bytes of journal ({}): wrote {} bytes ({}), expected {} ({})",
+            rule.bytes().escape_ascii(),
+            journal.bytes().len(),
+            start(journal.bytes()),
+            got.len(),
+            start(&got),
+            expected.len(),
+            start(expected)
+        );
+        self.note(&told, got == expected);
+    }
+
+    /// Beside the independent program; `begins` is document 01's word on it.
+    fn beside(&mut self, what: &str, rule: &File, journal: &File, begins: &str) {
+        let expected = desk(rule.bytes(), journal.bytes());
+        self.note(&format!("{what}: the independent program begins with {begins:?}"), expected.starts_with(begins.as_bytes()));
+        self.same(what, rule, journal, &expected);
+    }
+
+    fn part(&mut self, name: &str, run: impl FnOnce(&mut Checks)) {
+        let (passed, failed) = (self.passed, self.failed);
+        run(self);
+        println!("desk: {name}: {} passed, {} failed", self.passed - passed, self.failed - failed);
+    }
+}
+
+fn outside(checks: &mut Checks, folder: &Path) {
+    for (i, v) in vectors(folder, "desk.txt", "desk").iter().enumerate() {
+        let [rule, journal] = [0, 1].map(|k| file(&v[k]).map_or(File::Missing, File::Bytes));
+        checks.same(&format!("line {}", i + 1), &rule, &journal, &bytes(&v[2]));
+    }
+}
+
+/// The shipped examples: folders with a rule, a journal and the report that is to come.
+fn examples(checks: &mut Checks, folder: &Path) {
+    let mut count = 0;
+    for entry in fs::read_dir(folder).unwrap_or_else(|e| panic!("{}: {e}", folder.display())) {
+        let example = entry.expect("an example").path();
+        let [rule, journal, report] = ["rule", "journal", "report"].map(|name| fs::read(example.join(name)));
+        let (Ok(rule), Ok(journal), Ok(report)) = (rule, journal, report) else { continue };
+        checks.note(&format!("{}: the independent program", example.display()), desk(&rule, &journal) == report);
+        checks.same(&example.display().to_string(), &File::Bytes(rule), &File::Bytes(journal), &report);
+        count += 1;
+    }
+    checks.note("there are examples", count > 0);
+}
+
+fn files(checks: &mut Checks) {
+    let (a, aba) = (File::of("a"), File::of("aba"));
+    checks.beside("document 01's example", &a, &aba, "a\ntotal 2\n1\n3\n");
+    checks.beside("a closing newline in the rule", &File::of("a\n"), &aba, "refused 2\n");
+    checks.beside("a closing newline in the journal", &File::of("."), &File::of("aba\n"), ".\ntotal 4\n");
+    checks.beside("every byte in the journal", &File::of("."), &File::of((0..=255).collect::<Vec<u8>>()), ".\ntotal 256\n");
+    for nothing in [File::Missing, File::Folder, File::of("")] {
+        checks.beside("no rule", &nothing, &aba, "refused 2\n");
+        checks.beside("no journal", &File::of("b?"), &nothing, "b?\ntotal 1\n0\n");
+        checks.beside("neither", &nothing, &nothing, "refused 2\n");
+    }
+}
+
+/// A rule whose plain writing is just so long: a class many times, and letters.
+fn written(length: usize) -> Vec<u8> {
+    let class = "[!#%'13579ACEGIKMOQSUWYacegikmoqsuwy\\x00\\x02\\x04\\x06\\x08\\x10\\x12\\x14\\x16]";
+    let rule = format!("{class}{{{}}}{}", length / class.len(), "a".repeat(length % class.len()));
+    assert_eq!(writing(&parse(rule.as_bytes()).expect("a rule")).len(), length);
+    rule.into_bytes()
+}
+
+fn limits(checks: &mut Checks) {
+    let class = |length: usize| File::of([&b"["[..], &vec![b'a'; length - 2], b"]"].concat());
+    checks.beside("a rule of 1,024 bytes", &class(1024), &File::of("aba"), "a\ntotal 2\n");
+    for length in [1025, 1026, 5000] {
+        checks.beside("a rule that is too long", &class(length), &File::of("aba"), "refused 1\n");
+    }
+    let journal = |length: usize| File::of(vec![b'a'; length]);
+    checks.beside("a journal of 65,535 bytes", &File::of("ba*|a{7}"), &journal(65535), "(ba*|aaaaaaa)\ntotal 65529\n");
+    for length in [65536, 65537, 200_000] {
+        checks.beside("a journal that is too long", &File::of("a"), &journal(length), "refused 7\n");
+    }
+    for total in [999, 1000, 1001, 40000] {
+        checks.beside("a thousand ends", &File::of("a"), &journal(total), &format!("a\ntotal {total}\n1\n2\n"));
+    }
+    checks.beside("a writing that just fits", &File::of(written(16384)), &File::of("a"), "[\\x00");
+    checks.beside("a writing one byte too long", &File::of(written(16385)), &File::of("a"), "refused 8\n");
+    checks.beside("a writing far too long", &File::of(written(20000)), &File::of("a"), "refused 8\n");
+    for (what, rule, number) in [("1 before 7", "(".repeat(1025), 1), ("2 before 7", "(".repeat(1024), 2), ("3 before 7", "a{512}".to_string(), 3)] {
+        checks.beside(what, &File::of(rule), &journal(65536), &format!("refused {number}\n"));
+    }
+    let nine_deep = (0..9).fold("a".to_string(), |inner, _| format!("({inner}|b)"));
+    checks.beside("4 before 7", &File::of(nine_deep), &journal(65536), "refused 4\n");
+    checks.beside("8 before 7", &File::of(written(16385)), &journal(65536), "refused 8\n");
+}
+
+fn seeds(checks: &mut Checks) {
+    let mut numbers = [0; 9];
+    for seed in 0..300 {
+        let mut r = Random::new(seed);
+        let (deep, wanted) = (r.between(1, 9), r.between(60, 515));
+        let rule = match seed {
+            0..170 => small(&mut r),
+            170..200 => broken(&mut r),
+            200..240 => nested(&mut r, deep),
+            _ => sized(&mut r, wanted, deep - 1),
+        };
+        let most = [3, 40, 400, 4000][r.below(4)];
+        let journal = parse(&rule).map_or(b"aba".to_vec(), |tree| text(&mut r, &tree, most));
+        let expected = desk(&rule, &journal);
+        let number = expected.strip_prefix(b"refused ").map_or(0, |rest| usize::from(rest[0] - b'0'));
+        numbers[number] += 1;
+        checks.same(&format!("seed {seed}"), &File::Bytes(rule), &File::Bytes(journal), &expected);
+    }
+    println!("desk: from seeds: numbers 0 to 8: {numbers:?}");
+}
+
+/// A wrong copy of what is expected must be seen: a byte changed, one more, one less.
+fn faults(checks: &mut Checks) {
+    let (rule, journal) = (File::of("a"), File::of("aba"));
+    let (got, right) = (checks.run(&rule, &journal), b"a\ntotal 2\n1\n3\n");
+    checks.note("what is right is seen as right", got == right);
+    for place in 0..right.len() {
+        let mut wrong = right.to_vec();
+        wrong[place] ^= 1;
+        checks.note("a changed byte is seen", got != wrong);
+        checks.note("a lost end is seen", got != right[..place]);
+    }
+    checks.note("a byte too many is seen", got != [&right[..], b"\n"].concat());
+}
+
+fn main() {
+    let arguments: Vec<String> = std::env::args().collect();
+    let [_, vectors, shipped, program, folder] = &arguments[..] else {
+        eprintln!("usage: desk VECTORS EXAMPLES PROGRAM FOLDER");
+        exit(2);
+    };
+    let mut checks = Checks { program: program.clone(), folder: PathBuf::from(folder), passed: 0, failed: 0 };
+    checks.part("shipped examples", |c| examples(c, Path::new(shipped)));
+    checks.part("outside vectors", |c| outside(c, Path::new(vectors)));
+    checks.part("faults planted in copies of an answer", faults);
+    checks.part("files", files);
+    checks.part("limits", limits);
+    checks.part("rules and journals from seeds", seeds);
+    println!("desk: {} passed, {} failed", checks.passed, checks.failed);
+    exit(i32::from(checks.failed > 0));
+}

@@ -1,0 +1,186 @@
+//! Match: document 01's examples and limits, and generated rules on generated texts beside the independent program, all on images that the proved
+//! build gave; and the three operations one after another as the desk program calls them.
+
+use crate::build::{longest, unions};
+use crate::checks::{Checks, LONGEST};
+use outside_checks::driver::{build_call, match_call, read_back_call, Answer};
+use outside_checks::generate::{nested, sized, small, Random};
+use outside_checks::independent::{build, depth, ends, image, parse, states};
+use outside_checks::texts::text;
+use outside_checks::{bytes, file, vectors};
+use std::path::Path;
+
+/// The length of the longest text.
+const LONGEST_TEXT: usize = 65535;
+
+pub fn all(checks: &mut Checks, folder: &Path) {
+    checks.part("match: document 01's examples", examples);
+    checks.part("match: limits", limits);
+    checks.part("match: rules and texts from seeds", seeds);
+    checks.part("match: long texts from seeds", long_texts);
+    checks.part("match: stack", stack);
+    checks.part("build, read back and match: the desk program's outside vectors", |c| desk_vectors(c, folder));
+}
+
+/// What the proved build gives for a rule, matched with these ends: room for more, just enough, one short, none.
+fn finds(checks: &mut Checks, what: &str, rule: &[u8], text: &[u8], ends: &[u32]) {
+    let Some(image) = checks.built(what, rule) else { return };
+    let what = format!("{what}, rule {}, {} bytes of text", rule.escape_ascii(), text.len());
+    for room in [ends.len() + 3, ends.len(), ends.len().saturating_sub(1), 0] {
+        checks.match_ends(&what, &image, text, &Answer::of(0, ends, room));
+    }
+}
+
+fn examples(checks: &mut Checks) {
+    let examples: [(&str, &str, &[u32]); 13] = [
+        ("a", "aba", &[1, 3]),
+        ("b?", "", &[0]),
+        ("b?", "ab", &[0, 1, 2]),
+        ("a{2,3}", "aaaa", &[2, 3, 4]),
+        ("[AB]+B.{1,3}[BC]?.*C", "ABCBBC", &[6]),
+        ("[AB]+B.{1,3}[BC]?.*C", "ABCBCC", &[5, 6]),
+        ("A(BA|CD)(CD|AB)B", "ABACDB", &[6]),
+        ("A(AB|B?)(B?.*|AB)C", "AC", &[2]),
+        // "Errors that look right"
+        ("a(b?|c)d", "ad", &[2]),
+        ("((a|b)|c)", "xabc", &[2, 3, 4]),
+        ("a((b|c)d|e)f", "abdfacdfaef", &[4, 8, 11]),
+        ("a{64}b", "", &[]),
+        ("(a|b)(c|d)", "acbdad", &[2, 4, 6]),
+    ];
+    for (rule, text, ends) in examples {
+        finds(checks, "an example", rule.as_bytes(), text.as_bytes(), ends);
+    }
+    finds(checks, "a carry from word to word", b"a{500}", &[b'a'; 502], &[500, 501, 502]);
+    finds(checks, "a carry through a union of 130 states", b"(a{64}|b{64})c", &[[b'b'; 64].to_vec(), b"c".to_vec()].concat(), &[65]);
+    finds(checks, "options over four words", b"a{,200}b", b"b", &[1]);
+    finds(checks, "eight deep", &unions(8), b"xab", &[2, 3]);
+}
+
+fn limits(checks: &mut Checks) {
+    let all: Vec<u32> = (0..=LONGEST_TEXT as u32).collect();
+    finds(checks, "every place of the longest text", b"a*", &[b'a'; LONGEST_TEXT], &all);
+    finds(checks, "every place but the first", b"a", &[b'a'; LONGEST_TEXT], &all[1..]);
+    finds(checks, "the last place alone", b"a{9}b", &[&[b'a'; LONGEST_TEXT - 1][..], b"b"].concat(), &all[LONGEST_TEXT..]);
+    finds(checks, "512 states, eight deep, on the empty text", &longest(), b"", &[]);
+
+    let (a, long) = (build(b"a", LONGEST).1, [b'a'; LONGEST_TEXT + 1]);
+    let mut spoilt = a.clone();
+    spoilt[523] = 2;
+    for (what, words, number) in [("an image", &a, 7), ("damaged", &spoilt, 6), ("cut", &a[..523].to_vec(), 6), ("no words", &Vec::new(), 6)] {
+        for room in [0, 1, 9] {
+            checks.match_ends(&format!("{what}, 65,536 bytes"), words, &long, &Answer::of(number, &[], room));
+        }
+    }
+    for length in [0, 1, LONGEST_TEXT] {
+        checks.match_ends("damaged, a text that is not too long", &spoilt, &long[..length], &Answer::of(6, &[], 9));
+    }
+    checks.match_ends("512 states, eight deep, 65,536 bytes", &build(&longest(), LONGEST).1, &long, &Answer::of(7, &[], 9));
+}
+
+// ---- generated rules and texts
+
+/// What was matched, so that no kind of it goes missing.
+#[derive(Default)]
+struct Seen {
+    rules: usize,
+    with_ends: usize,
+    without: usize,
+    short_lists: usize,
+    over_64: usize,
+    over_448: usize,
+    eight_deep: usize,
+}
+
+fn rule(r: &mut Random, seed: u64) -> Vec<u8> {
+    let (deep, wanted) = (r.below(9), [r.between(60, 70), r.between(71, 448), r.between(449, 512)][r.below(3)]);
+    match seed {
+        0..1700 => small(r),
+        1700..2100 => nested(r, deep.max(1)),
+        _ => sized(r, wanted, deep),
+    }
+}
+
+fn seeds(checks: &mut Checks) {
+    let mut seen = Seen::default();
+    for seed in 0..2300 {
+        let mut r = Random::new(seed);
+        let rule = rule(&mut r, seed);
+        let tree = parse(&rule).expect("a rule");
+        if states(&tree) > 512 || depth(&tree) > 8 {
+            continue;
+        }
+        let Some(image) = checks.built(&format!("seed {seed}"), &rule) else { continue };
+        seen.rules += 1;
+        seen.over_64 += usize::from(states(&tree) > 64);
+        seen.over_448 += usize::from(states(&tree) > 448);
+        seen.eight_deep += usize::from(depth(&tree) == 8);
+        for most in [0, 12, 60, 3 * states(&tree)] {
+            let length = r.below(most + 1);
+            let text = text(&mut r, &tree, length);
+            let ends = ends(&tree, &text);
+            let room = [0, ends.len() / 2, ends.len().saturating_sub(1), ends.len(), ends.len() + 1, ends.len() + 40][r.below(6)];
+            seen.with_ends += usize::from(!ends.is_empty());
+            seen.without += usize::from(ends.is_empty());
+            seen.short_lists += usize::from(room < ends.len());
+            let what = format!("seed {seed}, rule {}, text {}", rule.escape_ascii(), text.escape_ascii());
+            checks.match_ends(&what, &image, &text, &Answer::of(0, &ends, room));
+        }
+    }
+    let Seen { rules, with_ends, without, short_lists, over_64, over_448, eight_deep } = seen;
+    println!("library: matched from seeds: {rules} rules, {over_64} of them over 64 states, {over_448} over 448, {eight_deep} eight deep");
+    println!("library: texts with an end {with_ends}, with none {without}, lists of ends too short {short_lists}");
+    let fewest = [with_ends, without, short_lists, over_64, over_448, eight_deep].into_iter().min();
+    checks.same("there are 20 of each kind", fewest >= Some(20), true);
+}
+
+/// Texts of thousands of bytes, some as long as can be.
+fn long_texts(checks: &mut Checks) {
+    for seed in 0..36 {
+        let mut r = Random::new(seed);
+        let (wanted, deep) = (r.between(60, 512), r.below(9));
+        let rule = if seed % 3 == 0 { sized(&mut r, wanted, deep) } else { small(&mut r) };
+        let tree = parse(&rule).expect("a rule");
+        let Some(image) = checks.built(&format!("seed {seed}"), &rule) else { continue };
+        let length = if seed % 9 == 1 { LONGEST_TEXT } else { r.between(1000, 6000) };
+        let (text, room) = (text(&mut r, &tree, length), [LONGEST_TEXT + 1, 1000][r.below(2)]);
+        checks.match_ends(&format!("long text, seed {seed}, rule {}", rule.escape_ascii()), &image, &text, &Answer::of(0, &ends(&tree, &text), room));
+    }
+}
+
+fn stack(checks: &mut Checks) {
+    let of = |rule: &[u8]| image(&parse(rule).expect("a rule"));
+    let images = [of(b"a"), of(&longest()), of(b"A(AB|B?)(B?.*|AB)C"), vec![0; 9], Vec::new()];
+    let calls = images.iter().flat_map(|words| [0, 70].map(|length| match_call(words, &vec![b'a'; length], 100)));
+    checks.stack("match", 64 << 10, &calls.collect::<Vec<_>>());
+}
+
+// ---- the three together
+
+/// What the desk program is to write, by three calls.
+fn desk(checks: &mut Checks, rule: &[u8], journal: &[u8]) -> Result<Vec<u8>, String> {
+    let refused = |number: u64| Ok(format!("refused {number}\n").into_bytes());
+    let built = checks.driver.call::<u64>(&build_call(rule, LONGEST))?;
+    if built.number != 0 {
+        return refused(built.number);
+    }
+    let written = checks.driver.call::<u8>(&read_back_call(built.written(), 16384))?;
+    if written.number != 0 {
+        return refused(written.number);
+    }
+    let found = checks.driver.call::<u32>(&match_call(built.written(), journal, 1000))?;
+    if found.number != 0 {
+        return refused(found.number);
+    }
+    let ends = found.written().iter().map(|end| format!("{end}\n"));
+    let lines = std::iter::once(format!("\ntotal {}\n", found.count)).chain(ends).flat_map(String::into_bytes);
+    Ok(written.written().iter().copied().chain(lines).collect())
+}
+
+fn desk_vectors(checks: &mut Checks, folder: &Path) {
+    for (i, v) in vectors(folder, "desk.txt", "desk").iter().enumerate() {
+        let (rule, journal) = (file(&v[0]).unwrap_or_default(), file(&v[1]).unwrap_or_default());
+        let written = desk(checks, &rule, &journal);
+        checks.same(&format!("line {}, rule {}", i + 1, rule.escape_ascii()), written, Ok(bytes(&v[2])));
+    }
+}

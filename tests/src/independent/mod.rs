@@ -1,0 +1,60 @@
+//! Document 01 once more, written independently of the proofs and of the proved code: a parser, the plain writing, the image, reading an image back,
+//! ends by backtracking, and the answers. Plain and slow; it shares nothing with the crates.
+
+mod answers;
+mod ends;
+mod image;
+mod rules;
+mod writing;
+
+pub use answers::{build, desk, match_ends, read_back};
+pub use ends::ends;
+pub use image::{depth, image, states, tree_of};
+pub use rules::parse;
+pub use writing::writing;
+
+#[derive(Clone, Copy, PartialEq, Eq, Debug)]
+pub enum Repeat {
+    Once,
+    Option,
+    Star,
+    Plus,
+}
+
+impl Repeat {
+    fn skips(self) -> bool {
+        matches!(self, Repeat::Option | Repeat::Star)
+    }
+    fn loops(self) -> bool {
+        matches!(self, Repeat::Star | Repeat::Plus)
+    }
+}
+
+/// A set of bytes.
+#[derive(Clone, PartialEq, Eq, Debug)]
+pub struct Class(pub [bool; 256]);
+
+impl Class {
+    fn none() -> Class {
+        Class([false; 256])
+    }
+    fn one(byte: u8) -> Class {
+        let mut class = Class::none();
+        class.0[byte as usize] = true;
+        class
+    }
+}
+
+#[derive(Clone, PartialEq, Eq, Debug)]
+pub enum Item {
+    Letter(Class, Repeat),
+    Union(Vec<Sequence>),
+}
+
+pub type Sequence = Vec<Item>;
+
+const SIGNS: &[u8] = b"\\|()[]{}?*+.";
+
+fn is_plain(byte: u8) -> bool {
+    (33..=126).contains(&byte) && !SIGNS.contains(&byte)
+}

@@ -1,0 +1,49 @@
+//! Texts made by a fixed generator, in which a rule happens, nearly happens and does not.
+
+use crate::generate::{any_byte, Random};
+use crate::independent::{Item, Repeat};
+
+/// One way to spell a tree, each letter repeated at most three times.
+pub fn spelled(r: &mut Random, sequence: &[Item], out: &mut Vec<u8>) {
+    for item in sequence {
+        match item {
+            Item::Letter(class, repeat) => {
+                let bytes: Vec<u8> = (0..=255).filter(|b| class.0[*b as usize]).collect();
+                let (least, most) = match repeat {
+                    Repeat::Once => (1, 1),
+                    Repeat::Option => (0, 1),
+                    Repeat::Star => (0, 3),
+                    Repeat::Plus => (1, 3),
+                };
+                for _ in 0..r.between(least, most) {
+                    out.push(*r.pick(&bytes));
+                }
+            }
+            Item::Union(alternatives) => {
+                let chosen = r.pick(alternatives);
+                spelled(r, chosen, out);
+            }
+        }
+    }
+}
+
+/// A text of just so many bytes: the rule spelled, spelled but for one byte, cut short, and other bytes, one after another.
+pub fn text(r: &mut Random, tree: &[Item], length: usize) -> Vec<u8> {
+    let mut text = Vec::new();
+    while text.len() < length {
+        let mut part = Vec::new();
+        spelled(r, tree, &mut part);
+        match r.below(5) {
+            0 if !part.is_empty() => {
+                let at = r.below(part.len());
+                part[at] = any_byte(r);
+            }
+            1 => part.truncate(r.below(part.len() + 1)),
+            2 => part = (0..r.between(1, 9)).map(|_| any_byte(r)).collect(),
+            _ => {}
+        }
+        text.extend(part);
+    }
+    text.truncate(length);
+    text
+}

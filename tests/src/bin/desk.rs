@@ -161,6 +161,8 @@ fn limits(checks: &mut Checks) {
     for (what, rule, number) in [("1 before 7", "(".repeat(1025), 1), ("2 before 7", "(".repeat(1024), 2), ("3 before 7", "a{512}".to_string(), 3)] {
         checks.beside(what, &File::of(rule), &journal(65536), &format!("refused {number}\n"));
     }
+    let nine_deep = (0..9).fold("a".to_string(), |inner, _| format!("({inner}|b)"));
+    checks.beside("4 before 7", &File::of(nine_deep), &journal(65536), "refused 4\n");
     checks.beside("8 before 7", &File::of(written(16385)), &journal(65536), "refused 8\n");
 }
 

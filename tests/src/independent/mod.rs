@@ -1,4 +1,5 @@
-//! Document 01 once more, written independently of the proofs and of the proved code: plain and slow; it shares nothing with the crates.
+//! Document 01 once more, written independently of the proofs and of the proved code: a parser, the plain writing, the image, reading an image back,
+//! ends by backtracking, and the answers. Plain and slow; it shares nothing with the crates.
 
 mod answers;
 mod ends;

@@ -1,6 +1,6 @@
 -- ONE PIECE AFTER ANOTHER IS THE TWO IN ONE: stores from a place on go on where the last ended.
 use mathlib.Core.Path.{_≡_, refl, sym, ap, _∙_}
-use mathlib.Core.List.{List, [], _∷_, _++_}
+use mathlib.Core.List.{List, [], _++_}
 use Prim.Native.Nat.{ℕ, suc, _+_, _*_, _≤_, _<_}
 use native.Mathlib.Omega.{arith}
 use lib.ListN.{drop, getD, length, length-append, set}

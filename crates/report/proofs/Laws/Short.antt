@@ -1,9 +1,9 @@
 -- NO REPORT IS LONGER THAN 22,397 BYTES: 16,384 of the writing, at most 5 digits for the total, and a line of at most 6 for each of 1,000 ends.
-use mathlib.Core.Path.{_≡_, refl, sym, ap, _∙_}
+use mathlib.Core.Path.{_≡_, sym, ap, _∙_}
 use mathlib.Core.List.{List, [], _∷_, _++_}
 use Prim.Native.Nat.{ℕ, _≤_}
 use native.Mathlib.Omega.{arith}
-use lib.ListN.{length, length-append, length-replicate, length-take, replicate}
+use lib.ListN.{length, length-append, length-replicate, length-take}
 use lib.Seq.{length-sets}
 use Rattle.model.specs.Answers.{Answer, done, MatchSays}
 use Rattle.model.specs.Bytes.{bytes}

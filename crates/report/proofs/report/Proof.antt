@@ -1,5 +1,5 @@
 -- Build's answer is a refusal, whose line is the text, or done, and read back goes on with the image.
-use mathlib.Core.Path.{_≡_, refl, sym, ap, _∙_}
+use mathlib.Core.Path.{ap}
 use native.Mathlib.Omega.{arith}
 use borrow.Author.Needs.{needs}
 use Rattle.watcher.specs.Answers.{builtAnswer}

@@ -1,5 +1,5 @@
 -- Match's answer is a refusal, whose line is the text, or done, and then the three parts are.
-use mathlib.Core.Path.{_≡_, refl, sym, ap, _∙_}
+use mathlib.Core.Path.{ap}
 use native.Mathlib.Omega.{arith}
 use borrow.Author.Needs.{needs}
 use Rattle.watcher.specs.Answers.{matchedAnswer}

@@ -1,5 +1,5 @@
 -- Read back's answer is a refusal, whose line is the text, or done, and match goes on with the writing.
-use mathlib.Core.Path.{_≡_, refl, sym, ap, _∙_}
+use mathlib.Core.Path.{ap}
 use native.Mathlib.Omega.{arith}
 use borrow.Author.Needs.{needs}
 use Rattle.writing.specs.Says.{writtenAnswer}

@@ -5,7 +5,7 @@ use mathlib.Core.List.{List, [], _∷_}
 use mathlib.Core.Option.{none, some}
 use Prim.Native.Nat.{ℕ, suc, _+_, _≤_, _<_}
 use native.Mathlib.Omega.{arith}
-use lib.ListN.{drop, drop-of-length-le, length}
+use lib.ListN.{drop-of-length-le, length}
 use lib.Seq.{drop-cons}
 use denote.Enum.Declared.{tagOf}
 use types.Run.{miss, OneOf}

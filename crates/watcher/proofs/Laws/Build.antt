@@ -1,6 +1,6 @@
 -- BUILD'S TABLE IS READING'S ROWS AND THEN STORING'S: a rule that is refused is refused so by both, and a tree that was read is stored by its tokens.
-use mathlib.Core.Path.{_≡_, refl, sym, ap, ap₂, _∙_}
-use mathlib.Core.List.{List, [], _++_}
+use mathlib.Core.Path.{_≡_, refl, ap₂, _∙_}
+use mathlib.Core.List.{List, []}
 use Prim.Native.Nat.{ℕ, _+_, _-_, _*_, _≤_}
 use native.Mathlib.Omega.{arith}
 use lib.ListN.{drop, length, length-replicate, take}

@@ -1,8 +1,6 @@
 -- Each outcome of the reading is a row of the table, or a tree whose tokens go on to be stored.
-use mathlib.Core.Path.{_≡_, subst}
-use mathlib.Core.List.{List}
+use mathlib.Core.Path.{subst}
 use borrow.Author.Needs.{needs}
-use Rattle.rule.specs.declared.Outcome.{Outcome}
 use Rattle.watcher.proofs.Laws.Build.{Answered, answered, some-states, tree-built}
 use Rattle.watcher.proofs.build.Statement.{statement}
 use Rattle.watcher.proofs.build.Tie as tie

@@ -2,12 +2,12 @@
 use mathlib.Core.Path.{_≡_, refl, sym, ap, _∙_, subst}
 use mathlib.Core.Logic.{_⊎_, inl, inr}
 use mathlib.Core.List.{List, map}
-use Prim.Native.Nat.{ℕ, _+_, _*_, _≤_, _<_}
+use Prim.Native.Nat.{ℕ, _*_, _≤_, _<_}
 use native.Mathlib.Omega.{arith}
 use lib.ListN.{length, length-map}
-use Rattle.model.specs.Answers.{done, ImageOf, no-room, NoImage, ReadBackSays, written}
-use Rattle.model.specs.Edges.{depth, states}
-use Rattle.model.specs.Image.{image, width}
+use Rattle.model.specs.Answers.{done, ImageOf, no-room, NoImage, written}
+use Rattle.model.specs.Edges.{states}
+use Rattle.model.specs.Image.{width}
 use Rattle.model.specs.Models.Apart.{widthWord}
 use Rattle.model.specs.Tree.{Tree}
 use Rattle.model.specs.Writing.{writing}

@@ -1,6 +1,5 @@
 -- The check finds a tree or none; the tape's tokens, written out, are that tree's writing.
-use mathlib.Core.Path.{_≡_, refl, sym, ap, _∙_, subst}
-use lib.ListN.{length-map}
+use mathlib.Core.Path.{refl}
 use borrow.Author.Needs.{needs}
 use Rattle.model.specs.Answers.{not-an-image}
 use Rattle.writing.proofs.Laws.Answer.{asked, found, not-found, says-found}

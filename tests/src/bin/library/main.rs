@@ -4,6 +4,7 @@
 mod build;
 mod checks;
 mod damage;
+mod damaged;
 mod masks;
 mod match_ends;
 mod outside;
@@ -24,6 +25,6 @@ fn main() {
     build::all(&mut checks);
     read_back::all(&mut checks, Path::new(folder));
     match_ends::all(&mut checks, Path::new(folder));
-    damage::all(&mut checks);
+    damaged::all(&mut checks);
     exit(i32::from(!checks.tell()));
 }

@@ -2,7 +2,7 @@
 use mathlib.Core.Path.{refl, sym, ap}
 use mathlib.Core.Bool.{or-false}
 use lib.Dec.{eqb}
-use lib.ListN.{drop, getD, drop-of-length-le}
+use lib.ListN.{getD, drop-of-length-le}
 use borrow.Author.Needs.{needs}
 use Rattle.model.specs.Models.Reader.{over}
 use Rattle.model.proofs.Laws.Bool.{unequal}

@@ -1,5 +1,5 @@
 -- What store answers, in build's words.
-use mathlib.Core.Path.{_≡_, sym, ap}
+use mathlib.Core.Path.{sym, ap}
 use borrow.Author.Needs.{needs}
 use Rattle.watcher.specs.Answers.{builtOf}
 use Rattle.watcher.proofs.building.store_tree.Statement.{statement}

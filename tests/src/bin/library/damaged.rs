@@ -1,0 +1,169 @@
+//! Images damaged in every way, images of trees that no rule has, and random words.
+
+use crate::build::{longest, unions};
+use crate::checks::Checks;
+use crate::damage::{Damage, Tally};
+use crate::masks::{sections, Masks};
+use outside_checks::driver::Answer;
+use outside_checks::generate::{nested, sized, small, Random};
+use outside_checks::independent::{depth, ends, image, parse, states, writing, Class, Item, Repeat, Sequence};
+use outside_checks::texts::text;
+
+pub fn all(checks: &mut Checks) {
+    checks.part("damage: every bit of two images", every_bit);
+    checks.part("damage: images of rules from seeds", seeds);
+    checks.part("damage: images of trees that no rule has or past the limits", ill_formed);
+    checks.part("damage: random words", random_words);
+}
+
+fn tree_of(rule: &[u8]) -> Sequence {
+    parse(rule).expect("a rule")
+}
+
+// ---- damage that gives the image of another tree
+
+/// Calls `with` for the letter that ends in a state, if there is one. `at` is the state in which the sequence starts, and then the one in which it ends.
+fn letter_to(sequence: &mut [Item], at: &mut usize, state: usize, with: &mut dyn FnMut(&mut Class, Repeat)) {
+    for item in sequence {
+        if let Item::Union(alternatives) = item {
+            for alternative in alternatives {
+                *at += 1;
+                letter_to(alternative, at, state, with);
+            }
+        }
+        *at += 1;
+        if let Item::Letter(class, repeat) = item {
+            if *at == state {
+                with(class, *repeat);
+            }
+        }
+    }
+}
+
+/// A byte put into a letter's class or taken out of it, where others are left: in the letters, and in the repeats if the letter loops. Whether there
+/// was such a letter.
+fn other_class(checks: &mut Checks, r: &mut Random, name: &str, tree: &Sequence) -> bool {
+    let (state, mut byte) = (r.between(1, states(tree) - 1), r.below(256));
+    let (mut other, mut found) = (tree.clone(), None);
+    letter_to(&mut other, &mut 0, state, &mut |class, repeat| {
+        let bytes: Vec<usize> = (0..256).filter(|b| class.0[*b]).collect();
+        if bytes.len() > 1 && r.below(2) == 0 {
+            byte = bytes[r.below(bytes.len())];
+        }
+        class.0[byte] = !class.0[byte];
+        found = class.0.contains(&true).then_some(matches!(repeat, Repeat::Star | Repeat::Plus));
+    });
+    let Some(loops) = found else { return false };
+    let mut masks = Masks::of(&image(tree)).flipped(0, byte, state);
+    if loops {
+        masks = masks.flipped(1, byte, state);
+    }
+    let (what, words, plain) = (format!("{name}, byte {byte} for state {state}"), masks.laid(), writing(&other));
+    checks.read_back(&what, &words, &Answer::of(0, &plain, plain.len() + 5));
+    let text = text(r, &other, 40);
+    checks.match_ends(&what, &words, &text, &Answer::of(0, &ends(&other, &text), 9));
+    true
+}
+
+// ---- all images
+
+fn every_bit(checks: &mut Checks) {
+    let mut tally = Tally::default();
+    for rule in ["a", "(a|b*)"] {
+        let mut damage = Damage::of(checks, &mut tally, rule.to_string(), &tree_of(rule.as_bytes()));
+        for place in 0..damage.image.len() {
+            (0..64).for_each(|bit| damage.flipped(place, bit));
+        }
+    }
+    println!("library: one bit flipped: {} refused, {} read back as another tree", tally.refused, tally.other);
+}
+
+fn seeds(checks: &mut Checks) {
+    let mut tally = Tally::default();
+    let [mut classes, mut over_64, mut over_448, mut eight_deep] = [0; 4];
+    for seed in 0..140 {
+        let mut r = Random::new(seed);
+        let (wanted, deep) = match seed {
+            0..110 => (0, r.between(6, 8)),
+            110..128 => (r.between(60, 200), r.below(9)),
+            _ => (r.between(449, 512), r.below(9)),
+        };
+        let rule = match seed {
+            0..80 => small(&mut r),
+            80..110 => nested(&mut r, deep),
+            _ => sized(&mut r, wanted, deep),
+        };
+        let (name, tree) = (format!("seed {seed}, rule {}", rule.escape_ascii()), tree_of(&rule));
+        if states(&tree) > 512 || depth(&tree) > 8 {
+            continue;
+        }
+        over_64 += usize::from(states(&tree) > 64);
+        over_448 += usize::from(states(&tree) > 448);
+        eight_deep += usize::from(depth(&tree) == 8);
+        Damage::of(checks, &mut tally, name.clone(), &tree).every_kind(&mut r);
+        for _ in 0..8 {
+            classes += usize::from(other_class(checks, &mut r, &name, &tree));
+        }
+    }
+    let Tally { refused, other } = tally;
+    println!("library: damaged images: {refused} refused, {other} read back as another tree, {classes} more with another class");
+    println!("library: of rules with more than 64 states {over_64}, more than 448 {over_448}, eight deep {eight_deep}");
+    let fewest = [refused, other, classes, over_64, over_448, eight_deep].into_iter().min();
+    checks.same("there are 10 of each kind", fewest >= Some(10), true);
+}
+
+/// Trees that no rule has, or with too many states or depths, laid out as if they were rules'.
+fn ill_formed(checks: &mut Checks) {
+    let a = || vec![Item::Letter(Class(std::array::from_fn(|b| b == 97)), Repeat::Once)];
+    let none = || vec![Item::Letter(Class([false; 256]), Repeat::Once)];
+    let union = |alternatives: &[Sequence]| vec![Item::Union(alternatives.to_vec())];
+    let trees = [
+        ("no item", vec![]),
+        ("a class of no byte", none()),
+        ("a class of no byte after a letter", [a(), none()].concat()),
+        ("a class of no byte in a union", union(&[none(), a()])),
+        ("a union of one alternative", union(&[a()])),
+        ("a union of one alternative between letters", [a(), union(&[a()]), a()].concat()),
+        ("a union of one union", union(&[tree_of(b"a|b")])),
+        ("an empty first alternative", union(&[vec![], a()])),
+        ("an empty last alternative", union(&[a(), vec![]])),
+        ("an empty alternative between two", union(&[a(), vec![], a()])),
+        ("an empty last alternative before a union", [union(&[a(), vec![]]), tree_of(b"(a|b)")].concat()),
+        ("513 states", tree_of(b"a{512}")),
+        ("576 states", tree_of(b"a{575}")),
+        ("513 states, eight deep", [tree_of(&longest()), a()].concat()),
+        ("depth 9", tree_of(&unions(9))),
+        ("depth 9 in 512 states", [tree_of(&unions(9)), tree_of(b"a{474}")].concat()),
+        ("depth 12", tree_of(&unions(12))),
+    ];
+    for (what, tree) in trees {
+        checks.read_back(what, &image(&tree), &Answer::of(6, &[], 40));
+        checks.match_ends(what, &image(&tree), b"aab", &Answer::of(6, &[], 4));
+    }
+}
+
+/// Words that no rule gave, half of them with a right header and length.
+fn random_words(checks: &mut Checks) {
+    for seed in 0..2000 {
+        let mut r = Random::new(seed);
+        let (m, d) = (r.between(2, if seed % 20 == 0 { 512 } else { 70 }), r.below(if seed % 3 == 0 { 9 } else { 2 }));
+        let mut words = Masks::empty(m, d).laid();
+        let counts: Vec<usize> = sections(&words).iter().map(|s| s.start - 1).chain([1, 2, 3]).collect();
+        let (whole, kind) = (r.below(2) == 0, r.below(4));
+        for place in 0..words.len() {
+            if whole || !counts.contains(&place) {
+                words[place] = match kind {
+                    0 => r.word(),
+                    1 => r.below(m) as u64,
+                    2 => u64::from(r.below(600) == 0) << r.below(64),
+                    _ => 0,
+                };
+            }
+        }
+        if r.below(4) == 0 {
+            words.truncate(r.below(20));
+        }
+        checks.read_back_beside(&format!("random words, seed {seed}"), &words, 64);
+        checks.match_beside(&format!("random words, seed {seed}"), &words, b"aab", 4);
+    }
+}

@@ -43,18 +43,20 @@ fn rules() -> Vec<(&'static str, String)> {
     ]
 }
 
-/// Images by their rules: of 524 words, and of 4,705.
+/// Images by their rules: of 524 words, and of 4,705. `524-stars` and `4705-inner` are those whose check was found to take the proved library longest.
 fn images() -> Vec<(&'static str, String)> {
     let deep = |letter: &str| nested(8, letter) + &format!("{letter}{{478}}");
     vec![
         ("524-a", "a".to_string()),
         ("524-letters", "a{63}".to_string()),
         ("524-runs", runs() + "{63}"),
+        ("524-stars", "a*".repeat(63)),
         ("4705-letters", deep("a")),
         ("4705-dots", deep(".")),
         ("4705-runs", deep(&runs())),
         ("4705-stars", nested(8, "a") + &"a*".repeat(478)),
         ("4705-unions", nested(8, "a").repeat(15) + "a{16}"),
+        ("4705-inner", (0..7).fold("(a*|a*)".repeat(96) + "a*a*a*", |inner, _| format!("(a*|{inner})"))),
     ]
 }
 

@@ -2,6 +2,7 @@
 #ifndef STRING_H
 #define STRING_H
 #include <stddef.h>
+void *memset(void *to, int byte, size_t length);
 void *memcpy(void *to, const void *from, size_t length);
 int memcmp(const void *one, const void *other, size_t length);
 size_t strlen(const char *text);

@@ -43,7 +43,7 @@ fn rules() -> Vec<(&'static str, String)> {
     ]
 }
 
-/// Images by their rules: of 524 words, and of 4,705. `524-stars` and `4705-inner` are those whose check was found to take the proved library longest.
+/// Images by their rules: of 524 words, and of 4,705. Of `524-stars` and `4705-inner` the check was found to take the proved library longest.
 fn images() -> Vec<(&'static str, String)> {
     let deep = |letter: &str| nested(8, letter) + &format!("{letter}{{478}}");
     vec![

@@ -13,10 +13,12 @@ pub mod Within
 -- The loops over a tape, as they go.
 pub mod Along
 pub mod Reaching
+pub mod InWords
 pub mod Painting
 -- Two tables made one.
 pub mod Filling
 pub mod Joins
+pub mod Joining
 -- The bits of a table after a stroke, and those that lay out marks.
 pub mod TableBits
 pub mod Marks

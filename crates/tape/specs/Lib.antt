@@ -3,6 +3,7 @@ pub mod Tokens
 pub mod Scans
 pub mod Strokes
 pub mod Tables
+pub mod Masks
 pub mod Joins
 pub mod Tapes
 pub mod Says

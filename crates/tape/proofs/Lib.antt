@@ -15,6 +15,7 @@ pub mod Along
 pub mod Reaching
 pub mod InWords
 pub mod Painting
+pub mod Scanning
 -- Two tables made one.
 pub mod Filling
 pub mod Joins

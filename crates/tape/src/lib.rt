@@ -8,7 +8,6 @@ mod scan;
 mod stroke;
 mod token;
 
-use crate::stroke::mark_token;
 use crate::masks::blank_all;
 use crate::masks::join_propagate;
 use crate::scan::begin_scan;
@@ -17,6 +16,7 @@ use crate::scan::innermost;
 use crate::scan::is_ended;
 use crate::scan::no_frame;
 use crate::scan::step_over;
+use crate::stroke::mark_token;
 use crate::token::Token;
 use crate::token::read_kind;
 ghost use mathlib.Core.Path.{_≡_};

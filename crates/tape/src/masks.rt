@@ -18,12 +18,7 @@ fn blank(masks: &mut [u64])
     }
 }
 
-pub fn blank_all(
-    places: &mut [u64],
-    scatter: &mut [u64],
-    gather: &mut [u64],
-    propagate: &mut [u64],
-)
+pub fn blank_all(places: &mut [u64], scatter: &mut [u64], gather: &mut [u64], propagate: &mut [u64])
     requires { ⌜ Sized (now places) (now scatter) (now gather) (now propagate) ⌝ }
     ensures { λ r. ⌜ Blank (now (places .exit)) (now (scatter .exit)) (now (gather .exit)) (now (propagate .exit)) ⌝ }
 {

@@ -2,13 +2,14 @@
 use crate::letters::letter_row;
 use crate::letters::repeat_row;
 use tape::Tape;
+use tape::row_of;
 ghost use mathlib.Core.Path.{_≡_};
 ghost use mathlib.Core.List.{[], _∷_, _++_};
-ghost use Prim.Native.Nat.{_+_, _*_, _≤_, _<_};
+ghost use Prim.Native.Nat.{_+_, _*_, _≤_};
 ghost use lib.ListN.{length as lengthOf, take};
 ghost use lib.Seq.{sets};
 ghost use Rattle.model.specs.Image.{section};
-ghost use Rattle.tape.specs.Masks.{rowIn, tableIn};
+ghost use Rattle.tape.specs.Masks.{tableIn};
 ghost use Rattle.tape.specs.Says.{Laid};
 ghost use Rattle.image.specs.Work.{imageWords, lettersPart, repeatsPart, tablesPart, threeRows};
 
@@ -95,20 +96,6 @@ fn put_repeats(
         b += 1;
     }
     at + 1 + 256 * width
-}
-
-// One of the masks that lay out gives.
-fn row_of(masks: &[u64], row: usize) -> [u64; 8]
-    requires { ⌜ (row < 27) × (8 * row + 8 ≤ lengthOf (now masks)) ⌝ }
-    ensures { λ r. ⌜ r ≡ rowIn (now (masks .entry)) row ⌝ }
-{
-    let mut words = [0u64; 8];
-    let mut j: usize = 0;
-    while j < 8 {
-        words[j] = masks[8 * row + j];
-        j += 1;
-    }
-    words
 }
 
 // Three masks for each of the first depths; and the place after them.

@@ -2,7 +2,7 @@
 -- for each of nine depths: block, source, target.
 use mathlib.Core.Path.{_≡_}
 use mathlib.Core.List.{List, [], _∷_}
-use Prim.Native.Nat.{ℕ, zero, suc, _+_, _-_, _*_, _/_, _%_, _^_}
+use Prim.Native.Nat.{ℕ, zero, suc, _+_, _-_, _*_, _/_, _%_, _^_, _≤_, _<_}
 use lib.Bits.{bitOr}
 use lib.ListN.{drop, getD, length, replicate, set, take}
 use Rattle.model.specs.Models.LayOut.{entering, gather-block, gather-source, gather-target, leaving, letter-place, loop-place, scatter-block, scatter-source, scatter-target, Which}
@@ -89,3 +89,8 @@ pub record Joined (r r′ : List ℕ) : Type 0 where
   pub block : tableIn r′ 0 ≡ joinTables Either (tableIn r 1) (tableIn r 2)
   pub source : tableIn r′ 1 ≡ joinTables Only (tableIn r 1) (tableIn r 2)
   pub target : tableIn r′ 2 ≡ joinTables Only (tableIn r 2) (tableIn r 1)
+
+-- a mask that is read
+pub record RowSays (ms : List ℕ) (r : ℕ) (row : List ℕ) : Type 0 where
+  pub inside : 8 * r + 8 ≤ length ms → row ≡ rowIn ms r
+  pub past : length ms < 8 * r + 8 → row ≡ replicate 8 0

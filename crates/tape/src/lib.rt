@@ -21,7 +21,7 @@ use crate::token::Token;
 use crate::token::read_kind;
 ghost use mathlib.Core.Path.{_≡_};
 ghost use Prim.Native.Nat.{_<_, max};
-ghost use Rattle.tape.specs.Masks.{Blank, Sized};
+ghost use Rattle.tape.specs.Masks.{Blank, RowSays, Sized};
 ghost use Rattle.tape.specs.Says.{Laid, MasksSay, ShapeSays};
 ghost use Rattle.tape.specs.Tapes.{deeperBy, Kinds, ScanLays, shapeOf};
 ghost use Rattle.tape.specs.Tokens.{tokenOf};
@@ -140,4 +140,20 @@ pub fn lay_out(
     let shape = lay_kinds(tape, places, scatter, gather, propagate);
     join_propagate(propagate);
     shape
+}
+
+// One of the masks that lay out gives; past their end a mask without a state.
+pub fn row_of(masks: &[u64], row: usize) -> [u64; 8]
+    ensures { λ r. ⌜ RowSays (now (masks .entry)) row r ⌝ }
+{
+    let mut words = [0u64; 8];
+    if row >= masks.len() / 8 {
+        return words;
+    }
+    let mut j: usize = 0;
+    while j < 8 {
+        words[j] = masks[8 * row + j];
+        j += 1;
+    }
+    words
 }

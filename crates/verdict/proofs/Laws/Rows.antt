@@ -18,8 +18,7 @@ use Rattle.model.proofs.Words.Bits.{bit-and, bit-not, bit-or}
 use Rattle.mask.proofs.Laws.Bits.{none-bit, none-fit, row-bit}
 use Rattle.model.proofs.Words.Operations.{each-length}
 use Rattle.mask.proofs.Laws.Each.{each-word}
-use Rattle.tape.specs.Joins.{joinWord}
-use Rattle.tape.specs.declared.join.Join.the-variants.{Only}
+use Rattle.tape.specs.Joins.{joinWord, Only}
 use Rattle.verdict.specs.Work.{enteredWords, orFirst, orRows, wordsAt}
 
 -- ---- a mask as it lies in words

@@ -80,7 +80,7 @@ returns c =
     let shape = c .before .before .before .before .before .before .before .before .before .before .before .before .before .before .before .before .before .before .before .before .before .before .before .before .before .before .before in
     let s = c .before .before .before .before .before .before .before .before .before .before .before .before .before .before .before .before .before .before .before .before .before .before .before .before .before .before .before .before .before .before .before .before in
     let a = s .args in
-    whole (a .width) (a .depth) (a .t2) (a .tape) (s .pre .0 .0) (s .pre .0 .1) (s .pre .1) (a .words .now) (c .before .before .before .before .before .before .before .before .before .before .before .before .before .before .before .before .before .before .before .before .before .before .before .before .before .before .before .before .before .row-of .ensures)
+    whole (a .width) (a .depth) (a .t2) (a .tape) (s .pre .0 .0) (s .pre .0 .1) (s .pre .1) (a .words .now) (c .before .before .before .before .before .before .before .before .before .before .before .before .before .before .before .before .before .before .before .before .before .before .before .before .before .before .before .before .before .row-of .ensures .inside (omega (arith, c .before .before .before .before .before .before .before .before .before .before .before .before .before .before .before .before .before .before .before .before .before .before .before .before .before .before .before .before .before .before .row-of-arg .given .0)))
     (rw add-one at (shape .put-shape .ensures)) (letters .put-letters .ensures .1) (letters .put-letters .ensures .0)
     (repeats .put-repeats .ensures .1) (repeats .put-repeats .ensures .0) (scatter .put-tables .ensures .1) (scatter .put-tables .ensures .0)
     (gather .put-tables2 .ensures .1) (gather .put-tables2 .ensures .0) (rw add-one at (propagate .put-tables3 .ensures .1))

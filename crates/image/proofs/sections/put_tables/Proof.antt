@@ -101,7 +101,7 @@ loop-again c =
     let h = c .before .before .before .before .before .before .before .loop-test .taken in
     parts-more (l .inv) h
     (c .before .before .put-three .ensures
-    ∙ ap (λ (rows : List ℕ). sets (l .words) (s .args .at + 1 + 3 * s .args .width * l .k) rows) (three-read (s .args .width) (s .args .masks .now) (l .k) (omega (arith, s .pre .1)) (c .before .before .before .before .before .before .row-of .ensures) (c .before .before .before .before .before .row-of2 .ensures) (c .before .before .before .before .row-of3 .ensures)))
+    ∙ ap (λ (rows : List ℕ). sets (l .words) (s .args .at + 1 + 3 * s .args .width * l .k) rows) (three-read (s .args .width) (s .args .masks .now) (l .k) (omega (arith, s .pre .1)) (c .before .before .before .before .before .before .row-of .ensures .inside (omega (arith, s .pre .1, s .pre .3))) (c .before .before .before .before .before .row-of2 .ensures .inside (omega (arith, s .pre .1, s .pre .3))) (c .before .before .before .before .row-of3 .ensures .inside (omega (arith, s .pre .1, s .pre .3)))))
 
 add-result : tie.Need-add-result Inv-loop μ-loop
 add-result c = search needs

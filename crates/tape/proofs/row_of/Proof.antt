@@ -1,13 +1,13 @@
--- `sections::row_of`: the words before the place reached are those of the mask.
-use mathlib.Core.Path.{refl, sym, _∙_}
+-- `row_of`: the words before the place reached are those of the mask.
+use mathlib.Core.Path.{refl, sym}
 use Prim.Native.Nat.{_-_}
 use native.Mathlib.Omega.{arith}
 use Rattle.tape.proofs.Filling.{Filled, filled-begin, filled-end, filled-step}
 use Rattle.tape.proofs.InWords.{row-long, row-word}
 use Rattle.tape.specs.Masks.{rowIn}
 use borrow.Author.Needs.{needs}
-use Rattle.image.proofs.sections.row_of.Statement.{statement}
-use Rattle.image.proofs.sections.row_of.Tie as tie
+use Rattle.tape.proofs.row_of.Statement.{statement}
+use Rattle.tape.proofs.row_of.Tie as tie
 
 abbrev Inv-loop : tie.InvT-loop
 Inv-loop masks row words₀ j₀ words j = Filled 0 (rowIn masks row) 8 j words
@@ -15,20 +15,23 @@ Inv-loop masks row words₀ j₀ words j = Filled 0 (rowIn masks row) 8 j words
 abbrev μ-loop : tie.MeasureT-loop
 μ-loop masks row words₀ j₀ words j = 8 - j
 
+returns : tie.Need-returns Inv-loop μ-loop
+returns c = record { inside = λ h. absurd (omega (arith, c .if1 .taken)); past = λ h. refl }
+
 loop-holds : tie.Need-loop-holds Inv-loop μ-loop
-loop-holds c = filled-begin 0 _ 8 _ refl (row-long (c .args .masks .now) (c .args .row) (c .pre .1))
+loop-holds c = let a = c .before .args in filled-begin 0 _ 8 _ refl (row-long (a .masks .now) (a .row) (omega (arith, c .if1 .left)))
 
 mul-words : tie.Need-mul-words Inv-loop μ-loop
-mul-words c = search needs
+mul-words c = omega (arith, c .before .before .if1 .left, c .before .before .before .good .0)
 
 add-words : tie.Need-add-words Inv-loop μ-loop
-add-words c = search needs
+add-words c = omega (arith, c .before .before .if1 .left, c .before .before .before .good .0)
 
 mul-words-2 : tie.Need-mul-words-2 Inv-loop μ-loop
-mul-words-2 c = search needs
+mul-words-2 c = omega (arith, c .before .before .if1 .left, c .before .before .before .good .0)
 
 shared-slice-read-words : tie.Need-shared-slice-read-words Inv-loop μ-loop
-shared-slice-read-words c = search needs
+shared-slice-read-words c = omega (arith, c .before .before .before .if1 .left)
 
 mul-words-3 : tie.Need-mul-words-3 Inv-loop μ-loop
 mul-words-3 c = search needs
@@ -45,12 +48,14 @@ loop-less c = search needs
 loop-again : tie.Need-loop-again Inv-loop μ-loop
 loop-again c =
     let l = c .before .before .loop in
-    let a = c .before .before .before .args in
+    let a = c .before .before .before .before .args in
     let h = c .before .loop-test .taken in
     filled-step 0 _ 8 (l .j) (l .words) _ (l .inv) h (sym (row-word (a .masks .now) (a .row) (l .j) h))
 
-returns : tie.Need-returns Inv-loop μ-loop
-returns c = let l = c .before .loop in filled-end 0 _ 8 (l .j) (l .words) (l .inv) (c .loop-test .left)
+returns-2 : tie.Need-returns-2 Inv-loop μ-loop
+returns-2 c =
+    let l = c .before .loop in
+    record { inside = λ h. filled-end 0 _ 8 (l .j) (l .words) (l .inv) (c .loop-test .left); past = λ h. absurd (omega (arith, c .before .before .if1 .left)) }
 
 pub row-of-spec : {M : Type 1} → statement M
 row-of-spec =
@@ -58,6 +63,7 @@ row-of-spec =
     (tie.spec
     Inv-loop
     μ-loop
+    returns
     loop-holds
     mul-words
     add-words
@@ -68,4 +74,4 @@ row-of-spec =
     add-j
     loop-less
     loop-again
-    returns)
+    returns-2)

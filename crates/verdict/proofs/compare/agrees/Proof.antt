@@ -1,0 +1,207 @@
+-- `compare::agrees`: the tests of `sameAll` are made one after another; the first that fails decides, and where none does the last one.
+use mathlib.Core.Path.{_≡_, refl, sym, ap, _∙_, subst}
+use mathlib.Core.Bool.{Bool, true, false, not, _&&_}
+use mathlib.Core.List.{List, []}
+use Prim.Native.Nat.{ℕ, _+_}
+use native.Mathlib.Numerals.{add-one}
+use native.Mathlib.Omega.{arith}
+use lib.Dec.{T}
+use lib.ListN.{getD}
+use Rattle.model.specs.Models.Apart.{gatherAt, propagateAt, scatterAt}
+use Rattle.model.specs.Models.LayOut.{letter-place, loop-place}
+use Rattle.model.specs.Models.Verdict.{sameWords}
+use Rattle.tape.specs.Masks.{tableIn}
+use Rattle.tape.specs.Tapes.{tableOf}
+use Rattle.verdict.specs.Work.{sameGather, samePropagate, sameRepeats, sameScatter, sameTables}
+use borrow.Author.Needs.{needs}
+use Rattle.verdict.proofs.compare.agrees.Statement.{statement}
+use Rattle.verdict.proofs.compare.agrees.Tie as tie
+
+-- a test that fails ends the row of tests; one that passes leaves those after it
+fails : (test rest : Bool) {differs : Bool} → differs ≡ not test → differs ≡ true → false ≡ (test && rest)
+fails true rest e d = absurd (subst T (sym d ∙ e) tt)
+fails false rest e d = refl
+
+passes : (test rest : Bool) {differs answer : Bool} → differs ≡ not test → differs ≡ false → answer ≡ rest → answer ≡ (test && rest)
+passes true rest e d r = r
+passes false rest e d r = absurd (subst T (sym e ∙ d) tt)
+
+-- the last test decides
+decides : (test : Bool) {differs : Bool} → differs ≡ not test → not differs ≡ test
+decides true e = ap not e
+decides false e = ap not e
+
+-- the tests, in order
+abbrev lettersAre : tie.Start → Bool
+lettersAre c = sameWords (c .args .letters) (getD (tableOf (c .args .tape) letter-place) 0 [])
+
+abbrev repeatsAre : tie.Start → Bool
+repeatsAre c = sameRepeats (c .args .words .now) (c .args .width) (getD (tableOf (c .args .tape) loop-place) 0 [])
+
+abbrev scatterIs : tie.Start → Bool
+scatterIs c = sameScatter (c .args .words .now) (scatterAt (c .args .width)) (c .args .width) (c .args .depth) (c .args .tape)
+
+abbrev gatherIs : tie.Start → Bool
+gatherIs c = sameGather (c .args .words .now) (gatherAt (c .args .width) (c .args .depth)) (c .args .width) (c .args .depth) (c .args .tape)
+
+abbrev propagateIs : tie.Start → Bool
+propagateIs c =
+    samePropagate (c .args .words .now) (propagateAt (c .args .width) (c .args .depth)) (c .args .width) (c .args .depth) (c .args .tape)
+
+-- all from one test on
+abbrev fromGather : tie.Start → Bool
+fromGather c = gatherIs c && propagateIs c
+
+abbrev fromScatter : tie.Start → Bool
+fromScatter c = scatterIs c && fromGather c
+
+abbrev fromRepeats : tie.Start → Bool
+fromRepeats c = repeatsAre c && fromScatter c
+
+abbrev all : tie.Start → Bool
+all c = lettersAre c && fromRepeats c
+
+-- the masks are those that are laid out for the tape
+scatter-same : (s : tie.Start)
+    → let a = s .args in
+    let ms = a .scatters .now in
+    sameTables (a .words .now) (scatterAt (a .width)) (a .width) (a .depth) (tableIn ms 0) (tableIn ms 1) (tableIn ms 2) ≡ scatterIs s
+scatter-same s =
+    let a = s .args in
+    let L = s .pre .1 in
+    λ i. sameTables (a .words .now) (scatterAt (a .width)) (a .width) (a .depth) (L .scatter-blocks i) (L .scatter-sources i) (L .scatter-targets i)
+
+gather-same : (s : tie.Start)
+    → let a = s .args in
+    let ms = a .gathers .now in
+    sameTables (a .words .now) (gatherAt (a .width) (a .depth)) (a .width) (a .depth) (tableIn ms 0) (tableIn ms 1) (tableIn ms 2) ≡ gatherIs s
+gather-same s =
+    let a = s .args in
+    let L = s .pre .1 in
+    λ i. sameTables (a .words .now) (gatherAt (a .width) (a .depth)) (a .width) (a .depth) (L .gather-blocks i) (L .gather-sources i) (L .gather-targets i)
+
+propagate-same : (s : tie.Start)
+    → let a = s .args in
+    let ms = a .propagates .now in
+    sameTables (a .words .now) (propagateAt (a .width) (a .depth)) (a .width) (a .depth + 1) (tableIn ms 0) (tableIn ms 1) (tableIn ms 2) ≡ propagateIs s
+propagate-same s =
+    let a = s .args in
+    let L = s .pre .1 in
+    λ i. sameTables (a .words .now) (propagateAt (a .width) (a .depth)) (a .width) (add-one (a .depth) i) (L .propagate-blocks i) (L .propagate-sources i) (L .propagate-targets i)
+
+mul-scatter : tie.Need-mul-scatter
+mul-scatter c = search needs
+
+add-scatter : tie.Need-add-scatter
+add-scatter c = search needs
+
+add-gather : tie.Need-add-gather
+add-gather c = search needs
+
+mul-gather : tie.Need-mul-gather
+mul-gather c = search needs
+
+mul-gather-2 : tie.Need-mul-gather-2
+mul-gather-2 c = search needs
+
+add-gather-2 : tie.Need-add-gather-2
+add-gather-2 c = search needs
+
+add-propagate : tie.Need-add-propagate
+add-propagate c = search needs
+
+mul-propagate : tie.Need-mul-propagate
+mul-propagate c = search needs
+
+mul-propagate-2 : tie.Need-mul-propagate-2
+mul-propagate-2 c = search needs
+
+add-propagate-2 : tie.Need-add-propagate-2
+add-propagate-2 c = search needs
+
+row-of-requires : tie.Need-row-of-requires
+row-of-requires c κs = search needs
+
+same-rows-requires : tie.Need-same-rows-requires
+same-rows-requires c κs = search needs
+
+returns : tie.Need-returns
+returns c =
+    let s = c .before .before .before .before .before in
+    fails (lettersAre s) (fromRepeats s) (ap not (c .before .same-rows .ensures ∙ ap (sameWords (s .args .letters)) (c .before .before .row-of .ensures .inside (omega (arith, c .before .before .before .row-of-arg .given .0)) ∙ s .pre .1 .letter-places))) (c .if1 .taken)
+
+row-of-requires-2 : tie.Need-row-of-requires-2
+row-of-requires-2 c κs = search needs
+
+repeats-differ-requires : tie.Need-repeats-differ-requires
+repeats-differ-requires c κs = search needs
+
+returns-2 : tie.Need-returns-2
+returns-2 c =
+    let s = c .before .before .before .before .before .before .before .before .before in
+    passes (lettersAre s) (fromRepeats s) (ap not (c .before .before .before .before .before .same-rows .ensures ∙ ap (sameWords (s .args .letters)) (c .before .before .before .before .before .before .row-of .ensures .inside (omega (arith, c .before .before .before .before .before .before .before .row-of-arg .given .0)) ∙ s .pre .1 .letter-places))) (c .before .before .before .before .if1 .left)
+    (fails (repeatsAre s) (fromScatter s) (c .before .repeats-differ .ensures ∙ ap (λ (row : List ℕ). not (sameRepeats (s .args .words .now) (s .args .width) row)) (c .before .before .row-of2 .ensures .inside (omega (arith, c .before .before .before .row-of-arg2 .given .0)) ∙ s .pre .1 .loop-places)) (c .if2 .taken))
+
+tables-differ-requires : tie.Need-tables-differ-requires
+tables-differ-requires c κs = search needs
+
+returns-3 : tie.Need-returns-3
+returns-3 c =
+    let s = c .before .before .before .before .before .before .before .before .before .before .before .before in
+    passes (lettersAre s) (fromRepeats s) (ap not (c .before .before .before .before .before .before .before .before .same-rows .ensures ∙ ap (sameWords (s .args .letters)) (c .before .before .before .before .before .before .before .before .before .row-of .ensures .inside (omega (arith, c .before .before .before .before .before .before .before .before .before .before .row-of-arg .given .0)) ∙ s .pre .1 .letter-places))) (c .before .before .before .before .before .before .before .if1 .left)
+    (passes (repeatsAre s) (fromScatter s) (c .before .before .before .before .repeats-differ .ensures ∙ ap (λ (row : List ℕ). not (sameRepeats (s .args .words .now) (s .args .width) row)) (c .before .before .before .before .before .row-of2 .ensures .inside (omega (arith, c .before .before .before .before .before .before .row-of-arg2 .given .0)) ∙ s .pre .1 .loop-places)) (c .before .before .before .if2 .left)
+    (fails (scatterIs s) (fromGather s) (c .before .tables-differ .ensures ∙ ap not (scatter-same s)) (c .if3 .taken)))
+
+tables-differ-requires-2 : tie.Need-tables-differ-requires-2
+tables-differ-requires-2 c κs = search needs
+
+returns-4 : tie.Need-returns-4
+returns-4 c =
+    let s = c .before .before .before .before .before .before .before .before .before .before .before .before .before .before .before in
+    passes (lettersAre s) (fromRepeats s) (ap not (c .before .before .before .before .before .before .before .before .before .before .before .same-rows .ensures ∙ ap (sameWords (s .args .letters)) (c .before .before .before .before .before .before .before .before .before .before .before .before .row-of .ensures .inside (omega (arith, c .before .before .before .before .before .before .before .before .before .before .before .before .before .row-of-arg .given .0)) ∙ s .pre .1 .letter-places))) (c .before .before .before .before .before .before .before .before .before .before .if1 .left)
+    (passes (repeatsAre s) (fromScatter s) (c .before .before .before .before .before .before .before .repeats-differ .ensures ∙ ap (λ (row : List ℕ). not (sameRepeats (s .args .words .now) (s .args .width) row)) (c .before .before .before .before .before .before .before .before .row-of2 .ensures .inside (omega (arith, c .before .before .before .before .before .before .before .before .before .row-of-arg2 .given .0)) ∙ s .pre .1 .loop-places)) (c .before .before .before .before .before .before .if2 .left)
+    (passes (scatterIs s) (fromGather s) (c .before .before .before .before .tables-differ .ensures ∙ ap not (scatter-same s)) (c .before .before .before .if3 .left)
+    (fails (gatherIs s) (propagateIs s) (c .before .tables-differ2 .ensures ∙ ap not (gather-same s)) (c .if4 .taken))))
+
+add-tables-differ : tie.Need-add-tables-differ
+add-tables-differ c = search needs
+
+tables-differ-requires-3 : tie.Need-tables-differ-requires-3
+tables-differ-requires-3 c κs = search needs
+
+returns-5 : tie.Need-returns-5
+returns-5 c =
+    let s = c .before .before .before .before .before .before .before .before .before .before .before .before .before .before .before .before .before in
+    passes (lettersAre s) (fromRepeats s) (ap not (c .before .before .before .before .before .before .before .before .before .before .before .before .before .same-rows .ensures ∙ ap (sameWords (s .args .letters)) (c .before .before .before .before .before .before .before .before .before .before .before .before .before .before .row-of .ensures .inside (omega (arith, c .before .before .before .before .before .before .before .before .before .before .before .before .before .before .before .row-of-arg .given .0)) ∙ s .pre .1 .letter-places))) (c .before .before .before .before .before .before .before .before .before .before .before .before .if1 .left)
+    (passes (repeatsAre s) (fromScatter s) (c .before .before .before .before .before .before .before .before .before .repeats-differ .ensures ∙ ap (λ (row : List ℕ). not (sameRepeats (s .args .words .now) (s .args .width) row)) (c .before .before .before .before .before .before .before .before .before .before .row-of2 .ensures .inside (omega (arith, c .before .before .before .before .before .before .before .before .before .before .before .row-of-arg2 .given .0)) ∙ s .pre .1 .loop-places)) (c .before .before .before .before .before .before .before .before .if2 .left)
+    (passes (scatterIs s) (fromGather s) (c .before .before .before .before .before .before .tables-differ .ensures ∙ ap not (scatter-same s)) (c .before .before .before .before .before .if3 .left)
+    (passes (gatherIs s) (propagateIs s) (c .before .before .before .tables-differ2 .ensures ∙ ap not (gather-same s)) (c .before .before .if4 .left)
+    (decides (propagateIs s) (c .tables-differ3 .ensures ∙ ap not (propagate-same s))))))
+
+pub agrees-spec : {M : Type 1} → statement M
+agrees-spec =
+    tie.close
+    (tie.spec
+    mul-scatter
+    add-scatter
+    add-gather
+    mul-gather
+    mul-gather-2
+    add-gather-2
+    add-propagate
+    mul-propagate
+    mul-propagate-2
+    add-propagate-2
+    row-of-requires
+    same-rows-requires
+    returns
+    row-of-requires-2
+    repeats-differ-requires
+    returns-2
+    tables-differ-requires
+    returns-3
+    tables-differ-requires-2
+    returns-4
+    add-tables-differ
+    tables-differ-requires-3
+    returns-5)

@@ -1,6 +1,6 @@
 -- MASKS IN A ROW OF WORDS: a state that is marked in one row is marked in the table that has this row, and no other table changes. So the strokes of a
 -- token, painted one after another into the words, are painted into the table of each kind.
-use mathlib.Core.Path.{_≡_, refl, sym, ap, ap₂, _∙_, subst}
+use mathlib.Core.Path.{_≡_, refl, sym, ap, _∙_, subst}
 use mathlib.Core.Bool.{Bool, true, false}
 use mathlib.Core.List.{List, [], _∷_}
 use Prim.Native.Nat.{ℕ, zero, suc, _+_, _-_, _*_, _/_, _%_, _^_, _≤_, _<_}
@@ -9,11 +9,11 @@ use native.Mathlib.Omega.{arith}
 use borrow.Author.Tests.{eqb-false, eqb-true}
 use lib.Bits.{bitOr}
 use lib.Dec.{eqb}
-use lib.ListN.{drop, getD, length, length-drop, length-replicate, length-set, replicate, set, take}
+use lib.ListN.{drop, getD, length, length-drop, length-replicate, length-set, replicate}
 use lib.Seq.{ext-getD, getD-drop, getD-set-other, getD-set-same, getD-take, length-take-le}
 use Rattle.model.specs.Models.LayOut.{entering, gather-block, gather-source, gather-target, leaving, letter-place, loop-place, scatter-block, scatter-source, scatter-target, Which}
 use Rattle.model.specs.Models.Words.{putBit}
-use Rattle.tape.specs.Masks.{Blank, heldIn, markRow, Painted, paintThree, paintTwo, placesIn, rowIn, rowsFrom, runRow, Sized, strokeIn, tableIn}
+use Rattle.tape.specs.Masks.{Blank, heldIn, markRow, Painted, paintThree, placesIn, rowIn, rowsFrom, runRow, Sized, strokeIn, tableIn}
 use Rattle.tape.specs.Strokes.{noStroke, Stroke}
 use Rattle.tape.specs.Tables.{blank, markRun, markState, paintStroke, Table}
 use Rattle.tape.proofs.Within.{none-within, Within}

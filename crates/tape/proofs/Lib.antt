@@ -10,13 +10,14 @@ pub mod Scans
 pub mod Sane
 pub mod Strokes
 pub mod Within
--- The loops over a tape, as they go.
+-- Masks in a row of words, and the tables that they are.
+pub mod InWords
+-- The loop over a tape, as it goes.
 pub mod Along
 pub mod Reaching
-pub mod InWords
 pub mod Painting
 pub mod Scanning
--- Two tables made one.
+-- A list filled from the front; two tables made one, and propagate's masks joined word by word.
 pub mod Filling
 pub mod Joins
 pub mod Joining

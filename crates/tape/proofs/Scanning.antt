@@ -14,7 +14,7 @@ use Rattle.model.specs.Models.Tokens as tokens
 use Rattle.model.specs.Tree.{canLoop}
 use Rattle.tape.specs.Masks.{Blank, heldIn, Painted, Sized}
 use Rattle.tape.specs.Scans.{Innermost, isEnded, noFrame, ReadyAt, scanOf, StepSays, withFrames}
-use Rattle.tape.specs.Strokes.{barStrokeIn, closeStrokeIn, noStroke, oneState, Stroke, strokeOf}
+use Rattle.tape.specs.Strokes.{barStrokeIn, closeStrokeIn, noStroke, oneState, strokeOf}
 use Rattle.tape.specs.Tables.{blank, paintAll}
 use Rattle.tape.specs.Tapes.{deeperBy, isTree, Kinds, ScanLays, shapeOf, tokensOf}
 use Rattle.tape.specs.Tokens.{readKind, tokenOf}

@@ -11,7 +11,7 @@ use crate::token::Token;
 use crate::token::can_loop;
 use crate::token::can_skip;
 ghost use mathlib.Core.Path.{_≡_};
-ghost use Prim.Native.Nat.{_≤_, _<_};
+ghost use Prim.Native.Nat.{_<_};
 ghost use lib.ListN.{length};
 ghost use Rattle.model.specs.Models.LayOut.{entering, gather-block, gather-source, gather-target, leaving, letter-place, loop-place, scatter-block, scatter-source, scatter-target};
 ghost use Rattle.tape.specs.Masks.{MarkSays, paintThree, paintTwo, Sized};

@@ -1,5 +1,5 @@
 -- `masks::blank`: the words before the place reached are 0.
-use mathlib.Core.Path.{refl, sym, _∙_}
+use mathlib.Core.Path.{refl, sym}
 use Prim.Native.Nat.{_-_}
 use native.Mathlib.Omega.{arith}
 use lib.ListN.{getD-replicate, length, length-replicate, replicate}

@@ -3,7 +3,6 @@ use mathlib.Core.Bool.{cond}
 use mathlib.Core.List.{List}
 use mathlib.Core.Path.{ap, _∙_}
 use Prim.Native.Nat.{ℕ}
-use native.Mathlib.Omega.{arith}
 use Rattle.tape.specs.Masks.{strokeIn}
 use Rattle.tape.specs.Strokes.{noStroke, oneState}
 use borrow.Author.Needs.{needs}

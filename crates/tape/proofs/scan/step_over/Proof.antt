@@ -1,6 +1,5 @@
 -- `scan::step_over`: a token that fits says how many unions are open, and each kind of token has its step.
 use mathlib.Core.Path.{sym, subst}
-use native.Mathlib.Omega.{arith}
 use Rattle.tape.proofs.Scans.{ready-bar, ready-close, ready-depth, ready-open}
 use Rattle.tape.specs.Scans.{StepSays, withFrames}
 use Rattle.tape.specs.Tokens.{tokenOf}

@@ -1,6 +1,6 @@
 -- `stroke::mark_token`: a token that fits says how many unions are open, and each kind of token has its strokes.
 use mathlib.Core.Path.{subst}
-use Prim.Native.Nat.{_<_, _≤_}
+use Prim.Native.Nat.{_<_}
 use native.Mathlib.Omega.{arith}
 use Rattle.tape.proofs.Scans.{ready-bar, ready-close, ready-depth, ready-top}
 use Rattle.tape.proofs.Strokes.{bar-painted, close-painted, letter-painted, open-painted}

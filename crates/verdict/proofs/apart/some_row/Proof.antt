@@ -1,6 +1,6 @@
 -- `apart::some_row`: word j of the row has the bits that word j of some mask has.
 use mathlib.Core.Path.{_≡_}
-use Prim.Native.Nat.{ℕ, _+_, _*_, _-_, _≤_}
+use Prim.Native.Nat.{_-_, _≤_}
 use native.Mathlib.Omega.{arith}
 use Rattle.model.proofs.Image.Address.{part-fits}
 use Rattle.verdict.proofs.Laws.Rows.{row-all, row-more, row-none, RowTo}

@@ -10,7 +10,7 @@ use crate::shape::image_length;
 use crate::shape::tape_of;
 use crate::shape::width_of;
 use tape::Shape;
-use tape::well_formed;
+use tape::lay_out;
 ghost use Rattle.image.specs.Says.{Kept, StoreSays};
 
 // What became of a tree's tokens: no image, since they are not those of a tree within 512 states and depth 8, or since it is longer than the
@@ -27,7 +27,11 @@ pub fn store(tokens: [u64; 2555], length: usize, words: &mut [u64]) -> Stored
     ensures past { λ r. ⌜ Kept (now (words .entry)) r (now (words .exit)) ⌝ }
 {
     let tape = tape_of(tokens, length);
-    let shape = well_formed(tape);
+    let mut places = [0u64; 16];
+    let mut scatter = [0u64; 216];
+    let mut gather = [0u64; 216];
+    let mut propagate = [0u64; 216];
+    let shape = lay_out(tape, &mut places, &mut scatter, &mut gather, &mut propagate);
     let Shape::Tree(depth) = shape else {
         return Stored::NoTree;
     };
@@ -36,6 +40,16 @@ pub fn store(tokens: [u64; 2555], length: usize, words: &mut [u64]) -> Stored
     if words.len() < size {
         return Stored::NoRoom;
     }
-    put_image(words, tokens, tape, width, depth);
+    put_image(
+        words,
+        tokens,
+        tape,
+        width,
+        depth,
+        &places,
+        &scatter,
+        &gather,
+        &propagate,
+    );
     Stored::Done(size)
 }

@@ -2,24 +2,15 @@
 use crate::letters::letter_row;
 use crate::letters::repeat_row;
 use tape::Tape;
-use tape::gather_block;
-use tape::gather_source;
-use tape::gather_target;
-use tape::loop_places;
-use tape::propagate_block;
-use tape::propagate_source;
-use tape::propagate_target;
-use tape::scatter_block;
-use tape::scatter_source;
-use tape::scatter_target;
+use tape::row_of;
 ghost use mathlib.Core.Path.{_≡_};
 ghost use mathlib.Core.List.{[], _∷_, _++_};
-ghost use Prim.Native.Nat.{_+_, _*_, _≤_, suc};
-ghost use lib.ListN.{getD, length as lengthOf, take};
+ghost use Prim.Native.Nat.{_+_, _*_, _≤_};
+ghost use lib.ListN.{length as lengthOf, take};
 ghost use lib.Seq.{sets};
 ghost use Rattle.model.specs.Image.{section};
-ghost use Rattle.model.specs.Models.LayOut.{gather-block, gather-source, gather-target, loop-place, scatter-block, scatter-source, scatter-target};
-ghost use Rattle.tape.specs.Tapes.{propagateBlockTable, propagateSourceTable, propagateTargetTable, tableOf};
+ghost use Rattle.tape.specs.Masks.{tableIn};
+ghost use Rattle.tape.specs.Says.{Laid};
 ghost use Rattle.image.specs.Work.{imageWords, lettersPart, repeatsPart, tablesPart, threeRows};
 
 // "A mask is .. in the image its first W words"
@@ -107,95 +98,46 @@ fn put_repeats(
     at + 1 + 256 * width
 }
 
-// Three masks for each of the first depths.
-fn put_tables(
-    words: &mut [u64],
-    at: usize,
-    width: usize,
-    depths: usize,
-    block: [[u64; 8]; 9],
-    source: [[u64; 8]; 9],
-    target: [[u64; 8]; 9],
-) -> usize
-    requires { ⌜ (width ≤ 8) × (depths ≤ 9) × (at + 1 + 3 * width * depths ≤ lengthOf (now words)) ⌝ }
+// Three masks for each of the first depths; and the place after them.
+fn put_tables(words: &mut [u64], at: usize, width: usize, depths: usize, masks: &[u64]) -> usize
+    requires { ⌜ (width ≤ 8) × (depths ≤ 9) × (at + 1 + 3 * width * depths ≤ lengthOf (now words)) × (lengthOf (now masks) ≡ 216) ⌝ }
     ensures next { λ r. ⌜ r ≡ at + 1 + 3 * width * depths ⌝ }
-    ensures written { λ r. ⌜ now (words .exit) ≡ sets (now (words .entry)) at (tablesPart width depths block source target) ⌝ }
+    ensures written { λ r. ⌜ now (words .exit) ≡ sets (now (words .entry)) at (tablesPart width depths (tableIn (now (masks .entry)) 0) (tableIn (now (masks .entry)) 1) (tableIn (now (masks .entry)) 2)) ⌝ }
 {
     words[at] = (3 * width * depths) as u64;
     let mut k: usize = 0;
     while k < depths {
-        put_three(
-            words,
-            at + 1 + 3 * width * k,
-            width,
-            block[k],
-            source[k],
-            target[k],
-        );
+        let block = row_of(masks, 3 * k);
+        let source = row_of(masks, 3 * k + 1);
+        let target = row_of(masks, 3 * k + 2);
+        put_three(words, at + 1 + 3 * width * k, width, block, source, target);
         k += 1;
     }
     at + 1 + 3 * width * depths
 }
 
-fn put_scatter(words: &mut [u64], at: usize, width: usize, depth: usize, tape: Tape) -> usize
-    requires { ⌜ (width ≤ 8) × (depth ≤ 8) × (at + 1 + 3 * width * depth ≤ lengthOf (now words)) ⌝ }
-    ensures next { λ r. ⌜ r ≡ at + 1 + 3 * width * depth ⌝ }
-    ensures written { λ r. ⌜ now (words .exit) ≡ sets (now (words .entry)) at (tablesPart width depth (tableOf tape scatter-block) (tableOf tape scatter-source) (tableOf tape scatter-target)) ⌝ }
-{
-    put_tables(
-        words,
-        at,
-        width,
-        depth,
-        scatter_block(tape),
-        scatter_source(tape),
-        scatter_target(tape),
-    )
-}
-
-fn put_gather(words: &mut [u64], at: usize, width: usize, depth: usize, tape: Tape) -> usize
-    requires { ⌜ (width ≤ 8) × (depth ≤ 8) × (at + 1 + 3 * width * depth ≤ lengthOf (now words)) ⌝ }
-    ensures next { λ r. ⌜ r ≡ at + 1 + 3 * width * depth ⌝ }
-    ensures written { λ r. ⌜ now (words .exit) ≡ sets (now (words .entry)) at (tablesPart width depth (tableOf tape gather-block) (tableOf tape gather-source) (tableOf tape gather-target)) ⌝ }
-{
-    put_tables(
-        words,
-        at,
-        width,
-        depth,
-        gather_block(tape),
-        gather_source(tape),
-        gather_target(tape),
-    )
-}
-
-fn put_propagate(words: &mut [u64], at: usize, width: usize, depth: usize, tape: Tape) -> usize
-    requires { ⌜ (width ≤ 8) × (depth ≤ 8) × (at + 1 + 3 * width * suc depth ≤ lengthOf (now words)) ⌝ }
-    ensures next { λ r. ⌜ r ≡ at + 1 + 3 * width * suc depth ⌝ }
-    ensures written { λ r. ⌜ now (words .exit) ≡ sets (now (words .entry)) at (tablesPart width (suc depth) (propagateBlockTable tape) (propagateSourceTable tape) (propagateTargetTable tape)) ⌝ }
-{
-    put_tables(
-        words,
-        at,
-        width,
-        depth + 1,
-        propagate_block(tape),
-        propagate_source(tape),
-        propagate_target(tape),
-    )
-}
-
-// The whole image.
-pub fn put_image(words: &mut [u64], tokens: [u64; 2555], tape: Tape, width: usize, depth: usize)
-    requires { ⌜ (width ≤ 8) × (depth ≤ 8) × (tape .length ≤ 511) × (9 + width * (515 + 9 * depth) ≤ lengthOf (now words)) ⌝ }
+// The whole image, from what lay out gives for the tape.
+pub fn put_image(
+    words: &mut [u64],
+    tokens: [u64; 2555],
+    tape: Tape,
+    width: usize,
+    depth: usize,
+    places: &[u64; 16],
+    scatters: &[u64; 216],
+    gathers: &[u64; 216],
+    propagates: &[u64; 216],
+)
+    requires limits { ⌜ (width ≤ 8) × (depth ≤ 8) × (tape .length ≤ 511) × (9 + width * (515 + 9 * depth) ≤ lengthOf (now words)) ⌝ }
+    requires laid { ⌜ Laid tape (now places) (now scatters) (now gathers) (now propagates) ⌝ }
     ensures { λ r. ⌜ now (words .exit) ≡ sets (now (words .entry)) 0 (imageWords width depth tokens tape) ⌝ }
 {
     let length = tape.length;
-    let loops = loop_places(tape);
+    let loops = row_of(places, 1);
     put_shape(words, length + 1, width, depth);
     let repeats = put_letters(words, 4, width, &tokens, length);
     let scatter = put_repeats(words, repeats, width, &tokens, length, loops);
-    let gather = put_scatter(words, scatter, width, depth, tape);
-    let propagate = put_gather(words, gather, width, depth, tape);
-    put_propagate(words, propagate, width, depth, tape);
+    let gather = put_tables(words, scatter, width, depth, scatters);
+    let propagate = put_tables(words, gather, width, depth, gathers);
+    put_tables(words, propagate, width, depth + 1, propagates);
 }

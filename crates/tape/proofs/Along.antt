@@ -13,10 +13,9 @@ use Rattle.model.specs.Models.LayOut.{begin, check, step, valid}
 use Rattle.model.specs.Models.LayOut as model
 use Rattle.model.specs.Models.Tokens as tokens
 use Rattle.model.proofs.Image.LetterPlaces.{position-step}
-use Rattle.tape.specs.Scans.{isEnded, Ready, Sane, scanOf}
+use Rattle.tape.specs.Scans.{isEnded, Known, Ready, Sane, scanOf}
 use Rattle.tape.specs.Tapes.{isTree, readKinds, tokensOf}
 use Rattle.tape.specs.Tokens.{readKind, tokenOf}
-use Rattle.tape.specs.declared.scan.Scan.{Scan}
 use Rattle.tape.specs.declared.Tape.{Tape}
 use Rattle.tape.specs.declared.token.Token.{Token}
 use Rattle.tape.proofs.Sane.{sane-begin, sane-step}
@@ -30,7 +29,7 @@ abbrev pub from : Tape → ℕ → List tokens.Token
 from t i = readKinds (drop i (take (t .length) (t .kinds)))
 
 -- the scan q stands before token i of the tape t
-pub record Along (t : Tape) (q : Scan) (i : ℕ) : Type 0 where
+pub record Along (t : Tape) (q : Known) (i : ℕ) : Type 0 where
   pub whole : length (t .kinds) ≡ 512
   pub short : t .length ≤ 511
   pub inside : i ≤ t .length
@@ -42,7 +41,7 @@ pub record Along (t : Tape) (q : Scan) (i : ℕ) : Type 0 where
 pub too-long : (t : Tape) → 511 < t .length → isTree t ≡ false
 too-long t h = ap (λ (b : Bool). b && valid (tokensOf t) begin) (lt-leb (t .length) 511 h)
 
-pub along-begin : (t : Tape) (q : Scan) → length (t .kinds) ≡ 512 → t .length ≤ 511 → scanOf q ≡ begin → Along t q 0
+pub along-begin : (t : Tape) (q : Known) → length (t .kinds) ≡ 512 → t .length ≤ 511 → scanOf q ≡ begin → Along t q 0
 along-begin t q w h e = record {
   whole = w;
   short = h;
@@ -52,7 +51,7 @@ along-begin t q w h e = record {
   ahead = ap (valid (tokensOf t)) (sym e);
 }
 
-module _ (t : Tape) (q : Scan) (i : ℕ) (A : Along t q i) where
+module _ (t : Tape) (q : Known) (i : ℕ) (A : Along t q i) where
   tape-long : length (take (t .length) (t .kinds)) ≡ t .length
   tape-long = length-take-le (t .length) (t .kinds) (omega (arith, A .whole, A .short))
 
@@ -85,7 +84,7 @@ module _ (t : Tape) (q : Scan) (i : ℕ) (A : Along t q i) where
     pub along-misfit : check (tokenOf y) (scanOf q) ≡ false → isTree t ≡ false
     along-misfit f = valid-is ∙ ahead-cons ∙ ap (λ (b : Bool). b && valid (from t (i + 1)) (step (tokenOf y) (scanOf q))) f
 
-    pub along-step : (r : Scan) → check (tokenOf y) (scanOf q) ≡ true → scanOf r ≡ step (tokenOf y) (scanOf q) → Along t r (i + 1)
+    pub along-step : (r : Known) → check (tokenOf y) (scanOf q) ≡ true → scanOf r ≡ step (tokenOf y) (scanOf q) → Along t r (i + 1)
     along-step r c s = record {
       whole = A .whole;
       short = A .short;

@@ -6,9 +6,8 @@ use native.Mathlib.Nat.{le-of-suc-le-suc, not-suc-le-zero}
 use native.Mathlib.Omega.{arith}
 use lib.ListN.{getD, length}
 use Rattle.model.specs.Models.Words.{eachWord}
-use Rattle.tape.specs.Joins.{joinTables, joinWord}
+use Rattle.tape.specs.Joins.{Join, joinTables, joinWord}
 use Rattle.tape.specs.Tables.{Table}
-use Rattle.tape.specs.declared.join.Join.{Join}
 
 module _ (f : ℕ → ℕ → ℕ) where
   pub length-each : (xs ys : List ℕ) → length xs ≡ length ys → length (eachWord f xs ys) ≡ length xs

@@ -10,13 +10,17 @@ pub mod Scans
 pub mod Sane
 pub mod Strokes
 pub mod Within
--- The loops over a tape, as they go.
+-- Masks in a row of words, and the tables that they are.
+pub mod InWords
+-- The loop over a tape, as it goes.
 pub mod Along
 pub mod Reaching
 pub mod Painting
--- Two tables made one.
+pub mod Scanning
+-- A list filled from the front; two tables made one, and propagate's masks joined word by word.
 pub mod Filling
 pub mod Joins
+pub mod Joining
 -- The bits of a table after a stroke, and those that lay out marks.
 pub mod TableBits
 pub mod Marks

@@ -29,8 +29,11 @@ use Rattle.model.proofs.Laws.Bits.{below-same}
 use Rattle.model.proofs.Laws.Bool.{and-both, is-not, is-true}
 use Rattle.model.proofs.Laws.Trees.{NonEmpty}
 use Rattle.model.proofs.Reading.WellFormed.{rule-well}
-use Rattle.tape.specs.Says.{LettersSay, LoopsSay, PropagateSays, TreeOnTape, UnionsSay}
-use Rattle.tape.specs.Tapes.{bares, isTree, propagateBlockTable, propagateSourceTable, propagateTargetTable, shapeOf, tableOf, tokensOf}
+use Rattle.tape.specs.Joins.{Either, joinTables, Only}
+use Rattle.tape.specs.Masks.{Joined, placesIn}
+use Rattle.tape.specs.Says.{Laid, LettersSay, LoopsSay, MasksSay, PropagateSays, TreeOnTape, UnionsSay}
+use Rattle.tape.specs.Tables.{Table}
+use Rattle.tape.specs.Tapes.{bares, isTree, Kinds, propagateBlockTable, propagateSourceTable, propagateTargetTable, shapeOf, tableOf, tokensOf}
 use Rattle.tape.specs.declared.Shape.the-variants.{Other, Tree}
 use Rattle.tape.specs.declared.Tape.{Tape}
 use Rattle.tape.proofs.Bare.{bares-lay, bares-length, bares-reach, bares-valid}
@@ -217,3 +220,35 @@ letters-say t s O = letters-row s t O
 
 pub loops-say : (t : Tape) → LoopsSay t (getD (tableOf t loop-place) 0 [])
 loops-say t s O = loops-row s t O
+
+-- LAY OUT: the words hold what is laid out, and that is what document 01 puts there
+pub laid-of : {t : Tape} {p s g r r′ : List ℕ} → Kinds t p s g r → Joined r r′ → Laid t p s g r′
+unfolding placesIn
+laid-of K J = record {
+  letter-places = ap (λ (a : Table). getD a 0 []) (K .held letter-place);
+  loop-places = ap (λ (a : Table). getD a 0 []) (K .held loop-place);
+  scatter-blocks = K .held scatter-block;
+  scatter-sources = K .held scatter-source;
+  scatter-targets = K .held scatter-target;
+  gather-blocks = K .held gather-block;
+  gather-sources = K .held gather-source;
+  gather-targets = K .held gather-target;
+  propagate-blocks = J .block ∙ ap₂ (joinTables Either) (K .held leaving) (K .held entering);
+  propagate-sources = J .source ∙ ap₂ (joinTables Only) (K .held leaving) (K .held entering);
+  propagate-targets = J .target ∙ ap₂ (joinTables Only) (K .held entering) (K .held leaving);
+}
+
+pub masks-say : {t : Tape} {p s g r : List ℕ} → Laid t p s g r → MasksSay t p s g r
+masks-say {t} L = record {
+  letter-places = subst (LettersSay t) (sym (L .letter-places)) (letters-say t);
+  loop-places = subst (LoopsSay t) (sym (L .loop-places)) (loops-say t);
+  scatter-blocks = subst (UnionsSay scatterBlock t) (sym (L .scatter-blocks)) (scatter-block-says t);
+  scatter-sources = subst (UnionsSay scatterSource t) (sym (L .scatter-sources)) (scatter-source-says t);
+  scatter-targets = subst (UnionsSay scatterTarget t) (sym (L .scatter-targets)) (scatter-target-says t);
+  gather-blocks = subst (UnionsSay gatherBlock t) (sym (L .gather-blocks)) (gather-block-says t);
+  gather-sources = subst (UnionsSay gatherSource t) (sym (L .gather-sources)) (gather-source-says t);
+  gather-targets = subst (UnionsSay gatherTarget t) (sym (L .gather-targets)) (gather-target-says t);
+  propagate-blocks = subst (PropagateSays propagateBlock t) (sym (L .propagate-blocks)) (propagate-block-says t);
+  propagate-sources = subst (PropagateSays propagateSource t) (sym (L .propagate-sources)) (propagate-source-says t);
+  propagate-targets = subst (PropagateSays propagateTarget t) (sym (L .propagate-targets)) (propagate-target-says t);
+}

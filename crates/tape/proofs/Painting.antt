@@ -1,40 +1,28 @@
--- Lay out as the loop goes: what is painted and what is still to come make the whole. And a run of states, marked one after another.
+-- Lay out as the loop goes: what is painted and what is still to come make the whole.
 use mathlib.Core.Path.{_≡_, sym, ap, ap₂, _∙_}
 use mathlib.Core.List.{List}
-use Prim.Native.Nat.{ℕ, suc, _+_, _-_, _≤_, _<_}
-use native.Mathlib.Omega.{arith}
+use Prim.Native.Nat.{ℕ, _+_, _≤_, _<_}
 use lib.ListN.{getD}
 use Rattle.model.specs.Models.LayOut.{begin, step, Which}
 use Rattle.model.specs.Models.LayOut as model
 use Rattle.model.specs.Models.Tokens as tokens
-use Rattle.tape.specs.Scans.{scanOf}
+use Rattle.tape.specs.Scans.{Known, scanOf}
 use Rattle.tape.specs.Strokes.{strokeOf}
-use Rattle.tape.specs.Tables.{blank, markRun, markState, paintAll, paintStroke, Table}
+use Rattle.tape.specs.Tables.{blank, paintAll, paintStroke, Table}
 use Rattle.tape.specs.Tapes.{tokensOf}
 use Rattle.tape.specs.Tokens.{readKind, tokenOf}
-use Rattle.tape.specs.declared.scan.Scan.{Scan}
 use Rattle.tape.specs.declared.Tape.{Tape}
 use Rattle.tape.specs.declared.token.Token.{Token}
 use Rattle.tape.proofs.Along.{Along, from, from-cons, from-end}
 
--- ---- a run
-pub run-step : (a : Table) (k x z : ℕ) → x < z → markRun (z - (x + 1)) (markState a k x) k (x + 1) ≡ markRun (z - x) a k x
-run-step a k x z h =
-    (let e : x + 1 ≡ suc x = omega arith in ap (λ (n : ℕ). markRun (z - (x + 1)) (markState a k x) k n) e)
-    ∙ (let e : suc (z - (x + 1)) ≡ z - x = omega arith in ap (λ (n : ℕ). markRun n a k x) e)
-
-pub run-end : (a : Table) (k x z : ℕ) → z ≤ x → markRun (z - x) a k x ≡ a
-run-end a k x z h = let e : z - x ≡ 0 = omega arith in ap (λ (n : ℕ). markRun n a k x) e
-
--- ---- the tokens
-abbrev pub Painting : Tape → Scan → ℕ → Which → Table → Type 0
+abbrev pub Painting : Tape → Known → ℕ → Which → Table → Type 0
 Painting t q i w a = paintAll (tokensOf t) begin w blank ≡ paintAll (from t i) (scanOf q) w a
 
-pub painting-begin : (t : Tape) (q : Scan) (w : Which) (a : Table) → scanOf q ≡ begin → a ≡ blank → Painting t q 0 w a
+pub painting-begin : (t : Tape) (q : Known) (w : Which) (a : Table) → scanOf q ≡ begin → a ≡ blank → Painting t q 0 w a
 painting-begin t q w a e b = sym (ap₂ (λ (z : model.Scan) (x : Table). paintAll (tokensOf t) z w x) e b)
 
-module _ (t : Tape) (q : Scan) (i : ℕ) (A : Along t q i) (w : Which) (a : Table) (P : Painting t q i w a) where
-  pub painting-step : (y : Token) → i < t .length → y ≡ readKind (getD (t .kinds) i 0) → (r : Scan) → scanOf r ≡ step (tokenOf y) (scanOf q)
+module _ (t : Tape) (q : Known) (i : ℕ) (A : Along t q i) (w : Which) (a : Table) (P : Painting t q i w a) where
+  pub painting-step : (y : Token) → i < t .length → y ≡ readKind (getD (t .kinds) i 0) → (r : Known) → scanOf r ≡ step (tokenOf y) (scanOf q)
       → (b : Table) → b ≡ paintStroke a (strokeOf (tokenOf y) (scanOf q) w) → Painting t r (i + 1) w b
   painting-step y h e r s b p =
       P ∙ ap (λ (l : List tokens.Token). paintAll l (scanOf q) w a) (from-cons t q i A y h e)

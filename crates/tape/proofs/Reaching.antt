@@ -8,19 +8,18 @@ use Rattle.model.specs.Models.LayOut.{begin, reach, step}
 use Rattle.model.specs.Models.LayOut as model
 use Rattle.model.specs.Models.Tokens.{aBar, aClose, aLetter, anOpen}
 use Rattle.model.specs.Models.Tokens as tokens
-use Rattle.tape.specs.Scans.{scanOf}
+use Rattle.tape.specs.Scans.{Known, scanOf}
 use Rattle.tape.specs.Tapes.{deeperBy, tokensOf}
 use Rattle.tape.specs.Tokens.{readKind, tokenOf}
-use Rattle.tape.specs.declared.scan.Scan.{Scan}
 use Rattle.tape.specs.declared.Tape.{Tape}
 use Rattle.tape.specs.declared.token.Token.{Token}
 use Rattle.tape.proofs.Along.{Along, from, from-cons, from-end}
 use Rattle.tape.proofs.Scans.{length-stack}
 
-abbrev pub Reaching : Tape → Scan → ℕ → ℕ → Type 0
+abbrev pub Reaching : Tape → Known → ℕ → ℕ → Type 0
 Reaching t q i deepest = reach (tokensOf t) begin ≡ max deepest (reach (from t i) (scanOf q))
 
-pub reaching-begin : (t : Tape) (q : Scan) → scanOf q ≡ begin → Reaching t q 0 0
+pub reaching-begin : (t : Tape) (q : Known) → scanOf q ≡ begin → Reaching t q 0 0
 reaching-begin t q e = let r = ap (reach (tokensOf t)) (sym e) in omega arith
 
 reach-cons : (deepest : ℕ) (y : tokens.Token) (l : List tokens.Token) (q : model.Scan)
@@ -30,8 +29,8 @@ reach-cons deepest anOpen l q = omega arith
 reach-cons deepest aBar l q = refl
 reach-cons deepest aClose l q = refl
 
-module _ (t : Tape) (q : Scan) (i : ℕ) (A : Along t q i) (deepest : ℕ) (R : Reaching t q i deepest) where
-  pub reaching-step : (y : Token) → i < t .length → y ≡ readKind (getD (t .kinds) i 0) → (r : Scan) → scanOf r ≡ step (tokenOf y) (scanOf q)
+module _ (t : Tape) (q : Known) (i : ℕ) (A : Along t q i) (deepest : ℕ) (R : Reaching t q i deepest) where
+  pub reaching-step : (y : Token) → i < t .length → y ≡ readKind (getD (t .kinds) i 0) → (r : Known) → scanOf r ≡ step (tokenOf y) (scanOf q)
       → (d : ℕ) → d ≡ deeperBy deepest (q .depth) (tokenOf y) → Reaching t r (i + 1) d
   reaching-step y h e r s d g =
       R ∙ ap (λ (l : List tokens.Token). max deepest (reach l (scanOf q))) (from-cons t q i A y h e)

@@ -1,6 +1,6 @@
 -- The scan's array of frames as a stack: a frame stored at the depth is on top, the frames below it stay. So the code's scan steps as the model's.
 use mathlib.Core.Path.{_≡_, refl, sym, ap, ap₂, _∙_, subst}
-use mathlib.Core.Bool.{true, false, not, _&&_, _||_}
+use mathlib.Core.Bool.{Bool, true, false, not, _&&_, _||_}
 use mathlib.Core.List.{List, _∷_}
 use Prim.Native.Nat.{ℕ, zero, suc, _+_, _-_, _≤_, _<_}
 use native.Mathlib.Nat.{le-refl, not-suc-le-zero, zero-lt-suc}
@@ -10,11 +10,12 @@ use borrow.Author.Tests.{lt-ltb, ne-eqb}
 use lib.Dec.{T, eqb, ltb, ltb→lt}
 use lib.ListN.{getD, length, set}
 use lib.Seq.{getD-set-other, getD-set-same}
-use Rattle.model.specs.Models.LayOut.{afterSomeBar, check, inside, nextAlternative, opened, outside, scan, step}
+use Rattle.model.specs.Models.LayOut.{afterSomeBar, check, inside, nextAlternative, outside, scan, step}
 use Rattle.model.specs.Models.LayOut as model
-use Rattle.model.specs.Models.Tokens.{aBar, aClose, anOpen}
+use Rattle.model.specs.Models.Tokens.{aBar, aClose, aLetter, anOpen}
+use Rattle.model.specs.Tree.{canSkip, Repeat}
 use Rattle.model.proofs.Laws.Bool.{and-split}
-use Rattle.tape.specs.Scans.{Behind, frameOf, isBarred, noFrame, Ready, scanOf, stackOf}
+use Rattle.tape.specs.Scans.{Behind, frameOf, Innermost, Known, noFrame, openedAt, Ready, scanOf, stackOf, withFrames}
 use Rattle.tape.specs.Tokens.{tokenOf}
 use Rattle.tape.specs.declared.scan.Frame.{Frame}
 use Rattle.tape.specs.declared.scan.Scan.{Scan}
@@ -57,55 +58,60 @@ module _ (fs : List Frame) where
       let e : n ≡ suc n - 1 = omega arith in
       subst (λ (k : ℕ). stackOf (set fs k f) (suc n) ≡ frameOf f ∷ stackOf fs k) e (stack-top fs n f l)
 
-pub barred-is : (q : Scan) → 0 < q .depth → topFrame (q .frames) (q .depth) .barred ≡ isBarred q
-barred-is q h = sym (ap afterSomeBar (top-is (q .frames) (q .depth) h))
+-- ---- the steps: a frame that is stored at the depth lies above the stack
+module _ (q : Scan) (fs : List Frame) where
+  pub letter-scan : (f : Frame) (r : Repeat)
+      → scanOf (withFrames
+      (record { position = q .position + 1; «no_item» = false; «can_be_empty» = q .«can_be_empty» && canSkip r; depth = q .depth })
+      (set fs (q .depth) f)) ≡ step (aLetter 0 r) (scanOf (withFrames q fs))
+  letter-scan f r =
+      ap₂ (λ (p : ℕ) (st : List model.Frame). scan p false (q .«can_be_empty» && canSkip r) st) (add-one (q .position))
+      (stack-below fs (q .depth) f (q .depth) (le-refl (q .depth)))
 
--- ---- the steps
-module _ (q : Scan) where
-  pub opened-scan : (f : Frame) → q .depth < length (q .frames) → frameOf f ≡ opened (scanOf q)
-      → scanOf (record {
-        position = q .position + 1;
-        «no_item» = true;
-        «can_be_empty» = true;
-        frames = set (q .frames) (q .depth) f;
-        depth = q .depth + 1;
-      }) ≡ step anOpen (scanOf q)
+  pub opened-scan : (f : Frame) → q .depth < length fs → frameOf f ≡ openedAt q
+      → scanOf (withFrames (record { position = q .position + 1; «no_item» = true; «can_be_empty» = true; depth = q .depth + 1 }) (set fs (q .depth) f))
+      ≡ step anOpen (scanOf (withFrames q fs))
   opened-scan f h e =
       ap₂ (λ (p : ℕ) (st : List model.Frame). scan p true true st) (add-one (q .position))
-      (ap (stackOf (set (q .frames) (q .depth) f)) (add-one (q .depth)) ∙ stack-top (q .frames) (q .depth) f h
-      ∙ ap (λ (g : model.Frame). g ∷ stackOf (q .frames) (q .depth)) e)
+      (ap (stackOf (set fs (q .depth) f)) (add-one (q .depth)) ∙ stack-top fs (q .depth) f h ∙ ap (λ (g : model.Frame). g ∷ stackOf fs (q .depth)) e)
 
-  pub barred-scan : (f : Frame) → 0 < q .depth → q .depth ≤ length (q .frames)
-      → frameOf f ≡ nextAlternative (frameOf (topFrame (q .frames) (q .depth))) (q .position) (q .«can_be_empty»)
-      → scanOf (record {
-        position = q .position + 1;
-        «no_item» = true;
-        «can_be_empty» = true;
-        frames = set (q .frames) (q .depth - 1) f;
-        depth = q .depth;
-      }) ≡ step aBar (scanOf q)
-  barred-scan f h l e =
-      ap₂ (λ (p : ℕ) (st : List model.Frame). scan p true true st) (add-one (q .position))
-      (top-set (q .frames) (q .depth) f h l ∙ ap (λ (g : model.Frame). g ∷ stackOf (q .frames) (q .depth - 1)) e)
-      ∙ sym (ap (model.afterBar (q .position) (q .«can_be_empty»)) (top-is (q .frames) (q .depth) h))
+  module _ (top : Frame) (I : Innermost q top fs) (h : 0 < q .depth) where
+    pub stack-is : stackOf fs (q .depth) ≡ frameOf top ∷ stackOf fs (q .depth - 1)
+    stack-is = top-is fs (q .depth) h ∙ ap (λ (g : Frame). frameOf g ∷ stackOf fs (q .depth - 1)) (I h)
 
-  pub closed-scan : 0 < q .depth
-      → scanOf (record {
-        position = q .position + 1;
-        «no_item» = false;
-        «can_be_empty» = topFrame (q .frames)
-            (q .depth) .«empty_outside» && (topFrame (q .frames) (q .depth) .«empty_before» || q .«can_be_empty»);
-        frames = q .frames;
-        depth = q .depth - 1;
-      }) ≡ step aClose (scanOf q)
-  closed-scan h =
-      ap (λ (p : ℕ). scan p false (topFrame (q .frames)
-      (q .depth) .«empty_outside» && (topFrame (q .frames) (q .depth) .«empty_before» || q .«can_be_empty»)) (stackOf (q .frames) (q .depth - 1)))
-      (add-one (q .position))
-      ∙ sym (ap (model.afterClose (q .position) (q .«can_be_empty»)) (top-is (q .frames) (q .depth) h))
+    pub barred-scan : (f : Frame) → q .depth ≤ length fs → frameOf f ≡ nextAlternative (frameOf top) (q .position) (q .«can_be_empty»)
+        → scanOf (withFrames (record { position = q .position + 1; «no_item» = true; «can_be_empty» = true; depth = q .depth }) (set fs (q .depth - 1) f))
+        ≡ step aBar (scanOf (withFrames q fs))
+    barred-scan f l e =
+        ap₂ (λ (p : ℕ) (st : List model.Frame). scan p true true st) (add-one (q .position))
+        (top-set fs (q .depth) f h l ∙ ap (λ (g : model.Frame). g ∷ stackOf fs (q .depth - 1)) e)
+        ∙ sym (ap (model.afterBar (q .position) (q .«can_be_empty»)) stack-is)
+
+    pub closed-scan : (f : Frame)
+        → scanOf (withFrames
+        (record {
+          position = q .position + 1;
+          «no_item» = false;
+          «can_be_empty» = top .«empty_outside» && (top .«empty_before» || q .«can_be_empty»);
+          depth = q .depth - 1;
+        })
+        (set fs (q .depth) f)) ≡ step aClose (scanOf (withFrames q fs))
+    closed-scan f =
+        ap₂ (λ (p : ℕ) (st : List model.Frame). scan p false (top .«empty_outside» && (top .«empty_before» || q .«can_be_empty»)) st) (add-one (q .position))
+        (stack-below fs (q .depth) f (q .depth - 1) (omega arith))
+        ∙ sym (ap (model.afterClose (q .position) (q .«can_be_empty»)) stack-is)
+
+pub barred-is : (q : Scan) (fs : List Frame) (top : Frame) → Innermost q top fs → (ltb 0 (q .depth) && top .barred) ≡ afterSomeBar (stackOf fs (q .depth))
+barred-is q fs top I = go (q .depth) I
+  where
+    go : (n : ℕ) → (0 < n → getD fs (n - 1) noFrame ≡ top) → (ltb 0 n && top .barred) ≡ afterSomeBar (stackOf fs n)
+    go zero J = refl
+    go (suc n) J =
+        ap (λ (b : Bool). b && top .barred) (lt-ltb 0 (suc n) (zero-lt-suc n))
+        ∙ sym (ap afterSomeBar (top-is fs (suc n) (zero-lt-suc n)) ∙ ap (λ (f : Frame). f .barred) (J (zero-lt-suc n)))
 
 -- ---- what a token that fits says of the depth
-module _ (q : Scan) (y : Token) (R : Ready q y) where
+module _ (q : Known) (y : Token) (R : Ready q y) where
   pub ready-depth : q .depth ≤ 8
   ready-depth = omega (arith, R .sane .shallow, length-stack (q .frames) (q .depth))
 

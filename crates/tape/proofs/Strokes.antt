@@ -1,21 +1,61 @@
--- What a bar and a close mark, by the depth and the innermost of the code's frames.
-use mathlib.Core.Path.{_≡_, sym, ap, _∙_}
+-- What a token marks, by the depth and the innermost of the code's frames.
+use mathlib.Core.Path.{_≡_, refl, sym, ap, _∙_, subst}
 use mathlib.Core.List.{List}
 use Prim.Native.Nat.{ℕ, _-_, _<_}
+use Rattle.model.specs.Models.LayOut.{entering, gather-block, gather-source, gather-target, leaving, letter-place, loop-place, scatter-block, scatter-source, scatter-target, Which}
 use Rattle.model.specs.Models.LayOut as model
-use Rattle.model.specs.Models.Tokens.{aBar, aClose}
-use Rattle.tape.specs.Scans.{frameOf, scanOf}
-use Rattle.tape.specs.Strokes.{barStroke, barStrokeIn, closeStroke, closeStrokeIn, strokeOf}
+use Rattle.tape.specs.Masks.{Painted, paintThree, paintTwo}
+use Rattle.tape.specs.Scans.{frameOf, Innermost, scanOf, withFrames}
+use Rattle.tape.specs.Strokes.{barStroke, barStrokeIn, closeStroke, closeStrokeIn, letterStroke, noStroke, openStroke, Stroke, strokeOf}
+use Rattle.tape.specs.Tokens.{repeatOf, tokenOf}
+use Rattle.tape.specs.declared.scan.Frame.{Frame}
 use Rattle.tape.specs.declared.scan.Scan.{Scan}
-use Rattle.tape.proofs.Scans.{length-stack, top-is, topFrame}
+use Rattle.tape.specs.declared.token.Repeat.{Repeat}
+use Rattle.tape.specs.declared.token.Token.{Token}
+use Rattle.tape.specs.declared.token.Token.the-variants.{Bar, Close, Letter, Open}
+use Rattle.tape.proofs.Scans.{length-stack, stack-is, top-is}
 
-module _ (q : Scan) (w : model.Which) (h : 0 < q .depth) where
-  pub bar-is : barStroke (q .position) (q .depth - 1) w ≡ strokeOf aBar (scanOf q) w
-  bar-is =
-      sym (ap (λ (st : List model.Frame). barStrokeIn (q .position) st w) (top-is (q .frames) (q .depth) h)
-      ∙ ap (λ (n : ℕ). barStroke (q .position) n w) (length-stack (q .frames) (q .depth - 1)))
+abbrev marked : Scan → List Frame → Token → Which → Stroke
+marked q fs y = strokeOf (tokenOf y) (scanOf (withFrames q fs))
 
-  pub close-is : closeStroke (frameOf (topFrame (q .frames) (q .depth))) (q .position) (q .depth - 1) (q .«can_be_empty») w ≡ strokeOf aClose (scanOf q) w
-  close-is =
-      sym (ap (λ (st : List model.Frame). closeStrokeIn (q .position) (q .«can_be_empty») st w) (top-is (q .frames) (q .depth) h)
-      ∙ ap (λ (n : ℕ). closeStroke (frameOf (topFrame (q .frames) (q .depth))) (q .position) n (q .«can_be_empty») w) (length-stack (q .frames) (q .depth - 1)))
+module _ (q : Scan) (fs : List Frame) {x : Token} where
+  -- the strokes f are those of the token y, and x is y
+  told : {p s g r p′ s′ g′ r′ : List ℕ} {f : Which → Stroke} (y : Token) → x ≡ y → ((w : Which) → f w ≡ marked q fs y w) → Painted p s g r p′ s′ g′ r′ f
+      → Painted p s g r p′ s′ g′ r′ (marked q fs x)
+  told {p} {s} {g} {r} {p′} {s′} {g′} {r′} y e h P =
+      subst (Painted p s g r p′ s′ g′ r′) (λ i. marked q fs (sym e i)) (subst (Painted p s g r p′ s′ g′ r′) (λ i w. h w i) P)
+
+  pub letter-painted : (k : Repeat) → x ≡ Letter k → {p s g r p′ r′ : List ℕ}
+      → let f = letterStroke (repeatOf k) (q .position) (q .depth) in
+      p′ ≡ paintTwo p (f letter-place) (f loop-place) → r′ ≡ paintThree r noStroke (f leaving) (f entering) → Painted p s g r p′ s g r′ (marked q fs x)
+  letter-painted k e a b =
+      told (Letter k) e (λ w. ap (λ (n : ℕ). letterStroke (repeatOf k) (q .position) n w) (sym (length-stack fs (q .depth))))
+      (record { places = a; scatter = refl; gather = refl; propagate = b })
+
+  pub open-painted : x ≡ Open → {p s g r s′ : List ℕ}
+      → let f = openStroke (q .position) (q .depth) in
+      s′ ≡ paintThree s (f scatter-block) (f scatter-source) (f scatter-target) → Painted p s g r p s′ g r (marked q fs x)
+  open-painted e a =
+      told Open e (λ w. ap (λ (n : ℕ). openStroke (q .position) n w) (sym (length-stack fs (q .depth))))
+      (record { places = refl; scatter = a; gather = refl; propagate = refl })
+
+  module _ (h : 0 < q .depth) where
+    pub bar-painted : x ≡ Bar → {p s g r s′ g′ : List ℕ}
+        → let f = barStroke (q .position) (q .depth - 1) in
+        s′ ≡ paintThree s (f scatter-block) (f scatter-source) (f scatter-target) → g′ ≡ paintThree g (f gather-block) (f gather-source) (f gather-target)
+        → Painted p s g r p s′ g′ r (marked q fs x)
+    bar-painted e a b =
+        told Bar e
+        (λ w. sym (ap (λ (st : List model.Frame). barStrokeIn (q .position) st w) (top-is fs (q .depth) h)
+        ∙ ap (λ (n : ℕ). barStroke (q .position) n w) (length-stack fs (q .depth - 1))))
+        (record { places = refl; scatter = a; gather = b; propagate = refl })
+
+    pub close-painted : (top : Frame) → Innermost q top fs → x ≡ Close → {p s g r s′ g′ r′ : List ℕ}
+        → let f = closeStroke (frameOf top) (q .position) (q .depth - 1) (q .«can_be_empty») in
+        s′ ≡ paintThree s (f scatter-block) (f scatter-source) (f scatter-target) → g′ ≡ paintThree g (f gather-block) (f gather-source) (f gather-target)
+        → r′ ≡ paintThree r noStroke (f leaving) (f entering) → Painted p s g r p s′ g′ r′ (marked q fs x)
+    close-painted top I e a b d =
+        told Close e
+        (λ w. sym (ap (λ (st : List model.Frame). closeStrokeIn (q .position) (q .«can_be_empty») st w) (stack-is q fs top I h)
+        ∙ ap (λ (n : ℕ). closeStroke (frameOf top) (q .position) n (q .«can_be_empty») w) (length-stack fs (q .depth - 1))))
+        (record { places = refl; scatter = a; gather = b; propagate = d })

@@ -15,8 +15,8 @@ use Rattle.model.specs.Models.Words.{Fit, putBit, value}
 use Rattle.model.proofs.Laws.Bits.{bit-zero}
 use Rattle.model.proofs.Laws.Bool.{and-both, and-split, is-not, or-left, or-right, or-split, same-truth}
 use Rattle.model.proofs.Words.Put.{put-bit, put-fit}
+use Rattle.tape.specs.Strokes.{Stroke}
 use Rattle.tape.specs.Tables.{blank, markRun, markState, paintStroke, Table}
-use Rattle.tape.specs.declared.stroke.Stroke.{Stroke}
 use Rattle.tape.proofs.Within.{Within}
 
 -- nine rows of eight words; bit x of row k

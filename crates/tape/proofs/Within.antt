@@ -8,13 +8,12 @@ use Rattle.model.specs.Tree.{canLoop, canSkip, Repeat}
 use Rattle.model.specs.Models.LayOut.{entering, Frame, gather-block, gather-source, gather-target, leaving, letter-place, loop-place, Scan, scatter-block, scatter-source, scatter-target, Which}
 use Rattle.model.specs.Models.Tokens.{aBar, aClose, aLetter, anOpen, Token}
 use Rattle.tape.specs.Scans.{Behind, Sane}
-use Rattle.tape.specs.Strokes.{barStroke, barStrokeIn, closeStroke, closeStrokeIn, letterStroke, noStroke, oneState, openStroke, strokeOf}
-use Rattle.tape.specs.declared.stroke.Stroke.{Stroke}
+use Rattle.tape.specs.Strokes.{barStroke, barStrokeIn, closeStroke, closeStrokeIn, letterStroke, noStroke, oneState, openStroke, Stroke, strokeOf}
 
 abbrev pub Within : Stroke → Type 0
 Within s = (s .row < 9) × (s .to ≤ 512)
 
-none-within : Within noStroke
+pub none-within : Within noStroke
 none-within = omega arith
 
 one-within : (d x : ℕ) → d < 9 → x < 512 → Within (oneState d x)

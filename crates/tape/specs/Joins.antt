@@ -4,8 +4,10 @@ use Prim.Native.Nat.{ℕ, _-_, _^_}
 use lib.Bits.{bitAnd, bitOr}
 use Rattle.model.specs.Models.Words.{eachWord}
 use Rattle.tape.specs.Tables.{Table}
-use Rattle.tape.specs.declared.join.Join.{Join}
-use Rattle.tape.specs.declared.join.Join.the-variants.{Either, Only}
+
+-- the states of either; those of the first that are not in the second
+pub data Join : Type 0 where
+  Either Only : Join
 
 abbrev pub joinWord : Join → ℕ → ℕ → ℕ
 joinWord Either x y = bitOr x y

@@ -1,8 +1,9 @@
--- Says: what the public functions promise. The others: what the code's tokens, scans and strokes stand for in the model, what is painted into a table, and what a tape is.
+-- Says: what the public functions promise. The others: what the code's tokens, scans and strokes stand for in the model, what is painted into a table and into lent words, and what a tape is.
 pub mod Tokens
 pub mod Scans
 pub mod Strokes
 pub mod Tables
+pub mod Masks
 pub mod Joins
 pub mod Tapes
 pub mod Says

@@ -7,12 +7,14 @@ use lib.ListN.{getD, replicate}
 use Rattle.model.specs.Bits.{bit, mask}
 use Rattle.model.specs.Edges.{depth, states}
 use Rattle.model.specs.Grammar.{IsRule}
-use Rattle.model.specs.Image.{letters, repeats, words}
+use Rattle.model.specs.Image.{gatherBlock, gatherSource, gatherTarget, letters, propagateBlock, propagateSource, propagateTarget, repeats, scatterBlock, scatterSource, scatterTarget, words}
 use Rattle.model.specs.Models.Apart.{anyBelow}
+use Rattle.model.specs.Models.LayOut.{gather-block, gather-source, gather-target, letter-place, loop-place, scatter-block, scatter-source, scatter-target}
 use Rattle.model.specs.Models.Words.{value}
 use Rattle.model.specs.Tree as tree
+use Rattle.tape.specs.Masks.{rowIn, tableIn}
 use Rattle.tape.specs.Tables.{Table}
-use Rattle.tape.specs.Tapes.{TapeOf}
+use Rattle.tape.specs.Tapes.{propagateBlockTable, propagateSourceTable, propagateTargetTable, tableOf, TapeOf}
 use Rattle.tape.specs.declared.Shape.{Shape}
 use Rattle.tape.specs.declared.Shape.the-variants.{Tree}
 use Rattle.tape.specs.declared.Tape.{Tape}
@@ -50,3 +52,31 @@ LettersSay t row = (s : tree.Tree) → TreeOnTape s t → row ≡ words 8 (mask 
 -- "repeats: likewise, the bit of each loop": of the states that a byte's letters lead to, those with a loop
 abbrev pub LoopsSay : Tape → List ℕ → Type 0
 LoopsSay t row = (s : tree.Tree) → TreeOnTape s t → (b x : ℕ) → x < states s → (letters s b x && bit (value row) x) ≡ repeats s b x
+
+-- LAY OUT SAYS, of the words of letter and loop places, of scatter's, gather's and propagate's masks: what it computes
+pub record Laid (t : Tape) (p s g r : List ℕ) : Type 0 where
+  pub letter-places : rowIn p 0 ≡ getD (tableOf t letter-place) 0 []
+  pub loop-places : rowIn p 1 ≡ getD (tableOf t loop-place) 0 []
+  pub scatter-blocks : tableIn s 0 ≡ tableOf t scatter-block
+  pub scatter-sources : tableIn s 1 ≡ tableOf t scatter-source
+  pub scatter-targets : tableIn s 2 ≡ tableOf t scatter-target
+  pub gather-blocks : tableIn g 0 ≡ tableOf t gather-block
+  pub gather-sources : tableIn g 1 ≡ tableOf t gather-source
+  pub gather-targets : tableIn g 2 ≡ tableOf t gather-target
+  pub propagate-blocks : tableIn r 0 ≡ propagateBlockTable t
+  pub propagate-sources : tableIn r 1 ≡ propagateSourceTable t
+  pub propagate-targets : tableIn r 2 ≡ propagateTargetTable t
+
+-- and, of the tape of a rule's tree, that it is what document 01 puts there
+pub record MasksSay (t : Tape) (p s g r : List ℕ) : Type 0 where
+  pub letter-places : LettersSay t (rowIn p 0)
+  pub loop-places : LoopsSay t (rowIn p 1)
+  pub scatter-blocks : UnionsSay scatterBlock t (tableIn s 0)
+  pub scatter-sources : UnionsSay scatterSource t (tableIn s 1)
+  pub scatter-targets : UnionsSay scatterTarget t (tableIn s 2)
+  pub gather-blocks : UnionsSay gatherBlock t (tableIn g 0)
+  pub gather-sources : UnionsSay gatherSource t (tableIn g 1)
+  pub gather-targets : UnionsSay gatherTarget t (tableIn g 2)
+  pub propagate-blocks : PropagateSays propagateBlock t (tableIn r 0)
+  pub propagate-sources : PropagateSays propagateSource t (tableIn r 1)
+  pub propagate-targets : PropagateSays propagateTarget t (tableIn r 2)

@@ -7,21 +7,11 @@ use Rattle.model.specs.Tree.{canLoop, canSkip, Repeat}
 use Rattle.model.specs.Models.LayOut.{entering, Frame, gather-block, gather-source, gather-target, leaving, letter-place, loop-place, Scan, scatter-block, scatter-source, scatter-target}
 use Rattle.model.specs.Models.LayOut as model
 use Rattle.model.specs.Models.Tokens.{aBar, aClose, aLetter, anOpen, Token}
-use Rattle.tape.specs.declared.stroke.Stroke.{Stroke}
-use Rattle.tape.specs.declared.stroke.Which.{Which}
-use Rattle.tape.specs.declared.stroke.Which.the-variants.{Entering, GatherBlock, GatherSource, GatherTarget, Leaving, LetterPlace, LoopPlace, ScatterBlock, ScatterSource, ScatterTarget}
 
-abbrev pub whichOf : Which → model.Which
-whichOf LetterPlace = letter-place
-whichOf LoopPlace = loop-place
-whichOf ScatterBlock = scatter-block
-whichOf ScatterSource = scatter-source
-whichOf ScatterTarget = scatter-target
-whichOf GatherBlock = gather-block
-whichOf GatherSource = gather-source
-whichOf GatherTarget = gather-target
-whichOf Leaving = leaving
-whichOf Entering = entering
+pub record Stroke : Type 0 where
+  pub row : ℕ
+  pub from : ℕ
+  pub to : ℕ
 
 -- the states from a to z less 1 at depth k; none; one
 abbrev pub stroke : ℕ → ℕ → ℕ → Stroke

@@ -5,8 +5,7 @@ use lib.ListN.{getD, replicate, set}
 use Rattle.model.specs.Models.LayOut.{Scan, step, Which}
 use Rattle.model.specs.Models.Tokens.{Token}
 use Rattle.model.specs.Models.Words.{putBit}
-use Rattle.tape.specs.Strokes.{strokeOf}
-use Rattle.tape.specs.declared.stroke.Stroke.{Stroke}
+use Rattle.tape.specs.Strokes.{Stroke, strokeOf}
 
 abbrev pub Table : Type 0
 Table = List (List ℕ)

@@ -3,16 +3,16 @@ use mathlib.Core.Path.{_≡_}
 use mathlib.Core.Bool.{Bool, _&&_, cond}
 use mathlib.Core.List.{List, [], _∷_}
 use Prim.Native.Nat.{ℕ, suc, max}
-use lib.Dec.{leb}
+use lib.Dec.{leb, T}
 use lib.ListN.{length, take}
 use Rattle.model.specs.Tree as tree
 use Rattle.model.specs.Models.LayOut.{begin, entering, leaving, reach, valid, Which}
 use Rattle.model.specs.Models.Tokens.{aBar, aClose, aLetter, anOpen}
 use Rattle.model.specs.Models.Tokens as model
-use Rattle.tape.specs.Joins.{joinTables}
+use Rattle.tape.specs.Joins.{Either, joinTables, Only}
+use Rattle.tape.specs.Masks.{heldIn, Sized}
 use Rattle.tape.specs.Tables.{blank, paintAll, Table}
 use Rattle.tape.specs.Tokens.{readKind, tokenOf}
-use Rattle.tape.specs.declared.join.Join.the-variants.{Either, Only}
 use Rattle.tape.specs.declared.Shape.{Shape}
 use Rattle.tape.specs.declared.Shape.the-variants.{Other, Tree}
 use Rattle.tape.specs.declared.Tape.{Tape}
@@ -68,3 +68,12 @@ propagateSourceTable t = joinTables Only (tableOf t leaving) (tableOf t entering
 
 abbrev pub propagateTargetTable : Tape → Table
 propagateTargetTable t = joinTables Only (tableOf t entering) (tableOf t leaving)
+
+-- the words hold what is laid out, before propagate's masks are joined; if the tape is a tree's, whatever else it is
+pub record Kinds (t : Tape) (p s g r : List ℕ) : Type 0 where
+  pub sized : Sized p s g r
+  pub held : (w : Which) → heldIn p s g r w ≡ tableOf t w
+
+pub record ScanLays (t : Tape) (p s g r : List ℕ) : Type 0 where
+  pub sized : Sized p s g r
+  pub held : T (isTree t) → (w : Which) → heldIn p s g r w ≡ tableOf t w

@@ -1,35 +1,29 @@
 // A tree as its tape, and lay out: from the tape to the masks of scatter, gather and propagate for each depth.
 //
 // A tree with m states is a row of m - 1 tokens, one between each two neighbouring states. One scan over them, from left to right, knows all that
-// the masks need: `token` has the tokens, `scan` what the scan knows before each, `stroke` the places that one token marks, `table` the masks.
+// the masks need: `token` has the tokens, `scan` what the scan knows before each, `stroke` the places that one token marks, `masks` the masks.
 
-mod join;
+mod masks;
 mod scan;
 mod stroke;
-mod table;
 mod token;
 
-use crate::join::Join;
-use crate::join::join_tables;
+use crate::masks::blank_all;
+use crate::masks::join_propagate;
 use crate::scan::begin_scan;
 use crate::scan::fits;
+use crate::scan::innermost;
 use crate::scan::is_ended;
+use crate::scan::no_frame;
 use crate::scan::step_over;
-use crate::stroke::Which;
-use crate::stroke::stroke_of;
-use crate::table::blank_table;
-use crate::table::paint;
+use crate::stroke::mark_token;
 use crate::token::Token;
 use crate::token::read_kind;
 ghost use mathlib.Core.Path.{_≡_};
-ghost use mathlib.Core.List.{[]};
 ghost use Prim.Native.Nat.{_<_, max};
-ghost use lib.ListN.{getD};
-ghost use Rattle.model.specs.Models.LayOut.{gather-block, gather-source, gather-target, letter-place, loop-place, scatter-block, scatter-source, scatter-target};
-ghost use Rattle.model.specs.Image.{gatherBlock, gatherSource, gatherTarget, propagateBlock, propagateSource, propagateTarget, scatterBlock, scatterSource, scatterTarget};
-ghost use Rattle.tape.specs.Says.{LettersSay, LoopsSay, PropagateSays, ShapeSays, UnionsSay};
-ghost use Rattle.tape.specs.Tapes.{deeperBy, propagateBlockTable, propagateSourceTable, propagateTargetTable, shapeOf, tableOf};
-ghost use Rattle.tape.specs.Strokes.{whichOf};
+ghost use Rattle.tape.specs.Masks.{Blank, RowSays, Sized};
+ghost use Rattle.tape.specs.Says.{Laid, MasksSay, ShapeSays};
+ghost use Rattle.tape.specs.Tapes.{deeperBy, Kinds, ScanLays, shapeOf};
 ghost use Rattle.tape.specs.Tokens.{tokenOf};
 
 // The first `length` of the kinds are a tree's tokens: 0 to 3 a letter, taken once, `?`, `*` or `+`; 4 an open, 5 a bar, 6 a close.
@@ -63,27 +57,44 @@ fn deeper(deepest: usize, depth: usize, token: Token) -> usize
     }
 }
 
-// The scan over the whole tape.
-fn scan_shape(tape: Tape) -> Shape
-    ensures { λ r. ⌜ r ≡ shapeOf tape ⌝ }
+// The scan over the whole tape, which marks what each token marks.
+fn scan_tape(
+    tape: Tape,
+    places: &mut [u64],
+    scatter: &mut [u64],
+    gather: &mut [u64],
+    propagate: &mut [u64],
+) -> Shape
+    requires { ⌜ Blank (now places) (now scatter) (now gather) (now propagate) ⌝ }
+    ensures shape { λ r. ⌜ r ≡ shapeOf tape ⌝ }
+    ensures masks { λ r. ⌜ ScanLays tape (now (places .exit)) (now (scatter .exit)) (now (gather .exit)) (now (propagate .exit)) ⌝ }
 {
     let kinds = tape.kinds;
     let length = tape.length;
     if length > 511 {
         return Shape::Other;
     }
+    let none = no_frame();
+    let mut frames = [none; 9];
     let mut scan = begin_scan();
     let mut deepest: usize = 0;
     let mut i: usize = 0;
     while i < length {
         let token = read_kind(kinds[i]);
-        if !fits(scan, token) {
+        let top = innermost(scan.depth);
+        let frame = frames[top];
+        if !fits(scan, frame, token) {
             return Shape::Other;
         }
+        mark_token(places, scatter, gather, propagate, scan, frame, token);
         let d = deeper(deepest, scan.depth, token);
         deepest = d;
-        let next = step_over(scan, token);
-        scan = next;
+        let next = step_over(scan, frame, token);
+        let stored = next.frame;
+        let place = next.place;
+        frames[place] = stored;
+        let after = next.scan;
+        scan = after;
         i += 1;
     }
     if is_ended(scan) {
@@ -93,133 +104,56 @@ fn scan_shape(tape: Tape) -> Shape
     }
 }
 
-// Whether the tape is the tokens of a tree, and how deep that is.
-pub fn well_formed(tape: Tape) -> Shape
+// What is marked for the tape. Where it is not a tree's, no mask has a state.
+fn lay_kinds(
+    tape: Tape,
+    places: &mut [u64],
+    scatter: &mut [u64],
+    gather: &mut [u64],
+    propagate: &mut [u64],
+) -> Shape
+    requires { ⌜ Sized (now places) (now scatter) (now gather) (now propagate) ⌝ }
+    ensures shape { λ r. ⌜ r ≡ shapeOf tape ⌝ }
+    ensures kinds { λ r. ⌜ Kinds tape (now (places .exit)) (now (scatter .exit)) (now (gather .exit)) (now (propagate .exit)) ⌝ }
+{
+    blank_all(places, scatter, gather, propagate);
+    let shape = scan_tape(tape, places, scatter, gather, propagate);
+    if let Shape::Other = shape {
+        blank_all(places, scatter, gather, propagate);
+    }
+    shape
+}
+
+// Lay out: whether the tape is the tokens of a tree, and how deep that is; letter places and loop places; and block, source and target of each depth.
+pub fn lay_out(
+    tape: Tape,
+    places: &mut [u64; 16],
+    scatter: &mut [u64; 216],
+    gather: &mut [u64; 216],
+    propagate: &mut [u64; 216],
+) -> Shape
     ensures computed { λ r. ⌜ r ≡ shapeOf tape ⌝ }
     ensures shape { λ r. ⌜ ShapeSays tape r ⌝ }
+    ensures laid { λ r. ⌜ Laid tape (now (places .exit)) (now (scatter .exit)) (now (gather .exit)) (now (propagate .exit)) ⌝ }
+    ensures masks { λ r. ⌜ MasksSay tape (now (places .exit)) (now (scatter .exit)) (now (gather .exit)) (now (propagate .exit)) ⌝ }
 {
-    scan_shape(tape)
+    let shape = lay_kinds(tape, places, scatter, gather, propagate);
+    join_propagate(propagate);
+    shape
 }
 
-// Lay out: the masks of one kind, for each depth. Where the tape is not a tree's, none of them has a state.
-fn lay(tape: Tape, which: Which) -> [[u64; 8]; 9]
-    ensures { λ r. ⌜ r ≡ tableOf tape (whichOf which) ⌝ }
+// One of the masks that lay out gives; past their end a mask without a state.
+pub fn row_of(masks: &[u64], row: usize) -> [u64; 8]
+    ensures { λ r. ⌜ RowSays (now (masks .entry)) row r ⌝ }
 {
-    let kinds = tape.kinds;
-    let length = tape.length;
-    if length > 511 {
-        return blank_table();
+    let mut words = [0u64; 8];
+    if row >= masks.len() / 8 {
+        return words;
     }
-    let mut scan = begin_scan();
-    let mut table = blank_table();
-    let mut i: usize = 0;
-    while i < length {
-        let token = read_kind(kinds[i]);
-        if !fits(scan, token) {
-            return blank_table();
-        }
-        let stroke = stroke_of(scan, token, which);
-        let painted = paint(table, stroke);
-        table = painted;
-        let next = step_over(scan, token);
-        scan = next;
-        i += 1;
+    let mut j: usize = 0;
+    while j < 8 {
+        words[j] = masks[8 * row + j];
+        j += 1;
     }
-    if is_ended(scan) { table } else { blank_table() }
-}
-
-// Scatter: the last alternative's start, plus 1.
-pub fn scatter_block(tape: Tape) -> [[u64; 8]; 9]
-    ensures computed { λ r. ⌜ r ≡ tableOf tape scatter-block ⌝ }
-    ensures rows { λ r. ⌜ UnionsSay scatterBlock tape r ⌝ }
-{
-    lay(tape, Which::ScatterBlock)
-}
-
-// Scatter: union starts.
-pub fn scatter_source(tape: Tape) -> [[u64; 8]; 9]
-    ensures computed { λ r. ⌜ r ≡ tableOf tape scatter-source ⌝ }
-    ensures rows { λ r. ⌜ UnionsSay scatterSource tape r ⌝ }
-{
-    lay(tape, Which::ScatterSource)
-}
-
-// Scatter: alternative starts.
-pub fn scatter_target(tape: Tape) -> [[u64; 8]; 9]
-    ensures computed { λ r. ⌜ r ≡ tableOf tape scatter-target ⌝ }
-    ensures rows { λ r. ⌜ UnionsSay scatterTarget tape r ⌝ }
-{
-    lay(tape, Which::ScatterTarget)
-}
-
-// Gather: every state from the first alternative's end to the union's end less 1.
-pub fn gather_block(tape: Tape) -> [[u64; 8]; 9]
-    ensures computed { λ r. ⌜ r ≡ tableOf tape gather-block ⌝ }
-    ensures rows { λ r. ⌜ UnionsSay gatherBlock tape r ⌝ }
-{
-    lay(tape, Which::GatherBlock)
-}
-
-// Gather: alternative ends.
-pub fn gather_source(tape: Tape) -> [[u64; 8]; 9]
-    ensures computed { λ r. ⌜ r ≡ tableOf tape gather-source ⌝ }
-    ensures rows { λ r. ⌜ UnionsSay gatherSource tape r ⌝ }
-{
-    lay(tape, Which::GatherSource)
-}
-
-// Gather: union ends.
-pub fn gather_target(tape: Tape) -> [[u64; 8]; 9]
-    ensures computed { λ r. ⌜ r ≡ tableOf tape gather-target ⌝ }
-    ensures rows { λ r. ⌜ UnionsSay gatherTarget tape r ⌝ }
-{
-    lay(tape, Which::GatherTarget)
-}
-
-// Propagate: the states of the chains of propagate edges, those that an edge leaves or enters.
-pub fn propagate_block(tape: Tape) -> [[u64; 8]; 9]
-    ensures computed { λ r. ⌜ r ≡ propagateBlockTable tape ⌝ }
-    ensures rows { λ r. ⌜ PropagateSays propagateBlock tape r ⌝ }
-{
-    let first = lay(tape, Which::Leaving);
-    let second = lay(tape, Which::Entering);
-    join_tables(Join::Either, first, second)
-}
-
-// Propagate: the smallest of each chain, which no edge enters.
-pub fn propagate_source(tape: Tape) -> [[u64; 8]; 9]
-    ensures computed { λ r. ⌜ r ≡ propagateSourceTable tape ⌝ }
-    ensures rows { λ r. ⌜ PropagateSays propagateSource tape r ⌝ }
-{
-    let first = lay(tape, Which::Leaving);
-    let second = lay(tape, Which::Entering);
-    join_tables(Join::Only, first, second)
-}
-
-// Propagate: the largest of each chain, which no edge leaves.
-pub fn propagate_target(tape: Tape) -> [[u64; 8]; 9]
-    ensures computed { λ r. ⌜ r ≡ propagateTargetTable tape ⌝ }
-    ensures rows { λ r. ⌜ PropagateSays propagateTarget tape r ⌝ }
-{
-    let first = lay(tape, Which::Entering);
-    let second = lay(tape, Which::Leaving);
-    join_tables(Join::Only, first, second)
-}
-
-// The states that letters lead to.
-pub fn letter_places(tape: Tape) -> [u64; 8]
-    ensures computed { λ r. ⌜ r ≡ getD (tableOf tape letter-place) 0 [] ⌝ }
-    ensures places { λ r. ⌜ LettersSay tape r ⌝ }
-{
-    let table = lay(tape, Which::LetterPlace);
-    table[0]
-}
-
-// The states that loops stand on.
-pub fn loop_places(tape: Tape) -> [u64; 8]
-    ensures computed { λ r. ⌜ r ≡ getD (tableOf tape loop-place) 0 [] ⌝ }
-    ensures places { λ r. ⌜ LoopsSay tape r ⌝ }
-{
-    let table = lay(tape, Which::LoopPlace);
-    table[0]
+    words
 }

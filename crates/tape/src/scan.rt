@@ -1,14 +1,15 @@
-// What the scan over a tape knows before each token, and which tokens may stand there.
+// What the scan over a tape knows before each token, and which tokens may stand there. The open unions are in a row of frames beside it, outermost
+// first, which is not handed on from token to token: the innermost frame is read, and one frame is stored.
 use crate::token::Repeat;
 use crate::token::Token;
 use crate::token::can_skip;
 ghost use mathlib.Core.Path.{_≡_};
 ghost use mathlib.Core.Bool.{false};
-ghost use Prim.Native.Nat.{_<_, _≤_};
-ghost use Rattle.model.specs.Models.LayOut.{begin, check, nextAlternative, opened, step};
+ghost use Prim.Native.Nat.{_-_, _<_, _≤_};
+ghost use Rattle.model.specs.Models.LayOut.{nextAlternative};
 ghost use Rattle.model.specs.Models.Tokens.{aBar, aClose, aLetter, anOpen};
+ghost use Rattle.tape.specs.Scans.{BeginSays, EndSays, FitSays, frameOf, noFrame, openedAt, ReadyAt, StepSays};
 ghost use Rattle.tape.specs.Tokens.{repeatOf, tokenOf};
-ghost use Rattle.tape.specs.Scans.{frameOf, isEnded, isBarred, Ready, scanOf};
 
 // An open union: its start; whether a bar was met, and then its first alternative's end; the start of the alternative at hand; whether an
 // alternative before that one can be empty; whether what stands before the union in its own sequence can be empty.
@@ -21,68 +22,71 @@ pub struct Frame {
     pub empty_outside: bool,
 }
 
-// The state reached; of the sequence at hand, whether it has no item yet and whether it can be empty so far; the open unions, outermost first,
-// and how many they are, which is the depth of the sequence at hand.
+// The state reached; of the sequence at hand, whether it has no item yet and whether it can be empty so far; and how many unions are open, which
+// is the depth of the sequence at hand.
 pub struct Scan {
     pub position: usize,
     pub no_item: bool,
     pub can_be_empty: bool,
-    pub frames: [Frame; 8],
     pub depth: usize,
+}
+
+// The scan after a token, and the frame to be stored, with its place.
+pub struct Next {
+    pub scan: Scan,
+    pub frame: Frame,
+    pub place: usize,
 }
 
 // Before the first token.
 pub fn begin_scan() -> Scan
-    ensures { λ r. ⌜ scanOf r ≡ begin ⌝ }
+    ensures { λ r. ⌜ BeginSays r ⌝ }
 {
-    let frame = Frame {
+    Scan {
+        position: 0,
+        no_item: true,
+        can_be_empty: true,
+        depth: 0,
+    }
+}
+
+// A frame that no union has.
+pub fn no_frame() -> Frame
+    ensures { λ r. ⌜ r ≡ noFrame ⌝ }
+{
+    Frame {
         start: 0,
         barred: false,
         first_end: 0,
         alternative: 0,
         empty_before: false,
         empty_outside: false,
-    };
-    let frames = [frame; 8];
-    Scan {
-        position: 0,
-        no_item: true,
-        can_be_empty: true,
-        frames,
-        depth: 0,
     }
 }
 
-// Whether a bar was met in the innermost open union.
-fn is_barred(scan: Scan) -> bool
-    requires { ⌜ scan .depth ≤ 8 ⌝ }
-    ensures { λ r. ⌜ r ≡ isBarred scan ⌝ }
+// The place of the innermost frame; where no union is open, any.
+pub fn innermost(depth: usize) -> usize
+    ensures { λ r. ⌜ r ≡ depth - 1 ⌝ }
 {
-    let depth = scan.depth;
-    if depth == 0 {
-        return false;
-    }
-    let frame = scan.frames[depth - 1];
-    frame.barred
+    if depth == 0 { 0 } else { depth - 1 }
 }
 
-// What is asked of a token where it stands: no alternative is empty, a union has at least two, and none lies deeper than 8.
-pub fn fits(scan: Scan, token: Token) -> bool
-    requires { ⌜ scan .depth ≤ 8 ⌝ }
-    ensures { λ r. ⌜ r ≡ check (tokenOf token) (scanOf scan) ⌝ }
+// What is asked of a token where it stands, with the innermost frame: no alternative is empty, a union has at least two, and none lies deeper than 8.
+pub fn fits(scan: Scan, frame: Frame, token: Token) -> bool
+    ensures { λ r. ⌜ FitSays scan frame (tokenOf token) r ⌝ }
 {
     let depth = scan.depth;
     match token {
         Token::Letter(_) => true,
         Token::Open => depth < 8,
         Token::Bar => (depth > 0) & !scan.no_item,
-        Token::Close => is_barred(scan) & !scan.no_item,
+        Token::Close => (depth > 0) & frame.barred & !scan.no_item,
     }
 }
 
 // Whether the tape may end here: no union is open, and there is some item.
 pub fn is_ended(scan: Scan) -> bool
-    ensures { λ r. ⌜ r ≡ isEnded scan ⌝ }
+    ensures { λ r. ⌜ EndSays scan r ⌝ }
 {
     (scan.depth == 0) & !scan.no_item
 }
@@ -90,7 +94,7 @@ pub fn is_ended(scan: Scan) -> bool
 // The frame of a union that opens here.
 fn opened_frame(scan: Scan) -> Frame
     requires { ⌜ scan .position < 511 ⌝ }
-    ensures { λ r. ⌜ frameOf r ≡ opened (scanOf scan) ⌝ }
+    ensures { λ r. ⌜ frameOf r ≡ openedAt scan ⌝ }
 {
     Frame {
         start: scan.position,
@@ -129,80 +133,86 @@ fn next_frame(frame: Frame, position: usize, can_be_empty: bool) -> Frame
     }
 }
 
-fn after_letter(scan: Scan, repeat: Repeat) -> Scan
-    requires { ⌜ scan .position < 511 ⌝ }
-    ensures { λ r. ⌜ scanOf r ≡ step (aLetter 0 (repeatOf repeat)) (scanOf scan) ⌝ }
+fn after_letter(scan: Scan, frame: Frame, repeat: Repeat) -> Next
+    requires { ⌜ (scan .position < 511) × (scan .depth ≤ 8) ⌝ }
+    ensures { λ r. ⌜ StepSays scan frame (aLetter 0 (repeatOf repeat)) r ⌝ }
 {
-    let frames = scan.frames;
     let skips = can_skip(repeat);
-    Scan {
+    let next = Scan {
         position: scan.position + 1,
         no_item: false,
         can_be_empty: scan.can_be_empty & skips,
-        frames,
         depth: scan.depth,
+    };
+    Next {
+        scan: next,
+        frame,
+        place: scan.depth,
     }
 }
 
-fn after_open(scan: Scan) -> Scan
+fn after_open(scan: Scan, frame: Frame) -> Next
     requires { ⌜ (scan .position < 511) × (scan .depth < 8) ⌝ }
-    ensures { λ r. ⌜ scanOf r ≡ step anOpen (scanOf scan) ⌝ }
+    ensures { λ r. ⌜ StepSays scan frame anOpen r ⌝ }
 {
-    let mut frames = scan.frames;
-    let depth = scan.depth;
-    let frame = opened_frame(scan);
-    frames[depth] = frame;
-    Scan {
+    let opened = opened_frame(scan);
+    let next = Scan {
         position: scan.position + 1,
         no_item: true,
         can_be_empty: true,
-        frames,
-        depth: depth + 1,
+        depth: scan.depth + 1,
+    };
+    Next {
+        scan: next,
+        frame: opened,
+        place: scan.depth,
     }
 }
 
-fn after_bar(scan: Scan) -> Scan
+fn after_bar(scan: Scan, frame: Frame) -> Next
     requires { ⌜ (scan .position < 511) × ((0 < scan .depth) × (scan .depth ≤ 8)) ⌝ }
-    ensures { λ r. ⌜ scanOf r ≡ step aBar (scanOf scan) ⌝ }
+    ensures { λ r. ⌜ StepSays scan frame aBar r ⌝ }
 {
-    let mut frames = scan.frames;
-    let top = scan.depth - 1;
-    let frame = next_frame(frames[top], scan.position, scan.can_be_empty);
-    frames[top] = frame;
-    Scan {
+    let barred = next_frame(frame, scan.position, scan.can_be_empty);
+    let next = Scan {
         position: scan.position + 1,
         no_item: true,
         can_be_empty: true,
-        frames,
         depth: scan.depth,
+    };
+    Next {
+        scan: next,
+        frame: barred,
+        place: scan.depth - 1,
     }
 }
 
-fn after_close(scan: Scan) -> Scan
+fn after_close(scan: Scan, frame: Frame) -> Next
     requires { ⌜ (scan .position < 511) × ((0 < scan .depth) × (scan .depth ≤ 8)) ⌝ }
-    ensures { λ r. ⌜ scanOf r ≡ step aClose (scanOf scan) ⌝ }
+    ensures { λ r. ⌜ StepSays scan frame aClose r ⌝ }
 {
-    let frames = scan.frames;
-    let top = scan.depth - 1;
-    let frame = frames[top];
-    Scan {
+    let next = Scan {
         position: scan.position + 1,
         no_item: false,
         can_be_empty: frame.empty_outside & (frame.empty_before | scan.can_be_empty),
-        frames,
-        depth: top,
+        depth: scan.depth - 1,
+    };
+    Next {
+        scan: next,
+        frame,
+        place: scan.depth,
     }
 }
 
 // The scan after a token that fits.
-pub fn step_over(scan: Scan, token: Token) -> Scan
-    requires { ⌜ Ready scan token ⌝ }
-    ensures { λ r. ⌜ scanOf r ≡ step (tokenOf token) (scanOf scan) ⌝ }
+pub fn step_over(scan: Scan, frame: Frame, token: Token) -> Next
+    requires { ⌜ ReadyAt scan frame token ⌝ }
+    ensures { λ r. ⌜ StepSays scan frame (tokenOf token) r ⌝ }
 {
     match token {
-        Token::Letter(repeat) => after_letter(scan, repeat),
-        Token::Open => after_open(scan),
-        Token::Bar => after_bar(scan),
-        Token::Close => after_close(scan),
+        Token::Letter(repeat) => after_letter(scan, frame, repeat),
+        Token::Open => after_open(scan, frame),
+        Token::Bar => after_bar(scan, frame),
+        Token::Close => after_close(scan, frame),
     }
 }

@@ -13,12 +13,11 @@ use Rattle.model.specs.Models.Apart.{depthWord, gatherAt, propagateAt, repeatOf
 use Rattle.model.specs.Models.LayOut.{gather-block, gather-source, gather-target, letter-place, loop-place, scatter-block, scatter-source, scatter-target}
 use Rattle.model.specs.Models.Verdict.{sameWords}
 use Rattle.model.specs.Models.Words.{andWords, eachWord, value}
-use Rattle.tape.specs.Joins.{joinWord}
+use Rattle.tape.specs.Joins.{joinWord, Only}
 use Rattle.tape.specs.Rows.{repeatKind}
 use Rattle.tape.specs.Tables.{Table}
 use Rattle.tape.specs.Tapes.{propagateBlockTable, propagateSourceTable, propagateTargetTable, tableOf}
 use Rattle.tape.specs.declared.Tape.{Tape}
-use Rattle.tape.specs.declared.join.Join.the-variants.{Only}
 use Rattle.image.specs.Work.{threeRows}
 use Rattle.verdict.specs.declared.apart.Marks.{Marks}
 use Rattle.verdict.specs.declared.header.Header.{Header}
@@ -62,6 +61,11 @@ orRows (suc n) f = orFirst (orRows n f) (f n)
 
 abbrev pub someRow : List ℕ → (at stride W n : ℕ) → List ℕ
 someRow ws at stride W n = orRows n (λ k. wordsAt ws (at + stride * k) W)
+
+-- of n words, each a stride after the one before, the bits that some have
+abbrev pub someWord : List ℕ → (at stride n : ℕ) → ℕ
+someWord ws at stride zero = 0
+someWord ws at stride (suc n) = bitOr (someWord ws at stride n) (getD ws (at + stride * n) 0)
 
 -- the states of a block that are not in the source after it: those that an edge enters
 abbrev pub enteredWords : List ℕ → ℕ → ℕ → List ℕ

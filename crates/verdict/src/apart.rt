@@ -6,7 +6,7 @@ ghost use Prim.Native.Nat.{_+_, _*_, _≤_, _<_};
 ghost use lib.ListN.{length as lengthOf};
 ghost use Rattle.model.specs.Models.Apart.{repeatOf};
 ghost use Rattle.tape.specs.Rows.{repeatKind};
-ghost use Rattle.verdict.specs.Work.{ApartAs, enteredRow, enteredWords, kindAt, marksOf, orFirst, someRow, wordsAt};
+ghost use Rattle.verdict.specs.Work.{ApartAs, enteredRow, enteredWords, kindAt, marksOf, orFirst, someRow, someWord};
 
 // The states that some mask has: of the letters, of the repeats, of those that a propagate edge enters, of the gather targets and of the scatter
 // sources.
@@ -18,18 +18,18 @@ pub struct Marks {
     pub opens: [u64; 8],
 }
 
-// A row with the states of the mask at a place.
-fn or_row(row: [u64; 8], words: &[u64], at: usize, width: usize) -> [u64; 8]
-    requires { ⌜ (width ≤ 8) × (at + width ≤ lengthOf (now words)) ⌝ }
-    ensures { λ r. ⌜ r ≡ orFirst row (wordsAt (now (words .entry)) at width) ⌝ }
+// Of `count` words, each `stride` words after the one before, the bits that some have.
+fn some_word(words: &[u64], at: usize, stride: usize, count: usize) -> u64
+    requires { ⌜ (stride ≤ 24) × (count ≤ 256) × (at + stride * count < lengthOf (now words) + stride) ⌝ }
+    ensures { λ r. ⌜ r ≡ someWord (now (words .entry)) at stride count ⌝ }
 {
-    let mut either = row;
-    let mut j: usize = 0;
-    while j < width {
-        either[j] = either[j] | words[at + j];
-        j += 1;
+    let mut some = 0u64;
+    let mut k: usize = 0;
+    while k < count {
+        some = some | words[at + stride * k];
+        k += 1;
     }
-    either
+    some
 }
 
 // The states of `count` masks, each `stride` words after the one before.
@@ -38,11 +38,10 @@ fn some_row(words: &[u64], at: usize, stride: usize, width: usize, count: usize)
     ensures { λ r. ⌜ r ≡ someRow (now (words .entry)) at stride width count ⌝ }
 {
     let mut row = [0u64; 8];
-    let mut k: usize = 0;
-    while k < count {
-        let next = or_row(row, words, at + stride * k, width);
-        row = next;
-        k += 1;
+    let mut j: usize = 0;
+    while j < width {
+        row[j] = some_word(words, at + j, stride, count);
+        j += 1;
     }
     row
 }

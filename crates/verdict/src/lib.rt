@@ -13,7 +13,7 @@ use crate::header::Header;
 use crate::header::read_header;
 use tape::Shape;
 use tape::Tape;
-use tape::well_formed;
+use tape::lay_out;
 ghost use mathlib.Core.Path.{_≡_};
 ghost use Rattle.verdict.specs.Says.{CheckSays};
 ghost use Rattle.verdict.specs.declared.Verdict.the-variants.{Other};
@@ -52,7 +52,11 @@ pub fn check(words: &[u64]) -> Checked
     };
     let marks = marks_of(words, width, depth);
     let tape = take_apart(marks, states - 1);
-    let shape = well_formed(tape);
+    let mut places = [0u64; 16];
+    let mut scatter = [0u64; 216];
+    let mut gather = [0u64; 216];
+    let mut propagate = [0u64; 216];
+    let shape = lay_out(tape, &mut places, &mut scatter, &mut gather, &mut propagate);
     let Shape::Tree(deepest) = shape else {
         return refuse();
     };
@@ -60,7 +64,17 @@ pub fn check(words: &[u64]) -> Checked
         return refuse();
     }
     let letters = marks.letters;
-    if !agrees(words, width, depth, letters, tape) {
+    if !agrees(
+        words,
+        width,
+        depth,
+        letters,
+        tape,
+        &places,
+        &scatter,
+        &gather,
+        &propagate,
+    ) {
         return refuse();
     }
     Checked {

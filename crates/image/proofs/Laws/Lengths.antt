@@ -1,25 +1,21 @@
 -- HOW LONG THE PARTS ARE: a mask has eight words, whether it is made for a byte or is a row of a table, and its first W go into the image.
 use mathlib.Core.Path.{_≡_, refl, sym, ap, _∙_, subst}
 use mathlib.Core.Bool.{Bool, true, false, cond}
-use mathlib.Core.List.{List, [], _∷_, _++_}
-use Prim.Native.Nat.{ℕ, zero, suc, _*_, _≤_, _<_}
-use native.Mathlib.Nat.{le-of-suc-le-suc, not-suc-le-zero}
+use mathlib.Core.List.{List, [], _++_}
+use Prim.Native.Nat.{ℕ, suc, _+_, _*_, _≤_, _<_}
 use native.Mathlib.Omega.{arith}
 use lib.Bits.{bitAnd}
 use lib.Dec.{T}
 use lib.ListN.{getD, length, take, length-append}
 use lib.Seq.{length-take-le}
-use denote.Array.{each, inArray}
-use denote.Plain.{UInt}
-use denote.Shadow.{shadow}
-use mir.Syntax.{w64}
-use mir.Val.{Val}
 use Rattle.model.specs.Models.LayOut.{begin, layOut, Which}
 use Rattle.model.proofs.Image.Rows.{length-set}
 use Rattle.model.proofs.Words.Operations.{each-length}
+use Rattle.tape.specs.Masks.{rowIn, tableIn}
 use Rattle.tape.specs.Tables.{blank, paintAll, Table}
 use Rattle.tape.specs.Tapes.{isTree, tableOf, tokensOf}
 use Rattle.tape.specs.declared.Tape.{Tape}
+use Rattle.tape.proofs.InWords.{row-long, table-row}
 use Rattle.tape.proofs.Painted.{row-is}
 use Rattle.tape.proofs.TableBits.{blank-rows}
 use Rattle.image.specs.Work.{leads, letterRow, repeatRow, threeRows}
@@ -44,16 +40,9 @@ module _ {W : ℕ} (row : List ℕ) (n : ℕ) (narrow : W ≤ 8) where
 abbrev pub Eights : Table → Type 0
 Eights rows = (k : ℕ) → k < 9 → length (getD rows k []) ≡ 8
 
--- what owning a table tells
-each-eight : (rows : Table) (values : List Val) → shadow (each (List ℕ) (inArray ℕ (UInt w64 .own) 8) rows values)
-    → (k : ℕ) → k < length rows → length (getD rows k []) ≡ 8
-each-eight [] values p k h = absurd (not-suc-le-zero h)
-each-eight (row ∷ rows) [] p k h = absurd p
-each-eight (row ∷ rows) (value ∷ values) p zero h = p .0 .1 .0 .1
-each-eight (row ∷ rows) (value ∷ values) p (suc k) h = each-eight rows values (p .1) k (le-of-suc-le-suc h)
-
-pub eights : (rows : Table) (value : List Val) → shadow (inArray (List ℕ) (inArray ℕ (UInt w64 .own) 8) 9 rows value) → Eights rows
-eights rows value p k h = each-eight rows (p .0) (p .1 .1) k (omega (arith, p .1 .0 .1))
+-- the masks that lay out lends
+pub in-eights : (ms : List ℕ) (i : ℕ) → length ms ≡ 216 → i < 3 → Eights (tableIn ms i)
+in-eights ms i e hi k h = ap length (table-row ms i k h) ∙ row-long ms (3 * k + i) (omega arith)
 
 -- what lay out gives for any tape
 pub laid-eights : (t : Tape) (w : Which) → Eights (tableOf t w)
@@ -77,3 +66,10 @@ pub depths-long : {W n : ℕ} (block source target : Table) → W ≤ 8 → n �
     → AllLong (3 * W) n (depthRows W block source target)
 depths-long block source target narrow few b s t k h =
     length-three (getD block k []) (getD source k []) (getD target k []) narrow (b k (omega arith)) (s k (omega arith)) (t k (omega arith))
+
+-- and of the masks that lay out lends, as they are read
+pub three-read : (W : ℕ) (ms : List ℕ) (k : ℕ) {block source target : List ℕ} → k < 9 → block ≡ rowIn ms (3 * k) → source ≡ rowIn ms (3 * k + 1)
+    → target ≡ rowIn ms (3 * k + 2) → threeRows W block source target ≡ depthRows W (tableIn ms 0) (tableIn ms 1) (tableIn ms 2) k
+three-read W ms k h b s t =
+    let first : 3 * k ≡ 3 * k + 0 = omega arith in
+    λ i. threeRows W ((b ∙ ap (rowIn ms) first ∙ sym (table-row ms 0 k h)) i) ((s ∙ sym (table-row ms 1 k h)) i) ((t ∙ sym (table-row ms 2 k h)) i)

@@ -7,6 +7,9 @@ use lib.ListN.{getD, length, take}
 use lib.Seq.{sets}
 use Rattle.model.specs.Image.{section}
 use Rattle.model.specs.Models.LayOut.{gather-block, gather-source, gather-target, loop-place, scatter-block, scatter-source, scatter-target, Which}
+use Rattle.tape.specs.Masks.{rowIn, tableIn}
+use Rattle.tape.specs.Says.{Laid}
+use Rattle.tape.specs.Tables.{Table}
 use Rattle.tape.specs.Tapes.{propagateBlockTable, propagateSourceTable, propagateTargetTable, tableOf}
 use Rattle.tape.specs.declared.Tape.{Tape}
 use Rattle.image.specs.Work.{imageWords, letterRow, lettersPart, repeatRow, repeatsPart, tablesPart}
@@ -18,6 +21,11 @@ use Rattle.image.proofs.Laws.Stores.{sets-on}
 both : (l : List ℕ) (i : ℕ) (us vs : List ℕ) {words after : List ℕ} {n k : ℕ} → length us ≡ n → k ≡ i + n → words ≡ sets l i us
     → after ≡ sets words k vs → after ≡ sets l i (us ++ vs)
 both l i us vs {k = k} long e p q = q ∙ ap (λ (ws : List ℕ). sets ws k vs) p ∙ sets-on l i us vs k (omega arith)
+
+-- a section of tables that are equal
+tables-as : {a a′ b b′ c c′ : Table} → a ≡ a′ → b ≡ b′ → c ≡ c′ → (W d : ℕ) (l : List ℕ) (i : ℕ) {after : List ℕ}
+    → after ≡ sets l i (tablesPart W d a b c) → after ≡ sets l i (tablesPart W d a′ b′ c′)
+tables-as ea eb ec W d l i e = e ∙ (λ j. sets l i (tablesPart W d (ea j) (eb j) (ec j)))
 
 module _ (W d : ℕ) (row : List ℕ) (t : Tape) (narrow : W ≤ 8) (shallow : d ≤ 8) where
   abbrev loops : List ℕ
@@ -41,16 +49,16 @@ module _ (W d : ℕ) (row : List ℕ) (t : Tape) (narrow : W ≤ 8) (shallow : d
       (laid-eights t target))
 
   -- the words after each section, and where the next begins
-  pub whole : (l : List ℕ) {places shaped lettered repeated scattered gathered after : List ℕ} {repeats scatter gather propagate : ℕ} → places ≡ loops
+  pub whole : {p s g r : List ℕ} → Laid t p s g r → (l : List ℕ) {places shaped lettered repeated scattered gathered after : List ℕ}
+      {repeats scatter gather propagate : ℕ} → places ≡ rowIn p 1
       → shaped ≡ sets l 0 (section (suc (t .length) ∷ W ∷ d ∷ []))
       → lettered ≡ sets shaped 4 (lettersPart W row (t .length)) → repeats ≡ 4 + 1 + 256 * W
       → repeated ≡ sets lettered repeats (repeatsPart W row (t .length) places) → scatter ≡ repeats + 1 + 256 * W
-      → scattered ≡ sets repeated scatter (laidPart scatter-block scatter-source scatter-target) → gather ≡ scatter + 1 + 3 * W * d
-      → gathered ≡ sets scattered gather (laidPart gather-block gather-source gather-target) → propagate ≡ gather + 1 + 3 * W * d
-      → after ≡ sets gathered propagate (tablesPart W (suc d) (propagateBlockTable t) (propagateSourceTable t) (propagateTargetTable t))
-      → after ≡ sets l 0 (imageWords W d row t)
-  whole l {shaped = shaped} {lettered = lettered} {repeated = repeated} {scattered = scattered} {repeats = repeats} {scatter = scatter} {gather = gather}
-      are-loops by-shape by-letters to-repeats by-repeats to-scatter by-scatter to-gather by-gather to-propagate by-propagate =
+      → scattered ≡ sets repeated scatter (tablesPart W d (tableIn s 0) (tableIn s 1) (tableIn s 2)) → gather ≡ scatter + 1 + 3 * W * d
+      → gathered ≡ sets scattered gather (tablesPart W d (tableIn g 0) (tableIn g 1) (tableIn g 2)) → propagate ≡ gather + 1 + 3 * W * d
+      → after ≡ sets gathered propagate (tablesPart W (suc d) (tableIn r 0) (tableIn r 1) (tableIn r 2)) → after ≡ sets l 0 (imageWords W d row t)
+  whole L l {shaped = shaped} {lettered = lettered} {repeated = repeated} {scattered = scattered} {gathered = gathered} {repeats = repeats} {scatter = scatter}
+      {gather = gather} {propagate = propagate} are-loops by-shape by-letters to-repeats by-repeats to-scatter by-scatter to-gather by-gather to-propagate by-propagate =
       let shapePart = section (suc (t .length) ∷ W ∷ d ∷ []) in
       let letterPart = lettersPart W row (t .length) in
       let repeatPart = repeatsPart W row (t .length) loops in
@@ -63,6 +71,9 @@ module _ (W d : ℕ) (row : List ℕ) (t : Tape) (narrow : W ≤ 8) (shallow : d
       both l 0 shapePart (letterPart ++ fromRepeats) refl refl by-shape
       (both shaped 4 letterPart fromRepeats length-letters (omega arith) by-letters
       (both lettered repeats repeatPart fromScatter length-repeats (omega arith)
-      (by-repeats ∙ ap (λ (ws : List ℕ). sets lettered repeats (repeatsPart W row (t .length) ws)) are-loops)
-      (both repeated scatter scatterPart fromGather (length-laid scatter-block scatter-source scatter-target) (omega arith) by-scatter
-      (both scattered gather gatherPart propagatePart (length-laid gather-block gather-source gather-target) (omega arith) by-gather by-propagate))))
+      (by-repeats ∙ ap (λ (ws : List ℕ). sets lettered repeats (repeatsPart W row (t .length) ws)) (are-loops ∙ L .loop-places))
+      (both repeated scatter scatterPart fromGather (length-laid scatter-block scatter-source scatter-target) (omega arith)
+      (tables-as (L .scatter-blocks) (L .scatter-sources) (L .scatter-targets) W d repeated scatter by-scatter)
+      (both scattered gather gatherPart propagatePart (length-laid gather-block gather-source gather-target) (omega arith)
+      (tables-as (L .gather-blocks) (L .gather-sources) (L .gather-targets) W d scattered gather by-gather)
+      (tables-as (L .propagate-blocks) (L .propagate-sources) (L .propagate-targets) W (suc d) gathered propagate by-propagate)))))

@@ -1,16 +1,16 @@
 -- `store`: each answer says what `Laws.Answers` proves of it; a tape told to be a tree's is within the limits that the callees ask for.
 use mathlib.Core.Path.{refl}
 use native.Mathlib.Omega.{arith}
-use borrow.Author.Needs.{needs}
 use Rattle.image.proofs.Laws.Answers.{few, keeps, says-no-room, says-no-tree, says-stored, shallow, taped}
+use borrow.Author.Needs.{needs}
 use Rattle.image.proofs.store.Statement.{statement}
 use Rattle.image.proofs.store.Tie as tie
 
 tape-of-requires : tie.Need-tape-of-requires
 tape-of-requires c κs = search needs
 
-well-formed-requires : tie.Need-well-formed-requires
-well-formed-requires c κs = search needs
+lay-out-requires : tie.Need-lay-out-requires
+lay-out-requires c κs = search needs
 
 enum-known-shape : tie.Need-enum-known-shape
 enum-known-shape c = search needs
@@ -21,59 +21,60 @@ enum-told c = search needs
 returns : tie.Need-returns
 returns c =
     let w = c .before .before in
-    let t = w .before .tape-of in
-    let a = w .before .before .before .args in
-    let T = taped (a .tokens) (t .result) _ (t .ensures .0) (t .ensures .1) (t .ok .1 .1 .0 .1 .0 .1) (w .well-formed .ensures .1) in
+    let t = w .before .before .before .before .before .tape-of in
+    let a = w .before .before .before .before .before .before .before .args in
+    let T = taped (a .tokens) (t .result) _ (t .ensures .0) (t .ensures .1) (t .ok .1 .1 .0 .1 .0 .1) (w .lay-out .ensures .1 .0) in
     (says-no-tree T (a .words .now) (c .enum-told .given .1), refl)
 
 add-width-of : tie.Need-add-width-of
 add-width-of c =
     let w = c .before .before .before in
-    let t = w .before .tape-of in
-    let a = w .before .before .before .args in
-    let T = taped (a .tokens) (t .result) _ (t .ensures .0) (t .ensures .1) (t .ok .1 .1 .0 .1 .0 .1) (w .well-formed .ensures .1) in
+    let t = w .before .before .before .before .before .tape-of in
+    let a = w .before .before .before .before .before .before .before .args in
+    let T = taped (a .tokens) (t .result) _ (t .ensures .0) (t .ensures .1) (t .ok .1 .1 .0 .1 .0 .1) (w .lay-out .ensures .1 .0) in
     omega (arith, few T (c .before .shape .given .1))
 
 width-of-requires : tie.Need-width-of-requires
 width-of-requires c κs =
     let w = c .before .before .before in
-    let t = w .before .tape-of in
-    let a = w .before .before .before .args in
-    let T = taped (a .tokens) (t .result) _ (t .ensures .0) (t .ensures .1) (t .ok .1 .1 .0 .1 .0 .1) (w .well-formed .ensures .1) in
+    let t = w .before .before .before .before .before .tape-of in
+    let a = w .before .before .before .before .before .before .before .args in
+    let T = taped (a .tokens) (t .result) _ (t .ensures .0) (t .ensures .1) (t .ok .1 .1 .0 .1 .0 .1) (w .lay-out .ensures .1 .0) in
     few T (c .before .shape .given .1)
 
 image-length-requires : tie.Need-image-length-requires
 image-length-requires c κs =
-    let p = c .before .before .shape .given .1 in
     let w = c .before .before .before .before in
-    let t = w .before .tape-of in
-    let a = w .before .before .before .args in
-    let T = taped (a .tokens) (t .result) _ (t .ensures .0) (t .ensures .1) (t .ok .1 .1 .0 .1 .0 .1) (w .well-formed .ensures .1) in
+    let t = w .before .before .before .before .before .tape-of in
+    let a = w .before .before .before .before .before .before .before .args in
+    let T = taped (a .tokens) (t .result) _ (t .ensures .0) (t .ensures .1) (t .ok .1 .1 .0 .1 .0 .1) (w .lay-out .ensures .1 .0) in
+    let p = c .before .before .shape .given .1 in
     (omega (arith, c .width-of .ensures, few T p), shallow T p)
 
 returns-2 : tie.Need-returns-2
 returns-2 c =
-    let p = c .before .before .before .before .shape .given .1 in
     let w = c .before .before .before .before .before .before in
-    let t = w .before .tape-of in
-    let a = w .before .before .before .args in
-    let T = taped (a .tokens) (t .result) _ (t .ensures .0) (t .ensures .1) (t .ok .1 .1 .0 .1 .0 .1) (w .well-formed .ensures .1) in (
-      says-no-room T p (a .words .now) (c .before .before .width-of .ensures) (c .before .image-length .ensures) (c .if1 .taken),
-      refl,
-    )
+    let t = w .before .before .before .before .before .tape-of in
+    let a = w .before .before .before .before .before .before .before .args in
+    let T = taped (a .tokens) (t .result) _ (t .ensures .0) (t .ensures .1) (t .ok .1 .1 .0 .1 .0 .1) (w .lay-out .ensures .1 .0) in
+    let p = c .before .before .before .before .shape .given .1 in
+    (says-no-room T p (a .words .now) (c .before .before .width-of .ensures) (c .before .image-length .ensures) (c .if1 .taken), refl)
 
 put-image-requires : tie.Need-put-image-requires
 put-image-requires c κs =
-    let p = c .before .before .before .before .before .shape .given .1 in
-    let w = c .before .before .before .before .before .before .before in
-    let t = w .before .tape-of in
-    let a = w .before .before .before .args in
-    let T = taped (a .tokens) (t .result) _ (t .ensures .0) (t .ensures .1) (t .ok .1 .1 .0 .1 .0 .1) (w .well-formed .ensures .1) in
+    let w = c .before .before .before .before .before .before .before .before .before .before .before in
+    let t = w .before .before .before .before .before .tape-of in
+    let a = w .before .before .before .before .before .before .before .args in
+    let T = taped (a .tokens) (t .result) _ (t .ensures .0) (t .ensures .1) (t .ok .1 .1 .0 .1 .0 .1) (w .lay-out .ensures .1 .0) in
+    let p = c .before .before .before .before .before .before .before .before .before .shape .given .1 in
     let f = few T p in (
-      omega (arith, c .before .before .before .width-of .ensures, f),
-      shallow T p,
-      omega (arith, t .ensures .0, f),
-      omega (arith, c .before .before .image-length .ensures, c .before .if1 .left),
+      (
+        omega (arith, c .before .before .before .before .before .before .before .width-of .ensures, f),
+        shallow T p,
+        omega (arith, t .ensures .0, f),
+        omega (arith, c .before .before .before .before .before .before .image-length .ensures, c .before .before .before .before .before .if1 .left),
+      ),
+      w .lay-out .ensures .1 .1 .0,
     )
 
 same-length : tie.Need-same-length
@@ -81,16 +82,15 @@ same-length c = search needs
 
 returns-3 : tie.Need-returns-3
 returns-3 c =
-    let l = c .before .before .before .before .before in
-    let p = l .before .before .before .shape .given .1 in
-    let w = l .before .before .before .before .before in
-    let t = w .before .tape-of in
-    let a = w .before .before .before .args in
-    let T = taped (a .tokens) (t .result) _ (t .ensures .0) (t .ensures .1) (t .ok .1 .1 .0 .1 .0 .1) (w .well-formed .ensures .1) in
-    let fits = c .before .before .before .before .if1 .left in
+    let w = c .before .before .before .before .before .before .before .before .before .before .before .before .before .before in
+    let t = w .before .before .before .before .before .tape-of in
+    let a = w .before .before .before .before .before .before .before .args in
+    let T = taped (a .tokens) (t .result) _ (t .ensures .0) (t .ensures .1) (t .ok .1 .1 .0 .1 .0 .1) (w .lay-out .ensures .1 .0) in
+    let p = c .before .before .before .before .before .before .before .before .before .before .before .before .shape .given .1 in
+    let fits = c .before .before .before .before .before .before .before .before .if1 .left in
     let is = c .before .before .put-image .ensures in (
-      says-stored T p (a .words .now) (l .before .width-of .ensures) (l .image-length .ensures) fits is,
-      keeps T p (a .words .now) (l .before .width-of .ensures) (l .image-length .ensures) fits is,
+      says-stored T p (a .words .now) (c .before .before .before .before .before .before .before .before .before .before .width-of .ensures) (c .before .before .before .before .before .before .before .before .before .image-length .ensures) fits is,
+      keeps T p (a .words .now) (c .before .before .before .before .before .before .before .before .before .before .width-of .ensures) (c .before .before .before .before .before .before .before .before .before .image-length .ensures) fits is,
     )
 
 pub store-spec : {M : Type 1} → statement M
@@ -98,7 +98,7 @@ store-spec =
     tie.close
     (tie.spec
     tape-of-requires
-    well-formed-requires
+    lay-out-requires
     enum-known-shape
     enum-told
     returns

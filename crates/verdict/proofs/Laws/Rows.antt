@@ -1,26 +1,28 @@
 -- A ROW MADE OF MASKS, one after another, has a state exactly if some of the masks has it: `or` works on each word apart, and on each bit of a word.
 use mathlib.Core.Path.{_≡_, refl, sym, ap, ap₂, _∙_}
+use mathlib.Core.Logic.{_⊎_, inl, inr}
 use mathlib.Core.Bool.{Bool, not, _&&_, _||_, or-comm}
 use mathlib.Core.List.{List, [], _∷_}
 use Prim.Native.Nat.{ℕ, zero, suc, _+_, _-_, _*_, _/_, _%_, _^_, _≤_, _<_}
 use native.Mathlib.Nat.{le-of-suc-le-suc, le-refl, not-suc-le-zero}
 use native.Mathlib.Numerals.{add-one}
 use native.Mathlib.Omega.{arith}
+use borrow.Author.Count.{below-more}
 use lib.Bits.{and-lt, bitOr, or-lt, or-zero-l, or-zero-r}
-use lib.ListN.{drop, getD, length, length-drop, set, take}
+use lib.ListN.{drop, getD, getD-replicate, length, length-drop, length-set, List·getD-eq-default, replicate, set, take}
 use lib.Pow.{ones-sub-lt}
-use lib.Seq.{getD-drop, getD-take, length-take-le}
+use lib.Seq.{ext-getD, getD-drop, getD-set-other, getD-set-same, getD-take, length-take-le}
 use Rattle.model.specs.Bits.{bit}
 use Rattle.model.specs.Models.Apart.{anyBelow}
 use Rattle.model.specs.Models.Words.{eachWord, Fit, value}
 use Rattle.model.proofs.Laws.Bits.{bit-zero}
+use Rattle.model.proofs.Laws.Bool.{le-or-lt}
 use Rattle.model.proofs.Words.Bits.{bit-and, bit-not, bit-or}
 use Rattle.mask.proofs.Laws.Bits.{none-bit, none-fit, row-bit}
 use Rattle.model.proofs.Words.Operations.{each-length}
 use Rattle.mask.proofs.Laws.Each.{each-word}
-use Rattle.tape.specs.Joins.{joinWord}
-use Rattle.tape.specs.declared.join.Join.the-variants.{Only}
-use Rattle.verdict.specs.Work.{enteredWords, orFirst, orRows, wordsAt}
+use Rattle.tape.specs.Joins.{joinWord, Only}
+use Rattle.verdict.specs.Work.{enteredWords, orFirst, orRows, someRow, someWord, wordsAt}
 
 -- ---- a mask as it lies in words
 module _ (ws : List ℕ) (at W : ℕ) (fits : at + W ≤ length ws) where
@@ -132,3 +134,60 @@ only-bit xs ys x e f g =
     row-bit (eachWord (joinWord Only) xs ys) x (only-fit xs ys f)
     ∙ only-word xs ys (x / 64) (x % 64) e g (omega arith)
     ∙ ap₂ (λ (a b : Bool). a && not b) (sym (row-bit xs x f)) (sym (row-bit ys x g))
+
+-- ---- word by word, of masks that stand a stride apart
+-- the first j words of the row of n masks are made, those after them are 0
+pub record RowTo (ws : List ℕ) (at stride n j : ℕ) (row : List ℕ) : Type 0 where
+  pub long : length row ≡ 8
+  pub done : (k : ℕ) → k < j → getD row k 0 ≡ someWord ws (at + k) stride n
+  pub rest : (k : ℕ) → j ≤ k → k < 8 → getD row k 0 ≡ 0
+
+module _ (ws : List ℕ) (at stride W : ℕ) (narrow : W ≤ 8) where
+  -- the first n masks lie within the words
+  abbrev Inside : ℕ → Type 0
+  Inside n = (k : ℕ) → k < n → at + stride * k + W ≤ length ws
+
+  fewer : (n : ℕ) → Inside (suc n) → Inside n
+  fewer n I k h = I k (omega arith)
+
+  some-more : (n j : ℕ) → Inside (suc n)
+      → getD (someRow ws at stride W (suc n)) j 0 ≡ bitOr (getD (someRow ws at stride W n) j 0) (getD (wordsAt ws (at + stride * n) W) j 0)
+  some-more n j I =
+      or-word (someRow ws at stride W n) (wordsAt ws (at + stride * n) W) j
+      (omega (arith, rows-length (λ k. wordsAt ws (at + stride * k) W) n, words-long ws (at + stride * n) W (I n (le-refl (suc n)))))
+
+  some-at : (n j : ℕ) → j < W → Inside n → getD (someRow ws at stride W n) j 0 ≡ someWord ws (at + j) stride n
+  some-at zero j h I = getD-replicate 8 j 0 0 (omega arith)
+  some-at (suc n) j h I =
+      let there : at + stride * n + j ≡ at + j + stride * n = omega arith in
+      some-more n j I
+      ∙ ap₂ bitOr (some-at n j h (fewer n I))
+      (sym (word-at ws (at + stride * n) W (I n (le-refl (suc n))) j h) ∙ ap (λ (i : ℕ). getD ws i 0) there)
+
+  some-past : (n j : ℕ) → W ≤ j → j < 8 → Inside n → getD (someRow ws at stride W n) j 0 ≡ 0
+  some-past zero j h l I = getD-replicate 8 j 0 0 l
+  some-past (suc n) j h l I =
+      some-more n j I
+      ∙ ap₂ bitOr (some-past n j h l (fewer n I))
+      (List·getD-eq-default (wordsAt ws (at + stride * n) W) 0 (omega (arith, words-long ws (at + stride * n) W (I n (le-refl (suc n))))))
+      ∙ or-zero-l 0
+
+  pub row-none : (n : ℕ) → RowTo ws at stride n 0 (replicate 8 0)
+  row-none n = record { long = refl; done = λ k h. absurd (not-suc-le-zero h); rest = λ k h l. getD-replicate 8 k 0 0 l }
+
+  pub row-more : {n j : ℕ} {row : List ℕ} {v : ℕ} → RowTo ws at stride n j row → j < W → v ≡ someWord ws (at + j) stride n → RowTo ws at stride n (j + 1) (set row j v)
+  row-more {n} {j} {row} {v} R h e = record {
+    long = length-set row j v ∙ R .long;
+    done =
+        below-more (λ (k : ℕ). getD (set row j v) k 0 ≡ someWord ws (at + k) stride n) j
+        (λ k l. getD-set-other row j k v 0 (λ q. omega arith) ∙ R .done k l) (getD-set-same row j v 0 (omega (arith, R .long)) ∙ e);
+    rest = λ k l m. getD-set-other row j k v 0 (λ q. omega arith) ∙ R .rest k (omega arith) m;
+  }
+
+  pub row-all : {n j : ℕ} {row : List ℕ} → RowTo ws at stride n j row → j ≡ W → Inside n → row ≡ someRow ws at stride W n
+  row-all {n} {j} {row} R e I =
+      ext-getD 0 row (someRow ws at stride W n) (R .long ∙ sym (rows-length (λ k. wordsAt ws (at + stride * k) W) n)) (λ k l. go k (omega (arith, R .long)) (le-or-lt W k))
+    where
+      go : (k : ℕ) → k < 8 → (W ≤ k) ⊎ (k < W) → getD row k 0 ≡ getD (someRow ws at stride W n) k 0
+      go k l (inl h) = R .rest k (omega arith) l ∙ sym (some-past n k h l I)
+      go k l (inr h) = R .done k (omega arith) ∙ sym (some-at n k h I)

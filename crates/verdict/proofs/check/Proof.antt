@@ -1,16 +1,11 @@
 -- Each way out is one of the laws of Laws/Answers, for what was taken from the words so far.
-use mathlib.Core.Path.{_≡_, refl, sym, ap, _∙_, subst}
-use mathlib.Core.Bool.{true, false}
-use mathlib.Core.List.{List}
-use Prim.Native.Nat.{ℕ, _+_, _-_, _*_, _≤_, _<_}
-use native.Mathlib.Omega.{arith}
-use lib.ListN.{length}
-use borrow.Author.Needs.{needs}
+use mathlib.Core.Path.{sym, _∙_}
 use Rattle.mask.proofs.Laws.Bits.{fit-row}
 use Rattle.verdict.specs.Says.{is-other}
 use Rattle.verdict.specs.Work.{headerFits}
 use Rattle.verdict.proofs.Laws.Answers.{counted, image-found, no-header, no-tree, not-false, not-true, other-depth, sized, taken-of, words-differ}
 use Rattle.verdict.proofs.Laws.Header.{not-told, told}
+use borrow.Author.Needs.{needs}
 use Rattle.verdict.proofs.check.Statement.{statement}
 use Rattle.verdict.proofs.check.Tie as tie
 
@@ -24,7 +19,7 @@ enum-told : tie.Need-enum-told
 enum-told c = search needs
 
 refuse-requires : tie.Need-refuse-requires
-refuse-requires c = search needs
+refuse-requires c κs = search needs
 
 returns : tie.Need-returns
 returns c =
@@ -47,8 +42,8 @@ take-apart-requires c κs =
     let ws = c .before .before .before .before .before .before .args .words .now in
     counted (told (headerFits ws) ws (c .before .before .before .before .read-header .ensures) (c .before .before .header .given .1)) .1
 
-well-formed-requires : tie.Need-well-formed-requires
-well-formed-requires c = search needs
+lay-out-requires : tie.Need-lay-out-requires
+lay-out-requires c κs = search needs
 
 enum-known-shape : tie.Need-enum-known-shape
 enum-known-shape c = search needs
@@ -57,58 +52,58 @@ enum-told-2 : tie.Need-enum-told-2
 enum-told-2 c = search needs
 
 refuse-requires-2 : tie.Need-refuse-requires-2
-refuse-requires-2 c = search needs
+refuse-requires-2 c κs = search needs
 
 returns-2 : tie.Need-returns-2
 returns-2 c =
-    let ws = c .before .before .before .before .before .before .before .before .before .before .before .args .words .now in
-    let t = c .before .before .before .before .take-apart in
-    let w = c .before .before .before .well-formed in
-    let K = taken-of _ (fit-row ws (c .before .before .before .before .before .before .before .before .before .before .shared-slice-known .given)) (c .before .before .before .before .before .before .before .before .before .read-header .ensures) (c .before .before .before .before .before .before .before .header .given .1)
-    (c .before .before .before .before .before .marks-of .ensures) (t .ensures) (t .ok .1 .1 .0 .1 .0 .1) in
+    let ws = c .before .before .before .before .before .before .before .before .before .before .before .before .before .before .before .args .words .now in
+    let t = c .before .before .before .before .before .before .before .before .take-apart in
+    let w = c .before .before .before .lay-out in
+    let K = taken-of _ (fit-row ws (c .before .before .before .before .before .before .before .before .before .before .before .before .before .before .shared-slice-known .given)) (c .before .before .before .before .before .before .before .before .before .before .before .before .before .read-header .ensures) (c .before .before .before .before .before .before .before .before .before .before .before .header .given .1)
+    (c .before .before .before .before .before .before .before .before .before .marks-of .ensures) (t .ensures) (t .ok .1 .1 .0 .1 .0 .1) in
     is-other (no-tree K (sym (w .ensures .0) ∙ c .before .enum-told2 .given .1)) (c .refuse2 .ensures)
 
 refuse-requires-3 : tie.Need-refuse-requires-3
-refuse-requires-3 c = search needs
+refuse-requires-3 c κs = search needs
 
 returns-3 : tie.Need-returns-3
 returns-3 c =
-    let ws = c .before .before .before .before .before .before .before .before .before .before .before .before .before .args .words .now in
-    let t = c .before .before .before .before .before .before .take-apart in
-    let w = c .before .before .before .before .before .well-formed in
-    let K = taken-of _ (fit-row ws (c .before .before .before .before .before .before .before .before .before .before .before .before .shared-slice-known .given)) (c .before .before .before .before .before .before .before .before .before .before .before .read-header .ensures) (c .before .before .before .before .before .before .before .before .before .header .given .1)
-    (c .before .before .before .before .before .before .before .marks-of .ensures) (t .ensures) (t .ok .1 .1 .0 .1 .0 .1) in
+    let ws = c .before .before .before .before .before .before .before .before .before .before .before .before .before .before .before .before .before .args .words .now in
+    let t = c .before .before .before .before .before .before .before .before .before .before .take-apart in
+    let w = c .before .before .before .before .before .lay-out in
+    let K = taken-of _ (fit-row ws (c .before .before .before .before .before .before .before .before .before .before .before .before .before .before .before .before .shared-slice-known .given)) (c .before .before .before .before .before .before .before .before .before .before .before .before .before .before .before .read-header .ensures) (c .before .before .before .before .before .before .before .before .before .before .before .before .before .header .given .1)
+    (c .before .before .before .before .before .before .before .before .before .before .before .marks-of .ensures) (t .ensures) (t .ok .1 .1 .0 .1 .0 .1) in
     let g = c .before .before .before .shape .given in
     is-other (other-depth K (g .0 .0) (sym (w .ensures .0) ∙ g .1) (c .before .if1 .taken)) (c .refuse3 .ensures)
 
 agrees-requires : tie.Need-agrees-requires
 agrees-requires c κs =
-    let ws = c .before .before .before .before .before .before .before .before .before .before .before .before .before .args .words .now in
-    sized (told (headerFits ws) ws (c .before .before .before .before .before .before .before .before .before .before .before .read-header .ensures) (c .before .before .before .before .before .before .before .before .before .header .given .1))
+    let ws = c .before .before .before .before .before .before .before .before .before .before .before .before .before .before .before .before .before .before .before .before .before .args .words .now in
+    (sized (told (headerFits ws) ws (c .before .before .before .before .before .before .before .before .before .before .before .before .before .before .before .before .before .before .before .read-header .ensures) (c .before .before .before .before .before .before .before .before .before .before .before .before .before .before .before .before .before .header .given .1)), c .before .before .before .before .before .before .before .before .before .lay-out .ensures .1 .1 .0)
 
 refuse-requires-4 : tie.Need-refuse-requires-4
-refuse-requires-4 c = search needs
+refuse-requires-4 c κs = search needs
 
 returns-4 : tie.Need-returns-4
 returns-4 c =
-    let ws = c .before .before .before .before .before .before .before .before .before .before .before .before .before .before .before .before .args .words .now in
-    let t = c .before .before .before .before .before .before .before .before .before .take-apart in
-    let w = c .before .before .before .before .before .before .before .before .well-formed in
-    let K = taken-of _ (fit-row ws (c .before .before .before .before .before .before .before .before .before .before .before .before .before .before .before .shared-slice-known .given)) (c .before .before .before .before .before .before .before .before .before .before .before .before .before .before .read-header .ensures) (c .before .before .before .before .before .before .before .before .before .before .before .before .header .given .1)
-    (c .before .before .before .before .before .before .before .before .before .before .marks-of .ensures) (t .ensures) (t .ok .1 .1 .0 .1 .0 .1) in
+    let ws = c .before .before .before .before .before .before .before .before .before .before .before .before .before .before .before .before .before .before .before .before .before .before .before .before .args .words .now in
+    let t = c .before .before .before .before .before .before .before .before .before .before .before .before .before .before .before .before .before .take-apart in
+    let w = c .before .before .before .before .before .before .before .before .before .before .before .before .lay-out in
+    let K = taken-of _ (fit-row ws (c .before .before .before .before .before .before .before .before .before .before .before .before .before .before .before .before .before .before .before .before .before .before .before .shared-slice-known .given)) (c .before .before .before .before .before .before .before .before .before .before .before .before .before .before .before .before .before .before .before .before .before .before .read-header .ensures) (c .before .before .before .before .before .before .before .before .before .before .before .before .before .before .before .before .before .before .before .before .header .given .1)
+    (c .before .before .before .before .before .before .before .before .before .before .before .before .before .before .before .before .before .before .marks-of .ensures) (t .ensures) (t .ok .1 .1 .0 .1 .0 .1) in
     let a = c .before .before .agrees in
     is-other (words-differ K (sym (a .ensures) ∙ not-true (a .result) (c .before .if2 .taken))) (c .refuse4 .ensures)
 
 returns-5 : tie.Need-returns-5
 returns-5 c =
-    let ws = c .before .before .before .before .before .before .before .before .before .before .before .before .before .before .before .args .words .now in
-    let t = c .before .before .before .before .before .before .before .before .take-apart in
-    let w = c .before .before .before .before .before .before .before .well-formed in
-    let K = taken-of _ (fit-row ws (c .before .before .before .before .before .before .before .before .before .before .before .before .before .before .shared-slice-known .given)) (c .before .before .before .before .before .before .before .before .before .before .before .before .before .read-header .ensures) (c .before .before .before .before .before .before .before .before .before .before .before .header .given .1)
-    (c .before .before .before .before .before .before .before .before .before .marks-of .ensures) (t .ensures) (t .ok .1 .1 .0 .1 .0 .1) in
+    let ws = c .before .before .before .before .before .before .before .before .before .before .before .before .before .before .before .before .before .before .before .before .before .before .before .args .words .now in
+    let t = c .before .before .before .before .before .before .before .before .before .before .before .before .before .before .before .before .take-apart in
+    let w = c .before .before .before .before .before .before .before .before .before .before .before .lay-out in
+    let K = taken-of _ (fit-row ws (c .before .before .before .before .before .before .before .before .before .before .before .before .before .before .before .before .before .before .before .before .before .before .shared-slice-known .given)) (c .before .before .before .before .before .before .before .before .before .before .before .before .before .before .before .before .before .before .before .before .before .read-header .ensures) (c .before .before .before .before .before .before .before .before .before .before .before .before .before .before .before .before .before .before .before .header .given .1)
+    (c .before .before .before .before .before .before .before .before .before .before .before .before .before .before .before .before .before .marks-of .ensures) (t .ensures) (t .ok .1 .1 .0 .1 .0 .1) in
     let a = c .before .agrees in
-    let g = c .before .before .before .before .before .shape .given in
-    image-found K (g .0 .0) (sym (w .ensures .0) ∙ g .1) (c .before .before .before .if1 .left) (sym (a .ensures) ∙ not-false (a .result) (c .if2 .left))
+    let g = c .before .before .before .before .before .before .before .before .before .shape .given in
+    image-found K (g .0 .0) (sym (w .ensures .0) ∙ g .1) (c .before .before .before .before .before .before .before .if1 .left) (sym (a .ensures) ∙ not-false (a .result) (c .if2 .left))
 
 pub check-spec : {M : Type 1} → statement M
 check-spec =
@@ -122,7 +117,7 @@ check-spec =
     marks-of-requires
     sub-take-apart
     take-apart-requires
-    well-formed-requires
+    lay-out-requires
     enum-known-shape
     enum-told-2
     refuse-requires-2

@@ -1,12 +1,13 @@
--- `sections::put_image`: each section is written where the one before it ends.
+-- `sections::put_image`: each section is written where the one before it ends, from the masks that lay out gives.
 use native.Mathlib.Numerals.{add-one}
-use borrow.Author.Needs.{needs}
+use native.Mathlib.Omega.{arith}
 use Rattle.image.proofs.Laws.Whole.{whole}
+use borrow.Author.Needs.{needs}
 use Rattle.image.proofs.sections.put_image.Statement.{statement}
 use Rattle.image.proofs.sections.put_image.Tie as tie
 
-loop-places-requires : tie.Need-loop-places-requires
-loop-places-requires c κs = search needs
+row-of-requires : tie.Need-row-of-requires
+row-of-requires c κs = search needs
 
 add-put-shape : tie.Need-add-put-shape
 add-put-shape c = search needs
@@ -20,14 +21,51 @@ put-letters-requires c κs = search needs
 put-repeats-requires : tie.Need-put-repeats-requires
 put-repeats-requires c κs = search needs
 
-put-scatter-requires : tie.Need-put-scatter-requires
-put-scatter-requires c κs = search needs
+put-tables-requires : tie.Need-put-tables-requires
+put-tables-requires c κs = search needs
 
-put-gather-requires : tie.Need-put-gather-requires
-put-gather-requires c κs = search needs
+put-tables-requires-2 : tie.Need-put-tables-requires-2
+put-tables-requires-2 c κs =
+    let s = c .before .before .before .before .before .before .before .before .before .before .before .before .before .before .before .before .before .before .before .before .before .before .before .before in (
+      s .pre .0 .0,
+      omega (arith, s .pre .0 .1),
+      omega (
+        arith,
+        s .pre .0 .3,
+        c .before .before .before .words4 .given,
+        c .before .before .before .before .before .before .before .before .words3 .given,
+        c .before .before .before .before .before .before .before .before .before .before .before .before .before .words2 .given,
+        c .before .before .before .before .before .before .before .before .before .before .before .before .before .before .before .before .before .before .words .given,
+        c .before .before .before .before .put-tables .ensures .0,
+        c .before .before .before .before .before .before .before .before .before .put-repeats .ensures .0,
+        c .before .before .before .before .before .before .before .before .before .before .before .before .before .before .put-letters .ensures .0,
+      ),
+      c .put-tables-arg4 .given .0,
+    )
 
-put-propagate-requires : tie.Need-put-propagate-requires
-put-propagate-requires c κs = search needs
+add-put-tables : tie.Need-add-put-tables
+add-put-tables c = omega (arith, c .before .before .before .before .before .before .before .before .before .before .before .before .before .before .before .before .before .before .before .before .before .before .before .before .before .before .before .before .pre .0 .1)
+
+put-tables-requires-3 : tie.Need-put-tables-requires-3
+put-tables-requires-3 c κs =
+    let s = c .before .before .before .before .before .before .before .before .before .before .before .before .before .before .before .before .before .before .before .before .before .before .before .before .before .before .before .before .before in (
+      s .pre .0 .0,
+      omega (arith, s .pre .0 .1),
+      omega (
+        arith,
+        s .pre .0 .3,
+        c .before .before .before .words5 .given,
+        c .before .before .before .before .before .before .before .before .words4 .given,
+        c .before .before .before .before .before .before .before .before .before .before .before .before .before .words3 .given,
+        c .before .before .before .before .before .before .before .before .before .before .before .before .before .before .before .before .before .before .words2 .given,
+        c .before .before .before .before .before .before .before .before .before .before .before .before .before .before .before .before .before .before .before .before .before .before .before .words .given,
+        c .before .before .before .before .put-tables2 .ensures .0,
+        c .before .before .before .before .before .before .before .before .before .put-tables .ensures .0,
+        c .before .before .before .before .before .before .before .before .before .before .before .before .before .before .put-repeats .ensures .0,
+        c .before .before .before .before .before .before .before .before .before .before .before .before .before .before .before .before .before .before .before .put-letters .ensures .0,
+      ),
+      c .put-tables-arg6 .given .0,
+    )
 
 same-length : tie.Need-same-length
 same-length c = search needs
@@ -35,31 +73,30 @@ same-length c = search needs
 returns : tie.Need-returns
 returns c =
     let propagate = c .before .before in
-    let gather = propagate .before .before .before .before in
-    let scatter = gather .before .before .before .before in
-    let repeats = scatter .before .before .before .before in
-    let letters = repeats .before .before .before .before .before in
-    let shape = letters .before .before .before .before .before in
-    let places = shape .before .before in
-    let s = places .before .before in
+    let gather = c .before .before .before .before .before .before .before in
+    let scatter = c .before .before .before .before .before .before .before .before .before .before .before .before in
+    let repeats = c .before .before .before .before .before .before .before .before .before .before .before .before .before .before .before .before .before in
+    let letters = c .before .before .before .before .before .before .before .before .before .before .before .before .before .before .before .before .before .before .before .before .before .before in
+    let shape = c .before .before .before .before .before .before .before .before .before .before .before .before .before .before .before .before .before .before .before .before .before .before .before .before .before .before .before in
+    let s = c .before .before .before .before .before .before .before .before .before .before .before .before .before .before .before .before .before .before .before .before .before .before .before .before .before .before .before .before .before .before .before .before in
     let a = s .args in
-    whole (a .width) (a .depth) (a .t2) (a .tape) (s .pre .0) (s .pre .1) (a .words .now) (places .loop-places .ensures .0)
+    whole (a .width) (a .depth) (a .t2) (a .tape) (s .pre .0 .0) (s .pre .0 .1) (s .pre .1) (a .words .now) (c .before .before .before .before .before .before .before .before .before .before .before .before .before .before .before .before .before .before .before .before .before .before .before .before .before .before .before .before .before .row-of .ensures .inside (omega (arith, c .before .before .before .before .before .before .before .before .before .before .before .before .before .before .before .before .before .before .before .before .before .before .before .before .before .before .before .before .before .before .row-of-arg .given .0)))
     (rw add-one at (shape .put-shape .ensures)) (letters .put-letters .ensures .1) (letters .put-letters .ensures .0)
-    (repeats .put-repeats .ensures .1) (repeats .put-repeats .ensures .0)
-    (scatter .put-scatter .ensures .1) (scatter .put-scatter .ensures .0) (gather .put-gather .ensures .1) (gather .put-gather .ensures .0)
-    (propagate .put-propagate .ensures .1)
+    (repeats .put-repeats .ensures .1) (repeats .put-repeats .ensures .0) (scatter .put-tables .ensures .1) (scatter .put-tables .ensures .0)
+    (gather .put-tables2 .ensures .1) (gather .put-tables2 .ensures .0) (rw add-one at (propagate .put-tables3 .ensures .1))
 
 pub put-image-spec : {M : Type 1} → statement M
 put-image-spec =
     tie.close
     (tie.spec
-    loop-places-requires
+    row-of-requires
     add-put-shape
     put-shape-requires
     put-letters-requires
     put-repeats-requires
-    put-scatter-requires
-    put-gather-requires
-    put-propagate-requires
+    put-tables-requires
+    put-tables-requires-2
+    add-put-tables
+    put-tables-requires-3
     same-length
     returns)

@@ -1,19 +1,23 @@
 -- `sections::put_tables`: after the count the rows of the first depths stand one after another.
-use mathlib.Core.Path.{refl}
-use Prim.Native.Nat.{_+_, _*_, _-_}
+use mathlib.Core.List.{List}
+use mathlib.Core.Path.{refl, ap, _∙_}
+use Prim.Native.Nat.{ℕ, _+_, _*_, _-_}
 use native.Mathlib.Omega.{arith}
-use borrow.Author.Needs.{needs}
+use lib.Seq.{sets}
 use Rattle.model.proofs.Image.Address.{part-fits}
-use Rattle.image.proofs.Laws.Lengths.{depthRows, depths-long, eights}
+use Rattle.tape.specs.Masks.{tableIn}
+use Rattle.image.proofs.Laws.Lengths.{depthRows, depths-long, in-eights, three-read}
 use Rattle.image.proofs.Laws.Parts.{Parts, parts-all, parts-long, parts-more, parts-none}
+use borrow.Author.Needs.{needs}
 use Rattle.image.proofs.sections.put_tables.Statement.{statement}
 use Rattle.image.proofs.sections.put_tables.Tie as tie
 
 abbrev Inv-loop : tie.InvT-loop
-Inv-loop words₀ at width depths block source target k₀ words k = Parts (3 * width) depths (depthRows width block source target) words₀ (at + 1) words k
+Inv-loop words₀ at width depths masks k₀ words k =
+    Parts (3 * width) depths (depthRows width (tableIn masks 0) (tableIn masks 1) (tableIn masks 2)) words₀ (at + 1) words k
 
 abbrev μ-loop : tie.MeasureT-loop
-μ-loop words₀ at width depths block source target k₀ words k = depths - k
+μ-loop words₀ at width depths masks k₀ words k = depths - k
 
 mul-words : tie.Need-mul-words Inv-loop μ-loop
 mul-words c = search needs
@@ -29,11 +33,34 @@ slice-write-words c = search needs
 
 loop-holds : tie.Need-loop-holds Inv-loop μ-loop
 loop-holds c =
-    let s = c .before in
-    let a = s .args in
-    let g = s .good .1 .1 .1 .1 in
+    let s = c .before .before in
+    let ms = s .args .masks .now in
     parts-none
-    (depths-long (a .t5) (a .t6) (a .t7) (s .pre .0) (s .pre .1) (eights (a .t5) _ (g .0)) (eights (a .t6) _ (g .1 .0)) (eights (a .t7) _ (g .1 .1 .0)))
+    (depths-long (tableIn ms 0) (tableIn ms 1) (tableIn ms 2) (s .pre .0) (s .pre .1) (in-eights ms 0 (s .pre .3) (omega arith)) (in-eights ms 1 (s .pre .3) (omega arith)) (in-eights ms 2 (s .pre .3) (omega arith)))
+
+mul-row-of : tie.Need-mul-row-of Inv-loop μ-loop
+mul-row-of c = search needs
+
+row-of-requires : tie.Need-row-of-requires Inv-loop μ-loop
+row-of-requires c κs = search needs
+
+mul-row-of-2 : tie.Need-mul-row-of-2 Inv-loop μ-loop
+mul-row-of-2 c = search needs
+
+add-row-of : tie.Need-add-row-of Inv-loop μ-loop
+add-row-of c = search needs
+
+row-of-requires-2 : tie.Need-row-of-requires-2 Inv-loop μ-loop
+row-of-requires-2 c κs = search needs
+
+mul-row-of-3 : tie.Need-mul-row-of-3 Inv-loop μ-loop
+mul-row-of-3 c = search needs
+
+add-row-of-2 : tie.Need-add-row-of-2 Inv-loop μ-loop
+add-row-of-2 c = search needs
+
+row-of-requires-3 : tie.Need-row-of-requires-3 Inv-loop μ-loop
+row-of-requires-3 c κs = search needs
 
 add-put-three : tie.Need-add-put-three Inv-loop μ-loop
 add-put-three c = search needs
@@ -42,32 +69,14 @@ mul-put-three : tie.Need-mul-put-three Inv-loop μ-loop
 mul-put-three c = search needs
 
 mul-put-three-2 : tie.Need-mul-put-three-2 Inv-loop μ-loop
-mul-put-three-2 c = omega (arith, part-fits (3 * c .before .before .before .before .args .width) (c .before .loop-test .taken))
+mul-put-three-2 c = omega (arith, part-fits (3 * c .before .before .before .before .before .before .before .before .args .width) (c .before .before .before .before .loop-test .taken))
 
 add-put-three-2 : tie.Need-add-put-three-2 Inv-loop μ-loop
-add-put-three-2 c = omega (arith, part-fits (3 * c .before .before .before .before .args .width) (c .before .loop-test .taken))
-
-mul-put-three-3 : tie.Need-mul-put-three-3 Inv-loop μ-loop
-mul-put-three-3 c = search needs
-
-array-copy-out-put-three : tie.Need-array-copy-out-put-three Inv-loop μ-loop
-array-copy-out-put-three c = search needs
-
-mul-put-three-4 : tie.Need-mul-put-three-4 Inv-loop μ-loop
-mul-put-three-4 c = search needs
-
-array-copy-out-put-three-2 : tie.Need-array-copy-out-put-three-2 Inv-loop μ-loop
-array-copy-out-put-three-2 c = search needs
-
-mul-put-three-5 : tie.Need-mul-put-three-5 Inv-loop μ-loop
-mul-put-three-5 c = search needs
-
-array-copy-out-put-three-3 : tie.Need-array-copy-out-put-three-3 Inv-loop μ-loop
-array-copy-out-put-three-3 c = search needs
+add-put-three-2 c = omega (arith, part-fits (3 * c .before .before .before .before .before .before .before .before .args .width) (c .before .before .before .before .loop-test .taken))
 
 put-three-requires : tie.Need-put-three-requires Inv-loop μ-loop
 put-three-requires c κs =
-    let s = c .before .before .before .before .before .before .before in
+    let s = c .before .before .before .before .before .before .before .before in
     let a = s .args in
     let m = c .before .before .before .before in (
       s .pre .0,
@@ -87,8 +96,12 @@ loop-less c = search needs
 
 loop-again : tie.Need-loop-again Inv-loop μ-loop
 loop-again c =
-    parts-more (c .before .before .before .before .before .before .before .before .loop .inv)
-    (c .before .before .before .before .before .before .before .loop-test .taken) (c .before .before .put-three .ensures)
+    let l = c .before .before .before .before .before .before .before .before .loop in
+    let s = c .before .before .before .before .before .before .before .before .before .before .before in
+    let h = c .before .before .before .before .before .before .before .loop-test .taken in
+    parts-more (l .inv) h
+    (c .before .before .put-three .ensures
+    ∙ ap (λ (rows : List ℕ). sets (l .words) (s .args .at + 1 + 3 * s .args .width * l .k) rows) (three-read (s .args .width) (s .args .masks .now) (l .k) (omega (arith, s .pre .1)) (c .before .before .before .before .before .before .row-of .ensures .inside (omega (arith, s .pre .1, s .pre .3))) (c .before .before .before .before .before .row-of2 .ensures .inside (omega (arith, s .pre .1, s .pre .3))) (c .before .before .before .before .row-of3 .ensures .inside (omega (arith, s .pre .1, s .pre .3)))))
 
 add-result : tie.Need-add-result Inv-loop μ-loop
 add-result c = search needs
@@ -104,12 +117,12 @@ add-result-2 c = search needs
 
 same-length : tie.Need-same-length Inv-loop μ-loop
 same-length c =
-    let a = c .before .before .before .args in
+    let a = c .before .before .before .before .args in
     parts-long (a .words .now) (a .at) (3 * a .width * a .depths) (c .before .loop .inv)
 
 returns : tie.Need-returns Inv-loop μ-loop
 returns c =
-    let a = c .before .before .before .args in
+    let a = c .before .before .before .before .args in
     (refl, parts-all (a .words .now) (a .at) (3 * a .width * a .depths) (c .before .loop .inv) refl (c .loop-test .left))
 
 pub put-tables-spec : {M : Type 1} → statement M
@@ -123,16 +136,18 @@ put-tables-spec =
     mul-words-3
     slice-write-words
     loop-holds
+    mul-row-of
+    row-of-requires
+    mul-row-of-2
+    add-row-of
+    row-of-requires-2
+    mul-row-of-3
+    add-row-of-2
+    row-of-requires-3
     add-put-three
     mul-put-three
     mul-put-three-2
     add-put-three-2
-    mul-put-three-3
-    array-copy-out-put-three
-    mul-put-three-4
-    array-copy-out-put-three-2
-    mul-put-three-5
-    array-copy-out-put-three-3
     put-three-requires
     add-k
     loop-less

@@ -1,25 +1,21 @@
--- `scan::after_close`: the frame on top is left, and says whether the sequence around the union can be empty.
-use borrow.Author.Needs.{needs}
+-- `scan::after_close`: the frame is stored above what is left of the stack.
+use native.Mathlib.Omega.{arith}
 use Rattle.tape.proofs.Scans.{closed-scan}
+use borrow.Author.Needs.{needs}
 use Rattle.tape.proofs.scan.after_close.Statement.{statement}
 use Rattle.tape.proofs.scan.after_close.Tie as tie
 
-sub-top : tie.Need-sub-top
-sub-top c = search needs
+add-t4 : tie.Need-add-t4
+add-t4 c = search needs
 
-mul-frame : tie.Need-mul-frame
-mul-frame c = search needs
-
-array-copy-out-frame : tie.Need-array-copy-out-frame
-array-copy-out-frame c = search needs
-
-add-t5 : tie.Need-add-t5
-add-t5 c = search needs
+sub-t7 : tie.Need-sub-t7
+sub-t7 c = search needs
 
 returns : tie.Need-returns
 returns c =
-    let s = c .before .before .before .before .before .before .before in
-    closed-scan (s .args .scan) (s .pre .1 .0)
+    let s = c .before .before .before .before .before in
+    let a = s .args in
+    record { inside = omega (arith, s .pre .1 .1); steps = λ fs l I. closed-scan (a .scan) fs (a .frame) I (s .pre .1 .0) (a .frame) }
 
 pub after-close-spec : {M : Type 1} → statement M
-after-close-spec = tie.close (tie.spec sub-top mul-frame array-copy-out-frame add-t5 returns)
+after-close-spec = tie.close (tie.spec add-t4 sub-t7 returns)

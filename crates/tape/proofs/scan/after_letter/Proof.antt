@@ -1,25 +1,33 @@
--- `scan::after_letter`: the frames stay, and the sequence can be empty if it could and the letter can be left out.
+-- `scan::after_letter`: the frame is stored above the stack.
 use mathlib.Core.Bool.{Bool, false, _&&_}
-use mathlib.Core.Path.{ap₂}
-use Prim.Native.Nat.{ℕ}
-use native.Mathlib.Numerals.{add-one}
+use mathlib.Core.Path.{sym, subst}
+use Prim.Native.Nat.{_+_}
+use native.Mathlib.Omega.{arith}
+use Rattle.model.specs.Models.Tokens.{aLetter}
+use Rattle.tape.proofs.Scans.{letter-scan}
+use Rattle.tape.specs.Scans.{StepSays}
+use Rattle.tape.specs.Tokens.{repeatOf}
 use borrow.Author.Needs.{needs}
-use Rattle.model.specs.Models.LayOut.{scan}
 use Rattle.tape.proofs.scan.after_letter.Statement.{statement}
 use Rattle.tape.proofs.scan.after_letter.Tie as tie
-use Rattle.tape.specs.Scans.{stackOf}
 
 can-skip-requires : tie.Need-can-skip-requires
 can-skip-requires c κs = search needs
 
-add-t5 : tie.Need-add-t5
-add-t5 c = search needs
+add-t6 : tie.Need-add-t6
+add-t6 c = search needs
 
 returns : tie.Need-returns
 returns c =
-    let q = c .before .before .before .before .args .scan in
-    ap₂ (λ (p : ℕ) (b : Bool). scan p false (q .«can_be_empty» && b) (stackOf (q .frames) (q .depth))) (add-one (q .position))
-    (c .before .before .can-skip .ensures)
+    let s = c .before .before .before in
+    let a = s .args in
+    subst
+    (λ (b : Bool). StepSays (a .scan) (a .frame) (aLetter 0 (repeatOf (a .repeat))) (record {
+      scan = record { position = a .scan .position + 1; «no_item» = false; «can_be_empty» = a .scan .«can_be_empty» && b; depth = a .scan .depth };
+      frame = a .frame;
+      place = a .scan .depth;
+    })) (sym (c .before .before .can-skip .ensures))
+    (record { inside = omega (arith, s .pre .1); steps = λ fs l I. letter-scan (a .scan) fs (a .frame) (repeatOf (a .repeat)) })
 
 pub after-letter-spec : {M : Type 1} → statement M
-after-letter-spec = tie.close (tie.spec can-skip-requires add-t5 returns)
+after-letter-spec = tie.close (tie.spec can-skip-requires add-t6 returns)

@@ -1,17 +1,16 @@
--- `scan::fits` asks what the model asks: the tests of the depth are tests of the stack.
+-- `scan::fits` asks what the model asks: the tests of the depth and of the innermost frame are tests of the stack.
 use mathlib.Core.Bool.{Bool, not, _&&_}
 use mathlib.Core.Path.{sym, ap, _∙_}
-use mathlib.Core.Path.{sym, ap, _∙_}
 use Prim.Native.Nat.{ℕ}
-use borrow.Author.Needs.{needs}
 use lib.Dec.{ltb}
 use Rattle.model.specs.Models.LayOut.{check}
-use Rattle.tape.proofs.Scans.{inside-is, length-stack}
-use Rattle.tape.proofs.scan.fits.Statement.{statement}
-use Rattle.tape.proofs.scan.fits.Tie as tie
-use Rattle.tape.specs.Scans.{scanOf}
+use Rattle.tape.proofs.Scans.{barred-is, inside-is, length-stack}
+use Rattle.tape.specs.Scans.{scanOf, withFrames}
 use Rattle.tape.specs.Tokens.{tokenOf}
 use Rattle.tape.specs.declared.token.Token.{Token}
+use borrow.Author.Needs.{needs}
+use Rattle.tape.proofs.scan.fits.Statement.{statement}
+use Rattle.tape.proofs.scan.fits.Tie as tie
 
 enum-told : tie.Need-enum-told
 enum-told c = search needs
@@ -25,39 +24,27 @@ enum-told-3 c = search needs
 enum-told-4 : tie.Need-enum-told-4
 enum-told-4 c = search needs
 
-is-barred-requires : tie.Need-is-barred-requires
-is-barred-requires c κs = search needs
-
 returns : tie.Need-returns
-returns c = search needs
+returns c = λ fs I. sym (ap (λ (y : Token). check (tokenOf y) (scanOf (withFrames (c .before .before .args .scan) fs))) (c .enum-told .given .1))
 
 returns-2 : tie.Need-returns-2
-returns-2 c =
+returns-2 c = λ fs I.
     let q = c .before .before .args .scan in
-    sym (ap (λ (y : Token). check (tokenOf y) (scanOf q)) (c .enum-told2 .given .1) ∙ ap (λ (n : ℕ). ltb n 8) (length-stack (q .frames) (q .depth)))
+    sym (ap (λ (y : Token). check (tokenOf y) (scanOf (withFrames q fs))) (c .enum-told2 .given .1) ∙ ap (λ (n : ℕ). ltb n 8) (length-stack fs (q .depth)))
 
 returns-3 : tie.Need-returns-3
-returns-3 c =
+returns-3 c = λ fs I.
     let q = c .before .before .before .args .scan in
-    ap (λ (b : Bool). b && not (q .«no_item»)) (inside-is (q .frames) (q .depth))
-    ∙ sym (ap (λ (y : Token). check (tokenOf y) (scanOf q)) (c .before .enum-told3 .given .1))
+    ap (λ (b : Bool). b && not (q .«no_item»)) (inside-is fs (q .depth))
+    ∙ sym (ap (λ (y : Token). check (tokenOf y) (scanOf (withFrames q fs))) (c .before .enum-told3 .given .1))
 
 returns-4 : tie.Need-returns-4
-returns-4 c =
-    let q = c .before .before .before .before .args .scan in
-    ap (λ (b : Bool). b && not (q .«no_item»)) (c .before .is-barred .ensures)
-    ∙ sym (ap (λ (y : Token). check (tokenOf y) (scanOf q)) (c .before .before .enum-told4 .given .1))
+returns-4 c = λ fs I.
+    let a = c .before .before .before .before .args in
+    ap (λ (b : Bool). b && not (a .scan .«no_item»)) (barred-is (a .scan) fs (a .frame) I)
+    ∙ sym (ap (λ (y : Token). check (tokenOf y) (scanOf (withFrames (a .scan) fs))) (c .before .before .enum-told4 .given .1))
 
 pub fits-spec : {M : Type 1} → statement M
 fits-spec =
     tie.close
-    (tie.spec
-    enum-told
-    enum-told-2
-    enum-told-3
-    enum-told-4
-    is-barred-requires
-    returns
-    returns-2
-    returns-3
-    returns-4)
+    (tie.spec enum-told enum-told-2 enum-told-3 enum-told-4 returns returns-2 returns-3 returns-4)

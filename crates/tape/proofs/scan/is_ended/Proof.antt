@@ -6,9 +6,7 @@ use Rattle.tape.proofs.scan.is_ended.Statement.{statement}
 use Rattle.tape.proofs.scan.is_ended.Tie as tie
 
 returns : tie.Need-returns
-returns c =
-    let q = c .before .before .args .scan in
-    ap (λ (b : Bool). b && not (q .«no_item»)) (outside-is (q .frames) (q .depth))
+returns c = λ fs. let q = c .before .before .args .scan in ap (λ (b : Bool). b && not (q .«no_item»)) (outside-is fs (q .depth))
 
 pub is-ended-spec : {M : Type 1} → statement M
 is-ended-spec = tie.close (tie.spec returns)

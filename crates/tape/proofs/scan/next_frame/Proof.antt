@@ -3,10 +3,10 @@ use mathlib.Core.Bool.{true, _||_}
 use mathlib.Core.Path.{ap₂}
 use Prim.Native.Nat.{ℕ}
 use native.Mathlib.Numerals.{add-one}
+use Rattle.tape.specs.Scans.{frameOf}
 use borrow.Author.Needs.{needs}
 use Rattle.tape.proofs.scan.next_frame.Statement.{statement}
 use Rattle.tape.proofs.scan.next_frame.Tie as tie
-use Rattle.tape.specs.Scans.{frameOf}
 
 first-end-of-requires : tie.Need-first-end-of-requires
 first-end-of-requires c κs = search needs

@@ -1,12 +1,12 @@
 -- `scan::opened_frame` is the model's frame field by field.
-use mathlib.Core.Path.{ap}
 use mathlib.Core.Bool.{false}
+use mathlib.Core.Path.{ap}
 use Prim.Native.Nat.{ℕ}
 use native.Mathlib.Numerals.{add-one}
+use Rattle.tape.specs.Scans.{frameOf}
 use borrow.Author.Needs.{needs}
 use Rattle.tape.proofs.scan.opened_frame.Statement.{statement}
 use Rattle.tape.proofs.scan.opened_frame.Tie as tie
-use Rattle.tape.specs.Scans.{frameOf}
 
 add-t2 : tie.Need-add-t2
 add-t2 c = search needs

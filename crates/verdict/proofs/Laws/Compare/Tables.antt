@@ -9,9 +9,11 @@ use native.Mathlib.Omega.{arith}
 use lib.Dec.{eqb}
 use lib.ListN.{getD, length, List·getD-append, take}
 use lib.Seq.{getD-append-add, getD-take}
+use Rattle.tape.specs.Masks.{rowIn, tableIn}
 use Rattle.tape.specs.Tables.{Table}
+use Rattle.tape.proofs.InWords.{row-word, table-row}
 use Rattle.image.specs.Work.{threeRows}
-use Rattle.image.proofs.Laws.Lengths.{depthRows, depths-long, Eights, length-row}
+use Rattle.image.proofs.Laws.Lengths.{depthRows, depths-long, Eights, in-eights, length-row}
 use Rattle.model.proofs.Image.Address.{part-fits}
 use Rattle.verdict.specs.Work.{sameTables}
 use Rattle.verdict.proofs.Laws.Compare.{differ-here, place-in, same-all, same-more, same-none, SameTo}
@@ -112,3 +114,34 @@ module _ {ws : List ℕ} {at W depths : ℕ} {block source target : Table} {k wh
 
     pub tables-differ : (getD ws (at + (3 * k + which) * W + j) 0 ≡ getD row j 0 → ⊥) → sameTables ws at W depths block source target ≡ false
     tables-differ d = differ-here (S .same) there depth inner (λ e. d (ap (λ (i : ℕ). getD ws i 0) (sym place) ∙ e ∙ word-is))
+
+-- ---- the masks that lay out gives, as they are read
+module _ (ms : List ℕ) where
+  read-row : (k which : ℕ) → k < 9 → which < 3
+      → rowIn ms (3 * k + which) ≡ pickRow (getD (tableIn ms 0) k []) (getD (tableIn ms 1) k []) (getD (tableIn ms 2) k []) which
+  read-row k zero h w = sym (table-row ms 0 k h)
+  read-row k (suc zero) h w = sym (table-row ms 1 k h)
+  read-row k (suc (suc zero)) h w = sym (table-row ms 2 k h)
+  read-row k (suc (suc (suc n))) h w = absurd (omega arith)
+
+  abbrev pub ReadTo : List ℕ → (at W depths q : ℕ) → Type 0
+  ReadTo ws at W depths q = TablesTo ws at W depths (tableIn ms 0) (tableIn ms 1) (tableIn ms 2) q
+
+  pub read-none : {ws : List ℕ} {at W depths : ℕ} → W ≤ 8 → depths ≤ 9 → at + 3 * W * depths ≤ length ws → length ms ≡ 216 → ReadTo ws at W depths 0
+  read-none narrow few fits long =
+      tables-none narrow few fits (in-eights ms 0 long (omega arith)) (in-eights ms 1 long (omega arith)) (in-eights ms 2 long (omega arith))
+
+  module _ {ws : List ℕ} {at W depths k which j : ℕ} (S : ReadTo ws at W depths ((3 * k + which) * W + j)) (depth : k < depths) (mask : which < 3)
+      (word : j < W) where
+    here : getD (rowIn ms (3 * k + which)) j 0 ≡ getD ms (8 * (3 * k + which) + j) 0
+    here = row-word ms (3 * k + which) j (omega (arith, S .narrow))
+
+    is : rowIn ms (3 * k + which) ≡ pickRow (getD (tableIn ms 0) k []) (getD (tableIn ms 1) k []) (getD (tableIn ms 2) k []) which
+    is = read-row k which (omega (arith, S .few)) mask
+
+    pub read-more : getD ws (at + (3 * k + which) * W + j) 0 ≡ getD ms (8 * (3 * k + which) + j) 0 → ReadTo ws at W depths ((3 * k + which) * W + (j + 1))
+    read-more e = tables-more S depth mask word is (e ∙ sym here)
+
+    pub read-differ : (getD ws (at + (3 * k + which) * W + j) 0 ≡ getD ms (8 * (3 * k + which) + j) 0 → ⊥)
+        → sameTables ws at W depths (tableIn ms 0) (tableIn ms 1) (tableIn ms 2) ≡ false
+    read-differ d = tables-differ S depth mask word is (λ e. d (e ∙ here))

@@ -1,58 +1,56 @@
--- `some_row`: after k turns the row is that of the first k masks, and each turn adds one more.
-use mathlib.Core.Path.{_≡_, refl, sym, ap, _∙_}
-use mathlib.Core.List.{List}
-use Prim.Native.Nat.{ℕ, _+_, _*_, _-_, _≤_}
-use native.Mathlib.Numerals.{add-one}
+-- `apart::some_row`: word j of the row has the bits that word j of some mask has.
+use mathlib.Core.Path.{_≡_}
+use Prim.Native.Nat.{_-_, _≤_}
 use native.Mathlib.Omega.{arith}
-use borrow.Author.Needs.{needs}
-use Rattle.verdict.specs.Work.{orFirst, someRow, wordsAt}
 use Rattle.model.proofs.Image.Address.{part-fits}
+use Rattle.verdict.proofs.Laws.Rows.{row-all, row-more, row-none, RowTo}
+use borrow.Author.Needs.{needs}
 use Rattle.verdict.proofs.apart.some_row.Statement.{statement}
 use Rattle.verdict.proofs.apart.some_row.Tie as tie
 
 abbrev Inv-loop : tie.InvT-loop
-Inv-loop words at stride width count row₀ k₀ row k = (k ≤ count) × (row ≡ someRow words at stride width k)
+Inv-loop words at stride width count row₀ j₀ row j =
+    (j ≤ width) × RowTo words at stride count j row
 
 abbrev μ-loop : tie.MeasureT-loop
-μ-loop words at stride width count row₀ k₀ row k = count - k
+μ-loop words at stride width count row₀ j₀ row j = width - j
 
 loop-holds : tie.Need-loop-holds Inv-loop μ-loop
-loop-holds c = (omega arith, refl)
+loop-holds c = let s = c .before in (omega arith, row-none (s .args .words .now) (s .args .at) (s .args .stride) (s .args .width) (s .pre .0) (s .args .count))
 
-mul-or-row : tie.Need-mul-or-row Inv-loop μ-loop
-mul-or-row c = let a = c .before .before .before .args in omega (arith, part-fits (a .stride) (c .loop-test .taken))
+add-some-word : tie.Need-add-some-word Inv-loop μ-loop
+add-some-word c = search needs
 
-add-or-row : tie.Need-add-or-row Inv-loop μ-loop
-add-or-row c = let a = c .before .before .before .args in omega (arith, part-fits (a .stride) (c .loop-test .taken))
+some-word-requires : tie.Need-some-word-requires Inv-loop μ-loop
+some-word-requires c κs = search needs
 
-or-row-requires : tie.Need-or-row-requires Inv-loop μ-loop
-or-row-requires c κs =
-    let s = c .before .before .before in
-    (s .pre .0, omega (arith, part-fits (s .args .stride) (c .loop-test .taken)))
+mul-row : tie.Need-mul-row Inv-loop μ-loop
+mul-row c = search needs
 
-add-k : tie.Need-add-k Inv-loop μ-loop
-add-k c = search needs
+array-write-row : tie.Need-array-write-row Inv-loop μ-loop
+array-write-row c = search needs
+
+add-j : tie.Need-add-j Inv-loop μ-loop
+add-j c = search needs
 
 loop-less : tie.Need-loop-less Inv-loop μ-loop
 loop-less c = search needs
 
 loop-again : tie.Need-loop-again Inv-loop μ-loop
 loop-again c =
-    let a = c .before .before .before .before .args in
+    let s = c .before .before .before .before in
+    let a = s .args in
     let l = c .before .before .loop in
-    let ws = a .words .now in (
-      omega arith,
-      c .or-row .ensures
-          ∙ ap (λ (r : List ℕ). orFirst r (wordsAt ws (a .at + a .stride * l .k) (a .width))) (l .inv .1)
-          ∙ ap (someRow ws (a .at) (a .stride) (a .width)) (sym (add-one (l .k))),
-    )
+    (omega (arith, c .before .loop-test .taken), row-more (a .words .now) (a .at) (a .stride) (a .width) (s .pre .0) (l .inv .1) (c .before .loop-test .taken) (c .some-word .ensures))
 
 returns : tie.Need-returns Inv-loop μ-loop
 returns c =
-    let a = c .before .before .before .args in
+    let s = c .before .before .before in
+    let a = s .args in
     let l = c .before .loop in
-    let e : l .k ≡ a .count = omega arith in
-    l .inv .1 ∙ ap (someRow (a .words .now) (a .at) (a .stride) (a .width)) e
+    let e : l .j ≡ a .width = omega (arith, c .loop-test .left, l .inv .0) in
+    row-all (a .words .now) (a .at) (a .stride) (a .width) (s .pre .0) (l .inv .1) e
+    (λ k h. omega (arith, part-fits (a .stride) h, s .pre .3, s .pre .4))
 
 pub some-row-spec : {M : Type 1} → statement M
 some-row-spec =
@@ -61,10 +59,11 @@ some-row-spec =
     Inv-loop
     μ-loop
     loop-holds
-    mul-or-row
-    add-or-row
-    or-row-requires
-    add-k
+    add-some-word
+    some-word-requires
+    mul-row
+    array-write-row
+    add-j
     loop-less
     loop-again
     returns)

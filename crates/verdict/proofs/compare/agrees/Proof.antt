@@ -2,15 +2,18 @@
 use mathlib.Core.Path.{_≡_, refl, sym, ap, _∙_, subst}
 use mathlib.Core.Bool.{Bool, true, false, not, _&&_}
 use mathlib.Core.List.{List, []}
-use Prim.Native.Nat.{ℕ}
-use borrow.Author.Needs.{needs}
+use Prim.Native.Nat.{ℕ, _+_}
+use native.Mathlib.Numerals.{add-one}
+use native.Mathlib.Omega.{arith}
 use lib.Dec.{T}
 use lib.ListN.{getD}
+use Rattle.model.specs.Models.Apart.{gatherAt, propagateAt, scatterAt}
 use Rattle.model.specs.Models.LayOut.{letter-place, loop-place}
 use Rattle.model.specs.Models.Verdict.{sameWords}
+use Rattle.tape.specs.Masks.{tableIn}
 use Rattle.tape.specs.Tapes.{tableOf}
-use Rattle.model.specs.Models.Apart.{gatherAt, propagateAt, scatterAt}
-use Rattle.verdict.specs.Work.{sameGather, samePropagate, sameRepeats, sameScatter}
+use Rattle.verdict.specs.Work.{sameGather, samePropagate, sameRepeats, sameScatter, sameTables}
+use borrow.Author.Needs.{needs}
 use Rattle.verdict.proofs.compare.agrees.Statement.{statement}
 use Rattle.verdict.proofs.compare.agrees.Tie as tie
 
@@ -58,6 +61,34 @@ fromRepeats c = repeatsAre c && fromScatter c
 abbrev all : tie.Start → Bool
 all c = lettersAre c && fromRepeats c
 
+-- the masks are those that are laid out for the tape
+scatter-same : (s : tie.Start)
+    → let a = s .args in
+    let ms = a .scatters .now in
+    sameTables (a .words .now) (scatterAt (a .width)) (a .width) (a .depth) (tableIn ms 0) (tableIn ms 1) (tableIn ms 2) ≡ scatterIs s
+scatter-same s =
+    let a = s .args in
+    let L = s .pre .1 in
+    λ i. sameTables (a .words .now) (scatterAt (a .width)) (a .width) (a .depth) (L .scatter-blocks i) (L .scatter-sources i) (L .scatter-targets i)
+
+gather-same : (s : tie.Start)
+    → let a = s .args in
+    let ms = a .gathers .now in
+    sameTables (a .words .now) (gatherAt (a .width) (a .depth)) (a .width) (a .depth) (tableIn ms 0) (tableIn ms 1) (tableIn ms 2) ≡ gatherIs s
+gather-same s =
+    let a = s .args in
+    let L = s .pre .1 in
+    λ i. sameTables (a .words .now) (gatherAt (a .width) (a .depth)) (a .width) (a .depth) (L .gather-blocks i) (L .gather-sources i) (L .gather-targets i)
+
+propagate-same : (s : tie.Start)
+    → let a = s .args in
+    let ms = a .propagates .now in
+    sameTables (a .words .now) (propagateAt (a .width) (a .depth)) (a .width) (a .depth + 1) (tableIn ms 0) (tableIn ms 1) (tableIn ms 2) ≡ propagateIs s
+propagate-same s =
+    let a = s .args in
+    let L = s .pre .1 in
+    λ i. sameTables (a .words .now) (propagateAt (a .width) (a .depth)) (a .width) (add-one (a .depth) i) (L .propagate-blocks i) (L .propagate-sources i) (L .propagate-targets i)
+
 mul-scatter : tie.Need-mul-scatter
 mul-scatter c = search needs
 
@@ -88,89 +119,64 @@ mul-propagate-2 c = search needs
 add-propagate-2 : tie.Need-add-propagate-2
 add-propagate-2 c = search needs
 
-letter-places-requires : tie.Need-letter-places-requires
-letter-places-requires c κs = search needs
+row-of-requires : tie.Need-row-of-requires
+row-of-requires c κs = search needs
 
 same-rows-requires : tie.Need-same-rows-requires
 same-rows-requires c κs = search needs
 
-letters-test : (c : tie.After-same-rows) → not (c .same-rows .result) ≡ not (lettersAre (c .before .before .before))
-letters-test c = ap not (c .same-rows .ensures ∙ ap (sameWords (c .before .before .before .args .letters)) (c .before .letter-places .ensures .0))
-
 returns : tie.Need-returns
-returns c = let s = c .before .before .before .before in fails (lettersAre s) (fromRepeats s) (letters-test (c .before)) (c .if1 .taken)
+returns c =
+    let s = c .before .before .before .before .before in
+    fails (lettersAre s) (fromRepeats s) (ap not (c .before .same-rows .ensures ∙ ap (sameWords (s .args .letters)) (c .before .before .row-of .ensures .inside (omega (arith, c .before .before .before .row-of-arg .given .0)) ∙ s .pre .1 .letter-places))) (c .if1 .taken)
 
-loop-places-requires : tie.Need-loop-places-requires
-loop-places-requires c κs = search needs
+row-of-requires-2 : tie.Need-row-of-requires-2
+row-of-requires-2 c κs = search needs
 
 repeats-differ-requires : tie.Need-repeats-differ-requires
 repeats-differ-requires c κs = search needs
 
--- the letters are the same
-abbrev start : tie.Else1 → tie.Start
-start c = c .before .before .before .before
-
-past-letters : (c : tie.Else1) {answer : Bool} → answer ≡ fromRepeats (start c) → answer ≡ all (start c)
-past-letters c e = passes (lettersAre (start c)) (fromRepeats (start c)) (letters-test (c .before)) (c .if1 .left) e
-
-repeats-test : (c : tie.After-repeats-differ) → c .repeats-differ .result ≡ not (repeatsAre (start (c .before .before)))
-repeats-test c =
-    let a = start (c .before .before) .args in
-    c .repeats-differ .ensures ∙ ap (λ (row : List ℕ). not (sameRepeats (a .words .now) (a .width) row)) (c .before .loop-places .ensures .0)
-
 returns-2 : tie.Need-returns-2
 returns-2 c =
-    let letters = c .before .before .before in
-    let s = start letters in
-    past-letters letters (fails (repeatsAre s) (fromScatter s) (repeats-test (c .before)) (c .if2 .taken))
+    let s = c .before .before .before .before .before .before .before .before .before in
+    passes (lettersAre s) (fromRepeats s) (ap not (c .before .before .before .before .before .same-rows .ensures ∙ ap (sameWords (s .args .letters)) (c .before .before .before .before .before .before .row-of .ensures .inside (omega (arith, c .before .before .before .before .before .before .before .row-of-arg .given .0)) ∙ s .pre .1 .letter-places))) (c .before .before .before .before .if1 .left)
+    (fails (repeatsAre s) (fromScatter s) (c .before .repeats-differ .ensures ∙ ap (λ (row : List ℕ). not (sameRepeats (s .args .words .now) (s .args .width) row)) (c .before .before .row-of2 .ensures .inside (omega (arith, c .before .before .before .row-of-arg2 .given .0)) ∙ s .pre .1 .loop-places)) (c .if2 .taken))
 
-scatter-differs-requires : tie.Need-scatter-differs-requires
-scatter-differs-requires c κs = search needs
-
--- the repeats are the same
-abbrev start-repeats : tie.Else2 → tie.Start
-start-repeats c = start (c .before .before .before)
-
-past-repeats : (c : tie.Else2) {answer : Bool} → answer ≡ fromScatter (start-repeats c) → answer ≡ all (start-repeats c)
-past-repeats c e =
-    past-letters (c .before .before .before)
-    (passes (repeatsAre (start-repeats c)) (fromScatter (start-repeats c)) (repeats-test (c .before)) (c .if2 .left) e)
+tables-differ-requires : tie.Need-tables-differ-requires
+tables-differ-requires c κs = search needs
 
 returns-3 : tie.Need-returns-3
 returns-3 c =
-    let repeats = c .before .before in
-    let s = start-repeats repeats in
-    past-repeats repeats (fails (scatterIs s) (fromGather s) (c .before .scatter-differs .ensures) (c .if3 .taken))
+    let s = c .before .before .before .before .before .before .before .before .before .before .before .before in
+    passes (lettersAre s) (fromRepeats s) (ap not (c .before .before .before .before .before .before .before .before .same-rows .ensures ∙ ap (sameWords (s .args .letters)) (c .before .before .before .before .before .before .before .before .before .row-of .ensures .inside (omega (arith, c .before .before .before .before .before .before .before .before .before .before .row-of-arg .given .0)) ∙ s .pre .1 .letter-places))) (c .before .before .before .before .before .before .before .if1 .left)
+    (passes (repeatsAre s) (fromScatter s) (c .before .before .before .before .repeats-differ .ensures ∙ ap (λ (row : List ℕ). not (sameRepeats (s .args .words .now) (s .args .width) row)) (c .before .before .before .before .before .row-of2 .ensures .inside (omega (arith, c .before .before .before .before .before .before .row-of-arg2 .given .0)) ∙ s .pre .1 .loop-places)) (c .before .before .before .if2 .left)
+    (fails (scatterIs s) (fromGather s) (c .before .tables-differ .ensures ∙ ap not (scatter-same s)) (c .if3 .taken)))
 
-gather-differs-requires : tie.Need-gather-differs-requires
-gather-differs-requires c κs = search needs
-
--- scatter is the same
-abbrev start-scatter : tie.Else3 → tie.Start
-start-scatter c = start-repeats (c .before .before)
-
-past-scatter : (c : tie.Else3) {answer : Bool} → answer ≡ fromGather (start-scatter c) → answer ≡ all (start-scatter c)
-past-scatter c e =
-    past-repeats (c .before .before)
-    (passes (scatterIs (start-scatter c)) (fromGather (start-scatter c)) (c .before .scatter-differs .ensures) (c .if3 .left) e)
+tables-differ-requires-2 : tie.Need-tables-differ-requires-2
+tables-differ-requires-2 c κs = search needs
 
 returns-4 : tie.Need-returns-4
 returns-4 c =
-    let scatter = c .before .before in
-    let s = start-scatter scatter in
-    past-scatter scatter (fails (gatherIs s) (propagateIs s) (c .before .gather-differs .ensures) (c .if4 .taken))
+    let s = c .before .before .before .before .before .before .before .before .before .before .before .before .before .before .before in
+    passes (lettersAre s) (fromRepeats s) (ap not (c .before .before .before .before .before .before .before .before .before .before .before .same-rows .ensures ∙ ap (sameWords (s .args .letters)) (c .before .before .before .before .before .before .before .before .before .before .before .before .row-of .ensures .inside (omega (arith, c .before .before .before .before .before .before .before .before .before .before .before .before .before .row-of-arg .given .0)) ∙ s .pre .1 .letter-places))) (c .before .before .before .before .before .before .before .before .before .before .if1 .left)
+    (passes (repeatsAre s) (fromScatter s) (c .before .before .before .before .before .before .before .repeats-differ .ensures ∙ ap (λ (row : List ℕ). not (sameRepeats (s .args .words .now) (s .args .width) row)) (c .before .before .before .before .before .before .before .before .row-of2 .ensures .inside (omega (arith, c .before .before .before .before .before .before .before .before .before .row-of-arg2 .given .0)) ∙ s .pre .1 .loop-places)) (c .before .before .before .before .before .before .if2 .left)
+    (passes (scatterIs s) (fromGather s) (c .before .before .before .before .tables-differ .ensures ∙ ap not (scatter-same s)) (c .before .before .before .if3 .left)
+    (fails (gatherIs s) (propagateIs s) (c .before .tables-differ2 .ensures ∙ ap not (gather-same s)) (c .if4 .taken))))
 
-propagate-differs-requires : tie.Need-propagate-differs-requires
-propagate-differs-requires c κs = search needs
+add-tables-differ : tie.Need-add-tables-differ
+add-tables-differ c = search needs
+
+tables-differ-requires-3 : tie.Need-tables-differ-requires-3
+tables-differ-requires-3 c κs = search needs
 
 returns-5 : tie.Need-returns-5
 returns-5 c =
-    let gather = c .before in
-    let scatter = gather .before .before in
-    let s = start-scatter scatter in
-    past-scatter scatter
-    (passes (gatherIs s) (propagateIs s) (gather .before .gather-differs .ensures) (gather .if4 .left)
-    (decides (propagateIs s) (c .propagate-differs .ensures)))
+    let s = c .before .before .before .before .before .before .before .before .before .before .before .before .before .before .before .before .before in
+    passes (lettersAre s) (fromRepeats s) (ap not (c .before .before .before .before .before .before .before .before .before .before .before .before .before .same-rows .ensures ∙ ap (sameWords (s .args .letters)) (c .before .before .before .before .before .before .before .before .before .before .before .before .before .before .row-of .ensures .inside (omega (arith, c .before .before .before .before .before .before .before .before .before .before .before .before .before .before .before .row-of-arg .given .0)) ∙ s .pre .1 .letter-places))) (c .before .before .before .before .before .before .before .before .before .before .before .before .if1 .left)
+    (passes (repeatsAre s) (fromScatter s) (c .before .before .before .before .before .before .before .before .before .repeats-differ .ensures ∙ ap (λ (row : List ℕ). not (sameRepeats (s .args .words .now) (s .args .width) row)) (c .before .before .before .before .before .before .before .before .before .before .row-of2 .ensures .inside (omega (arith, c .before .before .before .before .before .before .before .before .before .before .before .row-of-arg2 .given .0)) ∙ s .pre .1 .loop-places)) (c .before .before .before .before .before .before .before .before .if2 .left)
+    (passes (scatterIs s) (fromGather s) (c .before .before .before .before .before .before .tables-differ .ensures ∙ ap not (scatter-same s)) (c .before .before .before .before .before .if3 .left)
+    (passes (gatherIs s) (propagateIs s) (c .before .before .before .tables-differ2 .ensures ∙ ap not (gather-same s)) (c .before .before .if4 .left)
+    (decides (propagateIs s) (c .tables-differ3 .ensures ∙ ap not (propagate-same s))))))
 
 pub agrees-spec : {M : Type 1} → statement M
 agrees-spec =
@@ -186,15 +192,16 @@ agrees-spec =
     mul-propagate
     mul-propagate-2
     add-propagate-2
-    letter-places-requires
+    row-of-requires
     same-rows-requires
     returns
-    loop-places-requires
+    row-of-requires-2
     repeats-differ-requires
     returns-2
-    scatter-differs-requires
+    tables-differ-requires
     returns-3
-    gather-differs-requires
+    tables-differ-requires-2
     returns-4
-    propagate-differs-requires
+    add-tables-differ
+    tables-differ-requires-3
     returns-5)

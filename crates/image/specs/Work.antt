@@ -1,12 +1,14 @@
 -- THE PARTS OF AN IMAGE as the code writes them: the sets of states that a byte's letters lead to, read off the tokens' classes, and the sections.
 use mathlib.Core.Path.{_≡_}
-use mathlib.Core.Bool.{Bool, false}
+use mathlib.Core.Bool.{Bool, true, false}
 use mathlib.Core.List.{List, [], _∷_, _++_}
-use Prim.Native.Nat.{ℕ, zero, suc, _+_, _*_, _/_, _%_, _<_, min}
-use lib.ListN.{getD, take}
+use Prim.Native.Nat.{ℕ, zero, suc, _+_, _*_, _/_, _%_, _^_, _<_, min}
+use lib.Bits.{bitOr}
+use lib.ListN.{drop, getD, set, take}
 use Rattle.model.specs.Bits.{bit}
 use Rattle.model.specs.Image.{join, section}
-use Rattle.model.specs.Models.LayOut.{gather-block, gather-source, gather-target, loop-place, scatter-block, scatter-source, scatter-target, set}
+use Rattle.model.specs.Models.LayOut.{gather-block, gather-source, gather-target, loop-place, scatter-block, scatter-source, scatter-target}
+use Rattle.model.specs.Models.LayOut.{set as statesIn}
 use Rattle.model.specs.Models.Words.{andWords}
 use Rattle.tape.specs.Tables.{Table}
 use Rattle.tape.specs.Tapes.{propagateBlockTable, propagateSourceTable, propagateTargetTable, tableOf}
@@ -26,10 +28,30 @@ leads row b (suc i) = inClass row b i
 
 -- the mask of byte b over n tokens, in eight words; and of those states the ones with a loop
 abbrev pub letterRow : List ℕ → ℕ → ℕ → List ℕ
-letterRow row n b = set (suc n) 8 (leads row b)
+letterRow row n b = statesIn (suc n) 8 (leads row b)
 
 abbrev pub repeatRow : List ℕ → ℕ → List ℕ → ℕ → List ℕ
 repeatRow row n loops b = andWords (letterRow row n b) loops
+
+-- the bit of a state put into the row that begins at a place, or not; and, of rows of W words, into those of the first n bits of a class's word
+abbrev pub withBit : Bool → ℕ → ℕ → List ℕ → List ℕ
+withBit true place state ws = set ws (place + state / 64) (bitOr (getD ws (place + state / 64) 0) (2 ^ (state % 64)))
+withBit false place state ws = ws
+
+abbrev pub withState : ℕ → ℕ → ℕ → ℕ → ℕ → List ℕ → List ℕ
+withState zero W class state at ws = ws
+withState (suc n) W class state at ws = withBit (bit class n) (at + W * n) state (withState n W class state at ws)
+
+-- the rows of the bytes of word q of the classes
+abbrev pub quarterPart : ℕ → List ℕ → ℕ → ℕ → List ℕ
+quarterPart width row n q = join 64 (64 * q) (λ b. take width (letterRow row n b))
+
+-- of the words at a place those bits that the loops have
+abbrev pub bothRow : ℕ → List ℕ → ℕ → List ℕ → List ℕ
+bothRow width words from loops = andWords (take width (drop from words)) (take width loops)
+
+abbrev pub bothPart : ℕ → List ℕ → ℕ → List ℕ → List ℕ
+bothPart width words from loops = section (join 256 0 (λ b. bothRow width words (from + width * b) loops))
 
 -- the sections
 abbrev pub lettersPart : ℕ → List ℕ → ℕ → List ℕ

@@ -1,17 +1,17 @@
 // "Six sections in this order, each after its count of words."
-use crate::letters::letter_row;
-use crate::letters::repeat_row;
+use crate::letters::put_letters;
+use crate::letters::put_repeats;
 use tape::Tape;
 use tape::row_of;
 ghost use mathlib.Core.Path.{_≡_};
-ghost use mathlib.Core.List.{[], _∷_, _++_};
-ghost use Prim.Native.Nat.{_+_, _*_, _≤_};
+ghost use mathlib.Core.List.{[], _∷_};
+ghost use Prim.Native.Nat.{_+_, _*_, _≤_, _<_};
 ghost use lib.ListN.{length as lengthOf, take};
 ghost use lib.Seq.{sets};
 ghost use Rattle.model.specs.Image.{section};
 ghost use Rattle.tape.specs.Masks.{tableIn};
 ghost use Rattle.tape.specs.Says.{Laid};
-ghost use Rattle.image.specs.Work.{imageWords, lettersPart, repeatsPart, tablesPart, threeRows};
+ghost use Rattle.image.specs.Work.{imageWords, tablesPart, threeRows};
 
 // "A mask is .. in the image its first W words"
 fn put_row(words: &mut [u64], at: usize, width: usize, row: [u64; 8])
@@ -53,51 +53,6 @@ fn put_shape(words: &mut [u64], states: usize, width: usize, depth: usize)
     words[3] = depth as u64;
 }
 
-// "letters: for bytes 0 to 255 one mask"; and the place after them
-fn put_letters(
-    words: &mut [u64],
-    at: usize,
-    width: usize,
-    tokens: &[u64; 2555],
-    length: usize,
-) -> usize
-    requires { ⌜ (width ≤ 8) × (at + 1 + 256 * width ≤ lengthOf (now words)) × (length ≤ 511) ⌝ }
-    ensures next { λ r. ⌜ r ≡ at + 1 + 256 * width ⌝ }
-    ensures written { λ r. ⌜ now (words .exit) ≡ sets (now (words .entry)) at (lettersPart width (now (tokens .entry)) length) ⌝ }
-{
-    words[at] = (256 * width) as u64;
-    let mut b: usize = 0;
-    while b < 256 {
-        let row = letter_row(tokens, length, b);
-        put_row(words, at + 1 + width * b, width, row);
-        b += 1;
-    }
-    at + 1 + 256 * width
-}
-
-// "repeats: likewise"
-fn put_repeats(
-    words: &mut [u64],
-    at: usize,
-    width: usize,
-    tokens: &[u64; 2555],
-    length: usize,
-    loops: [u64; 8],
-) -> usize
-    requires { ⌜ (width ≤ 8) × (at + 1 + 256 * width ≤ lengthOf (now words)) × (length ≤ 511) ⌝ }
-    ensures next { λ r. ⌜ r ≡ at + 1 + 256 * width ⌝ }
-    ensures written { λ r. ⌜ now (words .exit) ≡ sets (now (words .entry)) at (repeatsPart width (now (tokens .entry)) length loops) ⌝ }
-{
-    words[at] = (256 * width) as u64;
-    let mut b: usize = 0;
-    while b < 256 {
-        let row = repeat_row(tokens, length, b, loops);
-        put_row(words, at + 1 + width * b, width, row);
-        b += 1;
-    }
-    at + 1 + 256 * width
-}
-
 // Three masks for each of the first depths; and the place after them.
 fn put_tables(words: &mut [u64], at: usize, width: usize, depths: usize, masks: &[u64]) -> usize
     requires { ⌜ (width ≤ 8) × (depths ≤ 9) × (at + 1 + 3 * width * depths ≤ lengthOf (now words)) × (lengthOf (now masks) ≡ 216) ⌝ }
@@ -128,7 +83,7 @@ pub fn put_image(
     gathers: &[u64; 216],
     propagates: &[u64; 216],
 )
-    requires limits { ⌜ (width ≤ 8) × (depth ≤ 8) × (tape .length ≤ 511) × (9 + width * (515 + 9 * depth) ≤ lengthOf (now words)) ⌝ }
+    requires limits { ⌜ (width ≤ 8) × (depth ≤ 8) × (tape .length ≤ 511) × (tape .length < 64 * width) × (9 + width * (515 + 9 * depth) ≤ lengthOf (now words)) ⌝ }
     requires laid { ⌜ Laid tape (now places) (now scatters) (now gathers) (now propagates) ⌝ }
     ensures { λ r. ⌜ now (words .exit) ≡ sets (now (words .entry)) 0 (imageWords width depth tokens tape) ⌝ }
 {
@@ -136,7 +91,7 @@ pub fn put_image(
     let loops = row_of(places, 1);
     put_shape(words, length + 1, width, depth);
     let repeats = put_letters(words, 4, width, &tokens, length);
-    let scatter = put_repeats(words, repeats, width, &tokens, length, loops);
+    let scatter = put_repeats(words, 5, repeats, width, loops);
     let gather = put_tables(words, scatter, width, depth, scatters);
     let propagate = put_tables(words, gather, width, depth, gathers);
     put_tables(words, propagate, width, depth + 1, propagates);

@@ -29,8 +29,11 @@ module _ {W : ℕ} (row : List ℕ) (n : ℕ) (narrow : W ≤ 8) where
   length-letters : (b : ℕ) → length (letterRow row n b) ≡ 8
   length-letters b = length-set (suc n) 8 (leads row b)
 
+  pub letter-long : (b : ℕ) → length (take W (letterRow row n b)) ≡ W
+  letter-long b = length-row (letterRow row n b) narrow (length-letters b)
+
   pub letters-long : AllLong W 256 (λ b. take W (letterRow row n b))
-  letters-long b h = length-row (letterRow row n b) narrow (length-letters b)
+  letters-long b h = letter-long b
 
   pub repeats-long : (loops : List ℕ) → length loops ≡ 8 → AllLong W 256 (λ b. take W (repeatRow row n loops b))
   repeats-long loops e b h =

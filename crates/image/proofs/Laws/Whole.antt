@@ -2,9 +2,10 @@
 use mathlib.Core.Path.{_≡_, refl, ap, _∙_}
 use mathlib.Core.List.{List, [], _∷_, _++_}
 use Prim.Native.Nat.{ℕ, suc, _+_, _*_, _≤_}
+use native.Mathlib.Nat.{mul-add}
 use native.Mathlib.Omega.{arith}
 use lib.ListN.{getD, length, take}
-use lib.Seq.{sets}
+use lib.Seq.{length-sets, sets}
 use Rattle.model.specs.Image.{section}
 use Rattle.model.specs.Models.LayOut.{gather-block, gather-source, gather-target, loop-place, scatter-block, scatter-source, scatter-target, Which}
 use Rattle.tape.specs.Masks.{rowIn, tableIn}
@@ -12,8 +13,9 @@ use Rattle.tape.specs.Says.{Laid}
 use Rattle.tape.specs.Tables.{Table}
 use Rattle.tape.specs.Tapes.{propagateBlockTable, propagateSourceTable, propagateTargetTable, tableOf}
 use Rattle.tape.specs.declared.Tape.{Tape}
-use Rattle.image.specs.Work.{imageWords, letterRow, lettersPart, repeatRow, repeatsPart, tablesPart}
+use Rattle.image.specs.Work.{bothPart, imageWords, letterRow, lettersPart, repeatRow, repeatsPart, tablesPart}
 use Rattle.image.proofs.Laws.Lengths.{depthRows, depths-long, laid-eights, letters-long, repeats-long}
+use Rattle.image.proofs.Laws.Loops.{repeats-are}
 use Rattle.image.proofs.Laws.Parts.{length-section}
 use Rattle.image.proofs.Laws.Stores.{sets-on}
 
@@ -49,15 +51,15 @@ module _ (W d : ℕ) (row : List ℕ) (t : Tape) (narrow : W ≤ 8) (shallow : d
       (laid-eights t target))
 
   -- the words after each section, and where the next begins
-  pub whole : {p s g r : List ℕ} → Laid t p s g r → (l : List ℕ) {places shaped lettered repeated scattered gathered after : List ℕ}
+  pub whole : {p s g r : List ℕ} → Laid t p s g r → (l : List ℕ) → 9 + W * (515 + 9 * d) ≤ length l → {places shaped lettered repeated scattered gathered after : List ℕ}
       {repeats scatter gather propagate : ℕ} → places ≡ rowIn p 1
       → shaped ≡ sets l 0 (section (suc (t .length) ∷ W ∷ d ∷ []))
       → lettered ≡ sets shaped 4 (lettersPart W row (t .length)) → repeats ≡ 4 + 1 + 256 * W
-      → repeated ≡ sets lettered repeats (repeatsPart W row (t .length) places) → scatter ≡ repeats + 1 + 256 * W
+      → repeated ≡ sets lettered repeats (bothPart W lettered 5 places) → scatter ≡ repeats + 1 + 256 * W
       → scattered ≡ sets repeated scatter (tablesPart W d (tableIn s 0) (tableIn s 1) (tableIn s 2)) → gather ≡ scatter + 1 + 3 * W * d
       → gathered ≡ sets scattered gather (tablesPart W d (tableIn g 0) (tableIn g 1) (tableIn g 2)) → propagate ≡ gather + 1 + 3 * W * d
       → after ≡ sets gathered propagate (tablesPart W (suc d) (tableIn r 0) (tableIn r 1) (tableIn r 2)) → after ≡ sets l 0 (imageWords W d row t)
-  whole L l {shaped = shaped} {lettered = lettered} {repeated = repeated} {scattered = scattered} {gathered = gathered} {repeats = repeats} {scatter = scatter}
+  whole L l fits {places = places} {shaped = shaped} {lettered = lettered} {repeated = repeated} {scattered = scattered} {gathered = gathered} {repeats = repeats} {scatter = scatter}
       {gather = gather} {propagate = propagate} are-loops by-shape by-letters to-repeats by-repeats to-scatter by-scatter to-gather by-gather to-propagate by-propagate =
       let shapePart = section (suc (t .length) ∷ W ∷ d ∷ []) in
       let letterPart = lettersPart W row (t .length) in
@@ -65,13 +67,17 @@ module _ (W d : ℕ) (row : List ℕ) (t : Tape) (narrow : W ≤ 8) (shallow : d
       let scatterPart = laidPart scatter-block scatter-source scatter-target in
       let gatherPart = laidPart gather-block gather-source gather-target in
       let propagatePart = tablesPart W (suc d) (propagateBlockTable t) (propagateSourceTable t) (propagateTargetTable t) in
+      let are-repeats : bothPart W lettered 5 places ≡ repeatPart =
+      ap (λ (ws : List ℕ). bothPart W ws 5 places) by-letters
+      ∙ repeats-are W row (t .length) narrow shaped 4 (omega (arith, mul-add W 515 (9 * d), ap length by-shape, length-sets l 0 shapePart)) places
+      ∙ ap (repeatsPart W row (t .length)) (are-loops ∙ L .loop-places) in
       let fromGather = gatherPart ++ propagatePart in
       let fromScatter = scatterPart ++ fromGather in
       let fromRepeats = repeatPart ++ fromScatter in
       both l 0 shapePart (letterPart ++ fromRepeats) refl refl by-shape
       (both shaped 4 letterPart fromRepeats length-letters (omega arith) by-letters
       (both lettered repeats repeatPart fromScatter length-repeats (omega arith)
-      (by-repeats ∙ ap (λ (ws : List ℕ). sets lettered repeats (repeatsPart W row (t .length) ws)) (are-loops ∙ L .loop-places))
+      (by-repeats ∙ ap (sets lettered repeats) are-repeats)
       (both repeated scatter scatterPart fromGather (length-laid scatter-block scatter-source scatter-target) (omega arith)
       (tables-as (L .scatter-blocks) (L .scatter-sources) (L .scatter-targets) W d repeated scatter by-scatter)
       (both scattered gather gatherPart propagatePart (length-laid gather-block gather-source gather-target) (omega arith)

@@ -72,6 +72,7 @@ put-image-requires c κs =
         omega (arith, c .before .before .before .before .before .before .before .width-of .ensures, f),
         shallow T p,
         omega (arith, t .ensures .0, f),
+        omega (arith, t .ensures .0, c .before .before .before .before .before .before .before .width-of .ensures, f),
         omega (arith, c .before .before .before .before .before .before .image-length .ensures, c .before .before .before .before .before .if1 .left),
       ),
       w .lay-out .ensures .1 .1 .0,

@@ -26,43 +26,43 @@ put-tables-requires c κs = search needs
 
 put-tables-requires-2 : tie.Need-put-tables-requires-2
 put-tables-requires-2 c κs =
-    let s = c .before .before .before .before .before .before .before .before .before .before .before .before .before .before .before .before .before .before .before .before .before .before .before .before in (
+    let s = c .before .before .before .before .before .before .before .before .before .before .before .before .before .before .before .before .before .before .before .before .before .before .before in (
       s .pre .0 .0,
       omega (arith, s .pre .0 .1),
       omega (
         arith,
-        s .pre .0 .3,
+        s .pre .0 .4,
         c .before .before .before .words4 .given,
         c .before .before .before .before .before .before .before .before .words3 .given,
-        c .before .before .before .before .before .before .before .before .before .before .before .before .before .words2 .given,
-        c .before .before .before .before .before .before .before .before .before .before .before .before .before .before .before .before .before .before .words .given,
+        c .before .before .before .before .before .before .before .before .before .before .before .before .words2 .given,
+        c .before .before .before .before .before .before .before .before .before .before .before .before .before .before .before .before .before .words .given,
         c .before .before .before .before .put-tables .ensures .0,
         c .before .before .before .before .before .before .before .before .before .put-repeats .ensures .0,
-        c .before .before .before .before .before .before .before .before .before .before .before .before .before .before .put-letters .ensures .0,
+        c .before .before .before .before .before .before .before .before .before .before .before .before .before .put-letters .ensures .0,
       ),
       c .put-tables-arg4 .given .0,
     )
 
 add-put-tables : tie.Need-add-put-tables
-add-put-tables c = omega (arith, c .before .before .before .before .before .before .before .before .before .before .before .before .before .before .before .before .before .before .before .before .before .before .before .before .before .before .before .before .pre .0 .1)
+add-put-tables c = omega (arith, c .before .before .before .before .before .before .before .before .before .before .before .before .before .before .before .before .before .before .before .before .before .before .before .before .before .before .before .pre .0 .1)
 
 put-tables-requires-3 : tie.Need-put-tables-requires-3
 put-tables-requires-3 c κs =
-    let s = c .before .before .before .before .before .before .before .before .before .before .before .before .before .before .before .before .before .before .before .before .before .before .before .before .before .before .before .before .before in (
+    let s = c .before .before .before .before .before .before .before .before .before .before .before .before .before .before .before .before .before .before .before .before .before .before .before .before .before .before .before .before in (
       s .pre .0 .0,
       omega (arith, s .pre .0 .1),
       omega (
         arith,
-        s .pre .0 .3,
+        s .pre .0 .4,
         c .before .before .before .words5 .given,
         c .before .before .before .before .before .before .before .before .words4 .given,
         c .before .before .before .before .before .before .before .before .before .before .before .before .before .words3 .given,
-        c .before .before .before .before .before .before .before .before .before .before .before .before .before .before .before .before .before .before .words2 .given,
-        c .before .before .before .before .before .before .before .before .before .before .before .before .before .before .before .before .before .before .before .before .before .before .before .words .given,
+        c .before .before .before .before .before .before .before .before .before .before .before .before .before .before .before .before .before .words2 .given,
+        c .before .before .before .before .before .before .before .before .before .before .before .before .before .before .before .before .before .before .before .before .before .before .words .given,
         c .before .before .before .before .put-tables2 .ensures .0,
         c .before .before .before .before .before .before .before .before .before .put-tables .ensures .0,
         c .before .before .before .before .before .before .before .before .before .before .before .before .before .before .put-repeats .ensures .0,
-        c .before .before .before .before .before .before .before .before .before .before .before .before .before .before .before .before .before .before .before .put-letters .ensures .0,
+        c .before .before .before .before .before .before .before .before .before .before .before .before .before .before .before .before .before .before .put-letters .ensures .0,
       ),
       c .put-tables-arg6 .given .0,
     )
@@ -76,11 +76,11 @@ returns c =
     let gather = c .before .before .before .before .before .before .before in
     let scatter = c .before .before .before .before .before .before .before .before .before .before .before .before in
     let repeats = c .before .before .before .before .before .before .before .before .before .before .before .before .before .before .before .before .before in
-    let letters = c .before .before .before .before .before .before .before .before .before .before .before .before .before .before .before .before .before .before .before .before .before .before in
-    let shape = c .before .before .before .before .before .before .before .before .before .before .before .before .before .before .before .before .before .before .before .before .before .before .before .before .before .before .before in
-    let s = c .before .before .before .before .before .before .before .before .before .before .before .before .before .before .before .before .before .before .before .before .before .before .before .before .before .before .before .before .before .before .before .before in
+    let letters = c .before .before .before .before .before .before .before .before .before .before .before .before .before .before .before .before .before .before .before .before .before in
+    let shape = c .before .before .before .before .before .before .before .before .before .before .before .before .before .before .before .before .before .before .before .before .before .before .before .before .before .before in
+    let s = c .before .before .before .before .before .before .before .before .before .before .before .before .before .before .before .before .before .before .before .before .before .before .before .before .before .before .before .before .before .before .before in
     let a = s .args in
-    whole (a .width) (a .depth) (a .t2) (a .tape) (s .pre .0 .0) (s .pre .0 .1) (s .pre .1) (a .words .now) (c .before .before .before .before .before .before .before .before .before .before .before .before .before .before .before .before .before .before .before .before .before .before .before .before .before .before .before .before .before .row-of .ensures .inside (omega (arith, c .before .before .before .before .before .before .before .before .before .before .before .before .before .before .before .before .before .before .before .before .before .before .before .before .before .before .before .before .before .before .row-of-arg .given .0)))
+    whole (a .width) (a .depth) (a .t2) (a .tape) (s .pre .0 .0) (s .pre .0 .1) (s .pre .1) (a .words .now) (s .pre .0 .4) (c .before .before .before .before .before .before .before .before .before .before .before .before .before .before .before .before .before .before .before .before .before .before .before .before .before .before .before .before .row-of .ensures .inside (omega (arith, c .before .before .before .before .before .before .before .before .before .before .before .before .before .before .before .before .before .before .before .before .before .before .before .before .before .before .before .before .before .row-of-arg .given .0)))
     (rw add-one at (shape .put-shape .ensures)) (letters .put-letters .ensures .1) (letters .put-letters .ensures .0)
     (repeats .put-repeats .ensures .1) (repeats .put-repeats .ensures .0) (scatter .put-tables .ensures .1) (scatter .put-tables .ensures .0)
     (gather .put-tables2 .ensures .1) (gather .put-tables2 .ensures .0) (rw add-one at (propagate .put-tables3 .ensures .1))

@@ -1,16 +1,13 @@
 -- THE MASKS OF WORK: as they lie in the words of an image, with words of zeros above, and as tables of nine.
-use mathlib.Core.Path.{_≡_}
-use mathlib.Core.Bool.{Bool, true, false, _&&_, cond}
+use mathlib.Core.Bool.{_&&_, cond}
 use mathlib.Core.List.{List, [], _∷_, _++_}
 use Prim.Native.Nat.{ℕ, zero, suc, _+_, _-_, _*_}
-use lib.Dec.{eqb, leb}
+use lib.Dec.{leb}
 use lib.ListN.{drop, getD, length, replicate, take}
-use lib.Seq.{sets}
-use Rattle.model.specs.Bits.{bit}
-use Rattle.model.specs.Image.{width}
 use Rattle.model.specs.Models.Apart.{depthWord, gatherAt, propagateAt, scatterAt, stateWord}
 use Rattle.model.specs.Models.Run.{Masks, passWords, stepWords}
-use Rattle.model.specs.Models.Words.{value}
+use Rattle.word.specs.Ends.{endsWith}
+use Rattle.word.specs.Shape.{shaped, widthOf}
 
 -- "A mask is one record of eight 64-bit words in work, and in the image its first W words"
 abbrev pub rowAt : List ℕ → ℕ → ℕ → List ℕ
@@ -60,19 +57,7 @@ riseMasks gb gs gt pb ps pt = passMasks (λ k j. []) (threeOf gb gs gt) (threeOf
 abbrev pub fallMasks : (scatterBlock scatterSource scatterTarget propagateBlock propagateSource propagateTarget : List (List ℕ)) → Masks
 fallMasks sb ss st pb ps pt = passMasks (threeOf sb ss st) (λ k j. []) (threeOf pb ps pt)
 
--- whether words have the length that their shape asks: "The length is 9 + W(515 + 9d) words", for 2 to 512 states and a depth of at most 8
-abbrev pub shapeLength : ℕ → ℕ → ℕ
-shapeLength W d = 9 + W * (515 + 9 * d)
-
-abbrev pub shaped : List ℕ → Bool
-shaped ws =
-    leb 2 (stateWord ws)
-    && (leb (stateWord ws) 512 && (leb (depthWord ws) 8 && eqb (length ws) (shapeLength (width (stateWord ws)) (depthWord ws))))
-
 -- THE MASKS OF WORDS WITH A SHAPE
-abbrev pub widthOf : List ℕ → ℕ
-widthOf ws = width (stateWord ws)
-
 abbrev pub scatterTable : List ℕ → ℕ → List (List ℕ)
 scatterTable ws = tableAt ws (scatterAt (widthOf ws)) (widthOf ws) (depthWord ws)
 
@@ -98,23 +83,5 @@ beginWords ws = cond (shaped ws) (passWords (masksOf ws) (depthWord ws) startWor
 abbrev pub nextWords : List ℕ → ℕ → List ℕ → List ℕ
 nextWords ws b live = cond (shaped ws) (stepWords (masksOf ws) (depthWord ws) b live) noWords
 
--- the place as a list, if it is an end
-abbrev pub noted : Bool → ℕ → List ℕ
-noted true p = p ∷ []
-noted false p = []
-
--- the ends from place p on, where the live states are given and then the rest of the text: those places where state `last` is live
-abbrev pub endsFrom : Masks → (d last p : ℕ) → (live rest : List ℕ) → List ℕ
-endsFrom M d last p live [] = noted (bit (value live) last) p
-endsFrom M d last p live (b ∷ rest) = noted (bit (value live) last) p ++ endsFrom M d last (suc p) (stepWords M d b live) rest
-
-abbrev pub endsWith : Masks → (d last : ℕ) → List ℕ → List ℕ
-endsWith M d last text = endsFrom M d last 0 (passWords M d (M .startMask)) text
-
 abbrev pub endsFound : List ℕ → List ℕ → List ℕ
 endsFound ws text = cond (shaped ws && leb (length text) 65535) (endsWith (masksOf ws) (depthWord ws) (stateWord ws - 1) text) []
-
--- the total of a list, and its places stored one after another in what was lent: a store past the end changes nothing
-pub record Written (ps before : List ℕ) (total : ℕ) (after : List ℕ) : Type 0 where
-  pub counted : total ≡ length ps
-  pub stored : after ≡ sets before 0 ps

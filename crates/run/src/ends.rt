@@ -2,39 +2,25 @@
 use crate::rows::gather_table;
 use crate::rows::propagate_table;
 use crate::rows::scatter_table;
-use crate::shape::depth;
-use crate::shape::has_shape;
-use crate::shape::states;
 use crate::shape::width;
 use crate::steps::Table;
 use crate::steps::pass;
 use crate::steps::start;
 use crate::steps::step_by;
 use mask::bits::has_bit;
+use word::places::note;
+use word::shape::depth;
+use word::shape::has_shape;
+use word::shape::states;
 ghost use mathlib.Core.Bool.{true};
 ghost use mathlib.Core.Path.{_≡_};
 ghost use Prim.Native.Nat.{_+_, _-_, _*_, _≤_};
 ghost use lib.ListN.{length};
-ghost use lib.Seq.{sets};
 ghost use Rattle.model.specs.Models.Apart.{depthWord, stateWord};
 ghost use Rattle.run.specs.Says.{FindSays};
-ghost use Rattle.run.specs.Work.{endsFound, endsWith, masksOf, noted, shaped, threeOf, workMasks, Written};
-
-// An end is written where there is room for it, and counted in any case: what it adds to the total.
-fn note(places: &mut [u32], total: usize, place: u32, hit: bool) -> usize
-    ensures counted { λ r. ⌜ r ≡ length (noted hit place) ⌝ }
-    ensures written { λ r. ⌜ now (places .exit) ≡ sets (now (places .entry)) total (noted hit place) ⌝ }
-{
-    if hit {
-        if total >= places.len() {
-            return 1;
-        }
-        places[total] = place;
-        1
-    } else {
-        0
-    }
-}
+ghost use Rattle.word.specs.Ends.{endsWith, Written};
+ghost use Rattle.word.specs.Shape.{shaped};
+ghost use Rattle.run.specs.Work.{endsFound, masksOf, threeOf, workMasks};
 
 // The ends of the text, with the tables of work: one step for each byte, and the accepting state looked up at each place.
 fn scan(
@@ -76,7 +62,7 @@ fn scan(
     let mut total: usize = 0;
     let mut p: usize = 0;
     loop {
-        total += note(places, total, p as u32, has_bit(live, last));
+        total = note(places, total, p as u32, has_bit(live, last));
         if p >= text.len() {
             break;
         }
@@ -136,7 +122,7 @@ fn find_in(image: &[u64], text: &[u8], places: &mut [u32]) -> u64
     )
 }
 
-// The ends of a text: the total, and the first that fit in what is lent, rising. Words without a shape and texts of more than 65,535 bytes give 0
+// The ends of a text: the total, and the first that fit in what is lent, rising. A rule of at most 64 states runs on plain words. Words without a shape and texts of more than 65,535 bytes give 0
 // and change nothing.
 pub fn find(image: &[u64], text: &[u8], places: &mut [u32]) -> u64
     ensures computed { λ r. ⌜ Written (endsFound (now (image .entry)) (now (text .entry))) (now (places .entry)) r (now (places .exit)) ⌝ }
@@ -144,6 +130,9 @@ pub fn find(image: &[u64], text: &[u8], places: &mut [u32]) -> u64
 {
     if has_shape(image) {
         if text.len() <= 65535 {
+            if states(image) <= 64 {
+                return word::ends::find(image, text, places);
+            }
             return find_in(image, text, places);
         }
     }

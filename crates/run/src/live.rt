@@ -2,19 +2,20 @@
 use crate::rows::gather_table;
 use crate::rows::propagate_table;
 use crate::rows::scatter_table;
-use crate::shape::depth;
-use crate::shape::has_shape;
 use crate::shape::width;
 use crate::steps::moved;
 use crate::steps::pass;
 use crate::steps::start;
 use mask::Mask;
+use word::shape::depth;
+use word::shape::has_shape;
 ghost use mathlib.Core.Bool.{true};
 ghost use mathlib.Core.Path.{_≡_};
 ghost use Rattle.model.specs.Models.Apart.{depthWord};
 ghost use Rattle.model.specs.Models.Run.{passWords};
 ghost use Rattle.run.specs.Says.{BeginSays, StepSays};
-ghost use Rattle.run.specs.Work.{beginWords, masksOf, nextWords, shaped};
+ghost use Rattle.word.specs.Shape.{shaped};
+ghost use Rattle.run.specs.Work.{beginWords, masksOf, nextWords};
 
 // Up and down with the tables of the image.
 fn pass_of(image: &[u64], live: Mask) -> Mask

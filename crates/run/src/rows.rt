@@ -1,11 +1,12 @@
 // Masks as they lie in an image, and as tables of nine in work: "in the image its first W words", zeros above.
-use crate::shape::depth;
 use crate::shape::width;
+use word::shape::depth;
 ghost use mathlib.Core.Bool.{true};
 ghost use mathlib.Core.Path.{_≡_};
 ghost use Prim.Native.Nat.{_+_, _*_, _≤_, _<_};
 ghost use lib.ListN.{length, getD};
-ghost use Rattle.run.specs.Work.{gatherTable, propagateTable, rowAt, scatterTable, shaped, tableAt};
+ghost use Rattle.word.specs.Shape.{shaped};
+ghost use Rattle.run.specs.Work.{gatherTable, propagateTable, rowAt, scatterTable, tableAt};
 
 // Word i of the mask at a place.
 fn word_of(image: &[u64], at: usize, width: usize, i: usize) -> u64

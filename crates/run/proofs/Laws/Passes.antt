@@ -5,7 +5,8 @@ use Prim.Native.Nat.{ℕ, zero, suc, _+_, _-_, _≤_, _<_}
 use native.Mathlib.Nat.{not-suc-le-zero}
 use native.Mathlib.Omega.{arith}
 use Rattle.model.specs.Models.Run.{fallWords, gatherBy, Masks, passWords, propagateBy, riseWords, scatterBy}
-use Rattle.run.specs.Work.{gatherTable, masksOf, propagateTable, scatterTable, threeOf, Threes, threes, widthOf, workMasks}
+use Rattle.word.specs.Shape.{widthOf}
+use Rattle.run.specs.Work.{gatherTable, masksOf, propagateTable, scatterTable, threeOf, Threes, threes, workMasks}
 
 module _ (M : Masks) where
   pub rise-one : (k : ℕ) → 0 < k → (live : List ℕ) → riseWords M (k - 1) (gatherBy M (k - 1) (propagateBy M k live)) ≡ riseWords M k live

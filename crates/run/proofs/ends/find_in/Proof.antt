@@ -4,9 +4,10 @@ use mathlib.Core.List.{List}
 use Prim.Native.Nat.{ℕ, _-_}
 use native.Mathlib.Omega.{arith}
 use Rattle.model.specs.Models.Run.{Masks}
-use Rattle.run.specs.Work.{endsWith, masksOf, threeOf, workMasks, Written}
+use Rattle.word.specs.Ends.{endsWith, Written}
+use Rattle.run.specs.Work.{masksOf, threeOf, workMasks}
 use Rattle.run.proofs.Laws.Passes.{masks-are}
-use Rattle.run.proofs.Laws.Shape.{sections-of, shape-of}
+use Rattle.word.proofs.Laws.Shape.{sections-of, shape-of}
 use borrow.Author.Needs.{needs}
 use Rattle.run.proofs.ends.find_in.Statement.{statement}
 use Rattle.run.proofs.ends.find_in.Tie as tie

@@ -5,9 +5,10 @@ use Prim.Native.Nat.{ℕ, _-_}
 use native.Mathlib.Omega.{arith}
 use lib.ListN.{length}
 use Rattle.model.specs.Models.Run.{passWords}
-use Rattle.run.specs.Work.{endsFrom, threeOf, workMasks}
+use Rattle.word.specs.Ends.{endsFrom}
+use Rattle.run.specs.Work.{threeOf, workMasks}
 use Rattle.run.proofs.Laws.Passes.{pass-only}
-use Rattle.run.proofs.Laws.Scan.{noted-few, scan-begin, Scanned, scan-end, scan-next}
+use Rattle.word.proofs.Laws.Scan.{scan-begin, Scanned, scan-end, scan-next}
 use borrow.Author.Needs.{needs}
 use Rattle.run.proofs.ends.scan.Statement.{statement}
 use Rattle.run.proofs.ends.scan.Tie as tie
@@ -46,12 +47,6 @@ has-bit-requires c κs = search needs
 note-requires : tie.Need-note-requires Inv-loop μ-loop
 note-requires c κs = search needs
 
-add-total : tie.Need-add-total Inv-loop μ-loop
-add-total c =
-    let n = c .before .before in
-    let l = c .before .before .before .before .before .loop in
-    omega (arith, n .note .ensures .0, noted-few (n .before .has-bit .result) (l .p), l .inv .few, l .inv .within, c .before .before .before .before .before .before .before .before .before .before .before .before .before .before .before .before .before .before .before .before .pre .3)
-
 shared-slice-read-step-by : tie.Need-shared-slice-read-step-by Inv-loop μ-loop
 shared-slice-read-step-by c = search needs
 
@@ -68,8 +63,9 @@ loop-again : tie.Need-loop-again Inv-loop μ-loop
 loop-again c =
     let n = c .before .before .before .before .before .before .before .before .before .before .before .before .before .before in
     let l = c .before .before .before .before .before .before .before .before .before .before .before .before .before .before .before .before .before .loop in
-    let a = c .before .before .before .before .before .before .before .before .before .before .before .before .before .before .before .before .before .before .before .before .before .before .before .before .before .before .before .before .before .before .before .before .args in
-    scan-next (workMasks (a .image .now) (a .width) (threeOf (a .t7) (a .t8) (a .t9)) (threeOf (a .t10) (a .t11) (a .t12)) (threeOf (a .t13) (a .t14) (a .t15))) (a .depth) (a .last) (a .text .now) (a .places .now) (n .before .has-bit .result) (l .inv) (n .before .has-bit .ensures)
+    let s = c .before .before .before .before .before .before .before .before .before .before .before .before .before .before .before .before .before .before .before .before .before .before .before .before .before .before .before .before .before .before .before .before in
+    let a = s .args in
+    scan-next (workMasks (a .image .now) (a .width) (threeOf (a .t7) (a .t8) (a .t9)) (threeOf (a .t10) (a .t11) (a .t12)) (threeOf (a .t13) (a .t14) (a .t15))) (a .depth) (a .last) (a .text .now) (a .places .now) (s .pre .3) (n .before .has-bit .result) (l .inv) (n .before .has-bit .ensures)
     (n .note .ensures .0) (n .note .ensures .1) (c .before .before .before .before .before .before .before .before .before .before .before .if1 .left) (c .step-by .result .words) (c .step-by .ensures)
 
 same-length : tie.Need-same-length Inv-loop μ-loop
@@ -79,8 +75,9 @@ returns : tie.Need-returns Inv-loop μ-loop
 returns c =
     let n = c .before .before .before in
     let l = c .before .before .before .before .before .before .loop in
-    let a = c .before .before .before .before .before .before .before .before .before .before .before .before .before .before .before .before .before .before .before .before .before .args in
-    scan-end (workMasks (a .image .now) (a .width) (threeOf (a .t7) (a .t8) (a .t9)) (threeOf (a .t10) (a .t11) (a .t12)) (threeOf (a .t13) (a .t14) (a .t15))) (a .depth) (a .last) (a .text .now) (a .places .now) (n .before .has-bit .result) (l .inv) (n .before .has-bit .ensures)
+    let s = c .before .before .before .before .before .before .before .before .before .before .before .before .before .before .before .before .before .before .before .before .before in
+    let a = s .args in
+    scan-end (workMasks (a .image .now) (a .width) (threeOf (a .t7) (a .t8) (a .t9)) (threeOf (a .t10) (a .t11) (a .t12)) (threeOf (a .t13) (a .t14) (a .t15))) (a .depth) (a .last) (a .text .now) (a .places .now) (s .pre .3) (n .before .has-bit .result) (l .inv) (n .before .has-bit .ensures)
     (n .note .ensures .0) (n .note .ensures .1) (c .if1 .taken)
 
 pub scan-spec : {M : Type 1} → statement M
@@ -95,7 +92,6 @@ scan-spec =
     cast-note
     has-bit-requires
     note-requires
-    add-total
     shared-slice-read-step-by
     step-by-requires
     add-p

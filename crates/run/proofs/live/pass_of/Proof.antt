@@ -4,9 +4,10 @@ use mathlib.Core.List.{[]}
 use Prim.Native.Nat.{ℕ}
 use native.Mathlib.Omega.{arith}
 use Rattle.model.specs.Models.Run.{Masks, passWords}
-use Rattle.run.specs.Work.{masksOf, threeOf, widthOf}
+use Rattle.word.specs.Shape.{widthOf}
+use Rattle.run.specs.Work.{masksOf, threeOf}
 use Rattle.run.proofs.Laws.Passes.{masks-are, pass-only}
-use Rattle.run.proofs.Laws.Shape.{shape-of}
+use Rattle.word.proofs.Laws.Shape.{shape-of}
 use borrow.Author.Needs.{needs}
 use Rattle.run.proofs.live.pass_of.Statement.{statement}
 use Rattle.run.proofs.live.pass_of.Tie as tie

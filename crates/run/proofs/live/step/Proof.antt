@@ -7,7 +7,7 @@ use Rattle.model.specs.Models.Apart.{depthWord}
 use Rattle.model.specs.Models.Run.{moveWords, passWords, stepWords}
 use Rattle.run.specs.Work.{masksOf, nextWords, noWords, rowAt, startWords}
 use Rattle.run.proofs.Image.Live.{step-says}
-use Rattle.run.proofs.Laws.Shape.{sections-of}
+use Rattle.word.proofs.Laws.Shape.{sections-of}
 use borrow.Author.Needs.{needs}
 use Rattle.run.proofs.live.step.Statement.{statement}
 use Rattle.run.proofs.live.step.Tie as tie

@@ -9,7 +9,7 @@ use lib.Dec.{T, eqb, eqb-refl, eqb→eq, leb, leb→le, le→leb}
 use lib.ListN.{length}
 use Rattle.model.specs.Models.Apart.{depthWord, gatherAt, propagateAt, scatterAt, stateWord}
 use Rattle.model.proofs.Laws.Bool.{and-both, and-split, is-not, is-true, le-true}
-use Rattle.run.specs.Work.{shaped, shapeLength, widthOf}
+use Rattle.word.specs.Shape.{shaped, shapeLength, widthOf}
 
 pub record Shape (ws : List ℕ) : Type 0 where
   pub some-states : 2 ≤ stateWord ws

@@ -3,10 +3,10 @@ use mathlib.Core.Path.{sym}
 use native.Mathlib.Omega.{arith}
 use Prim.Native.Nat.{_+_, _/_}
 use lib.ListN.{getD}
-use Rattle.run.proofs.Laws.Shape.{length-small, not-shaped, shaped-long}
+use Rattle.word.proofs.Laws.Shape.{length-small, not-shaped, shaped-long}
 use borrow.Author.Needs.{needs}
-use Rattle.run.proofs.shape.has_shape.Statement.{statement}
-use Rattle.run.proofs.shape.has_shape.Tie as tie
+use Rattle.word.proofs.shape.has_shape.Statement.{statement}
+use Rattle.word.proofs.shape.has_shape.Tie as tie
 
 returns : tie.Need-returns
 returns c = sym (not-shaped (c .before .args .image .now) (λ S. omega (arith, S .long)))

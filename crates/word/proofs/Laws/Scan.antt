@@ -1,8 +1,8 @@
 -- THE LOOP OVER A TEXT: what was noted and what is still to come is the whole list of ends, turn by turn.
 use mathlib.Core.Path.{_≡_, refl, sym, ap, ap₂, _∙_}
 use mathlib.Core.Bool.{Bool, true, false}
-use mathlib.Core.List.{List, _++_}
-use Prim.Native.Nat.{ℕ, suc, _+_, _≤_, _<_}
+use mathlib.Core.List.{List, [], _∷_, _++_}
+use Prim.Native.Nat.{ℕ, suc, _+_, _%_, _^_, _≤_, _<_}
 use native.Mathlib.Omega.{arith}
 use lib.ListN.{drop, drop-of-length-le, getD, length, length-append}
 use lib.Seq.{drop-cons, length-sets, sets}
@@ -10,7 +10,13 @@ use Rattle.model.specs.Bits.{bit}
 use Rattle.model.specs.Models.Run.{Masks, stepWords}
 use Rattle.model.specs.Models.Words.{value}
 use Rattle.model.proofs.Laws.Stores.{sets-append}
-use Rattle.run.specs.Work.{endsFrom, endsWith, noted, Written}
+use Rattle.model.proofs.Words.Run.{Bytes}
+use Rattle.word.specs.Ends.{endsFrom, endsWith, noted, Written}
+
+-- ---- the bytes of a text
+pub all-bytes : (text : List ℕ) → ((i : ℕ) → getD text i 0 < 256) → Bytes text
+all-bytes [] h = tt
+all-bytes (b ∷ text) h = (h 0, all-bytes text (λ i. h (suc i)))
 
 pub noted-few : (b : Bool) (p : ℕ) → length (noted b p) ≤ 1
 noted-few true p = omega arith
@@ -37,24 +43,26 @@ module _ (M : Masks) (d last : ℕ) (text before : List ℕ) where
   }
 
   -- the place p is noted
-  module _ {places live after : List ℕ} {total p n : ℕ} (hit : Bool) (S : Scanned places live total p) (looked : hit ≡ bit (value live) last)
-      (count : n ≡ length (noted hit p)) (write : after ≡ sets places total (noted hit p)) where
+  module _ {places live after : List ℕ} {total p new : ℕ} (small : length text ≤ 65535) (hit : Bool) (S : Scanned places live total p)
+      (looked : hit ≡ bit (value live) last) (count : new ≡ (total + length (noted hit p)) % 2 ^ 64) (write : after ≡ sets places total (noted hit p)) where
     abbrev h : Bool
     h = bit (value live) last
 
-    count′ : n ≡ length (noted h p)
-    count′ = count ∙ ap (λ (b : Bool). length (noted b p)) looked
+    count′ : new ≡ total + length (noted h p)
+    count′ =
+        count ∙ (let q : (total + length (noted hit p)) % 2 ^ 64 ≡ total + length (noted hit p) = omega (arith, noted-few hit p, S .few, S .within) in q)
+        ∙ ap (λ (b : Bool). total + length (noted b p)) looked
 
     write′ : after ≡ sets places total (noted h p)
     write′ = write ∙ ap (λ (b : Bool). sets places total (noted b p)) looked
 
-    pub scan-next : p < length text → (live′ : List ℕ) → live′ ≡ stepWords M d (getD text p 0) live → Scanned after live′ (total + n) (p + 1)
+    pub scan-next : p < length text → (live′ : List ℕ) → live′ ≡ stepWords M d (getD text p 0) live → Scanned after live′ new (p + 1)
     scan-next l live′ e = record {
       within = omega arith;
       few = omega (arith, S .few, count′, noted-few h p);
       long = ap length write′ ∙ length-sets places total (noted h p) ∙ S .long;
       counted = omega (arith, S .counted, count′, ap length split, length-append (noted h p) rest, ap length same);
-      stored = ap (sets after (total + n)) same ∙ ap₂ (λ (l : List ℕ) (k : ℕ). sets l (total + k) rest) write′ count′
+      stored = ap (sets after new) same ∙ ap₂ (λ (l : List ℕ) (k : ℕ). sets l k rest) write′ count′
           ∙ sym (sets-append places total (noted h p) rest) ∙ ap (sets places total) (sym split) ∙ S .stored;
     }
       where
@@ -70,7 +78,7 @@ module _ (M : Masks) (d last : ℕ) (text before : List ℕ) where
             ∙ ap (λ (w : List ℕ). endsFrom M d last (suc p) w (drop (suc p) text)) e
 
     -- the last place
-    pub scan-end : length text ≤ p → Written (endsWith M d last text) before (total + n) after
+    pub scan-end : length text ≤ p → Written (endsWith M d last text) before new after
     scan-end l = record {
       counted = omega (arith, S .counted, count′, ap length whole);
       stored = write′ ∙ ap (sets places total) (sym whole) ∙ S .stored;

@@ -40,6 +40,6 @@ pub fn repeat_row(tokens: &[u64; 2555], length: usize, b: usize, loops: [u64; 8]
     let letters = Mask {
         words: letter_row(tokens, length, b),
     };
-    let both = and(letters, Mask { words: loops });
+    let both = and(letters, Mask { words: loops }, 8);
     both.words
 }

@@ -10,34 +10,11 @@ use lib.ListN.{drop, take}
 use lib.Pow.{pow-add}
 use Rattle.model.specs.Bits.{bit}
 use Rattle.model.specs.Models.Run.{fallWords, gatherBy, gatherWords, Masks, moveBy, moveWords, passWords, propagateBy, propagateWords, riseWords, scatterBy, scatterWords, stepWords}
-use Rattle.model.specs.Models.Words.{addWords, andWords, eachWord, notWords, orWords, ripple, shiftWords, subtractWords, value, xorWords}
+use Rattle.model.specs.Models.Words.{addWords, andWords, notWords, orWords, shiftWords, subtractWords, value, xorWords}
 use Rattle.mask.proofs.Laws.Bits.{low-bit}
+use Rattle.mask.proofs.Laws.Take.{take-each, take-not, take-ripple, take-shift}
 use Rattle.model.proofs.Words.Run.{Bytes}
 use Rattle.word.specs.Ends.{endsFrom, endsWith, noted}
-
--- ---- the operations on words
-pub take-each : (f : ℕ → ℕ → ℕ) (n : ℕ) (xs ys : List ℕ) → take n (eachWord f xs ys) ≡ eachWord f (take n xs) (take n ys)
-take-each f zero xs ys = refl
-take-each f (suc n) [] ys = refl
-take-each f (suc n) (x ∷ xs) [] = refl
-take-each f (suc n) (x ∷ xs) (y ∷ ys) = ap (λ (l : List ℕ). f x y ∷ l) (take-each f n xs ys)
-
-take-not : (n : ℕ) (xs : List ℕ) → take n (notWords xs) ≡ notWords (take n xs)
-take-not zero xs = refl
-take-not (suc n) [] = refl
-take-not (suc n) (x ∷ xs) = ap (λ (l : List ℕ). notWords (x ∷ []) ++ l) (take-not n xs)
-
-take-ripple : (word : ℕ → ℕ → Bool → ℕ) (out : ℕ → ℕ → Bool → Bool) (n : ℕ) (xs ys : List ℕ) (c : Bool)
-    → take n (ripple word out xs ys c) ≡ ripple word out (take n xs) (take n ys) c
-take-ripple word out zero xs ys c = refl
-take-ripple word out (suc n) [] ys c = refl
-take-ripple word out (suc n) (x ∷ xs) [] c = refl
-take-ripple word out (suc n) (x ∷ xs) (y ∷ ys) c = ap (λ (l : List ℕ). word x y c ∷ l) (take-ripple word out n xs ys (out x y c))
-
-take-shift : (n : ℕ) (xs : List ℕ) (c : Bool) → take n (shiftWords xs c) ≡ shiftWords (take n xs) c
-take-shift zero xs c = refl
-take-shift (suc n) [] c = refl
-take-shift (suc n) (x ∷ xs) c = ap (λ (l : List ℕ). take 1 (shiftWords (x ∷ []) c) ++ l) (take-shift n xs _)
 
 -- ---- the four moves
 take-scatter : (n : ℕ) (b s t live : List ℕ) → take n (scatterWords b s t live) ≡ scatterWords (take n b) (take n s) (take n t) (take n live)
@@ -85,7 +62,7 @@ value-split (suc n) (x ∷ xs) =
     ∙ mul-left-comm high (2 ^ 64) (2 ^ (64 * n)) in
     omega (arith, value-split n xs, more)
 
-take-bit : (n : ℕ) (xs : List ℕ) (i : ℕ) → i < 64 * n → bit (value xs) i ≡ bit (value (take n xs)) i
+pub take-bit : (n : ℕ) (xs : List ℕ) (i : ℕ) → i < 64 * n → bit (value xs) i ≡ bit (value (take n xs)) i
 take-bit n xs i h = ap (λ (v : ℕ). bit v i) (value-split n xs) ∙ low-bit (64 * n) i (value (drop n xs)) (value (take n xs)) h
 
 -- ---- THE FIRST n WORDS OF THE MASKS of a rule of depth d

@@ -34,7 +34,7 @@ returns c =
     find-both (a .image .now) (a .text .now) (a .places .now) (r .result) (r .last .1 .1 .0) (endsOfOne (a .image .now) (a .text .now)) B (one-same (a .image .now) (a .text .now) (sym (c .before .before .before .before .before .before .before .before .has-shape .ensures) ∙ c .before .before .before .before .before .before .before .if1 .taken) (omega (arith, c .before .before .before .before .before .states .ensures, c .before .before .before .before .if3 .taken)) (c .before .before .before .before .before .before .if2 .taken) B) (r .ensures)
 
 find-in-requires : tie.Need-find-in-requires
-find-in-requires c κs = (sym (c .before .before .before .before .before .has-shape .ensures) ∙ c .before .before .before .before .if1 .taken, c .before .before .before .if2 .taken)
+find-in-requires c κs = (sym (c .before .before .before .before .before .has-shape .ensures) ∙ c .before .before .before .before .if1 .taken, omega (arith, c .before .before .states .ensures, c .before .if3 .left), c .before .before .before .if2 .taken)
 
 same-length-2 : tie.Need-same-length-2
 same-length-2 c = search needs

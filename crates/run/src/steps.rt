@@ -98,7 +98,8 @@ pub fn rise(
     while k > 0 {
         let along = propagate_at(r, k, n, propagate_block, propagate_below, propagate_target);
         k -= 1;
-        r = gather_at(along, k, n, gather_block, gather_source, gather_target);
+        // k % 16 is k, and keeps the compiler from stepping six addresses down through the loop
+        r = gather_at(along, k % 16, n, gather_block, gather_source, gather_target);
     }
     propagate_at(r, 0, n, propagate_block, propagate_below, propagate_target)
 }

@@ -2,7 +2,7 @@
 use mathlib.Core.Path.{_≡_, refl, ap, sym, _∙_}
 use native.Mathlib.Omega.{arith}
 use lib.ListN.{take}
-use Prim.Native.Nat.{ℕ, _-_, _≤_}
+use Prim.Native.Nat.{ℕ, _-_, _%_, _≤_}
 use Rattle.model.specs.Models.Run.{gatherBy, riseWords}
 use Rattle.run.specs.Work.{cutMasks, riseMasks}
 use Rattle.run.proofs.Laws.Passes.{rise-one}
@@ -35,10 +35,13 @@ loop-less c = search needs
 loop-again : tie.Need-loop-again Inv-loop μ-loop
 loop-again c =
     let l = c .before .before .before .loop in
-    let a = c .before .before .before .before .args in
+    let s = c .before .before .before .before in
+    let a = s .args in
+    let e : (l .k - 1) % 16 ≡ l .k - 1 = omega (arith, l .inv .0, s .pre) in
     let M = cutMasks (a .n) (riseMasks (a .gather-block .now) (a .gather-source .now) (a .gather-target .now) (a .propagate-block .now) (a .propagate-below .now) (a .propagate-target .now)) in (
       omega arith,
-      ap (riseWords M (l .k - 1)) (c .gather-at .ensures ∙ ap (gatherBy M (l .k - 1)) (c .before .propagate-at .ensures))
+      ap (riseWords M (l .k - 1)) (c .gather-at .ensures ∙ ap (λ (k : ℕ). gatherBy M k (take (a .n) (c .before .propagate-at .result .words))) e
+          ∙ ap (gatherBy M (l .k - 1)) (c .before .propagate-at .ensures))
           ∙ rise-one M (l .k) (c .before .before .loop-test .taken) (take (a .n) (l .r .words)) ∙ l .inv .1,
     )
 

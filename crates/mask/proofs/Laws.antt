@@ -1,7 +1,8 @@
 -- What the proofs of the functions cite, and callers: everything over any number of words.
--- Filled is the loop over the words; Each and Ripple the words of the models, made one by one; Carries one word as the machine makes it; Bits where a
+-- Filled is the loop over the words; Take the first of them; Each and Ripple the words of the models, made one by one; Carries one word as the machine makes it; Bits where a
 -- bit of a row stands; Put and Same what is known of a run put in and of the test of two rows.
 pub mod Filled
+pub mod Take
 pub mod Each
 pub mod Ripple
 pub mod Carries

@@ -1,6 +1,7 @@
 // Masks: document 01, "A mask is one record of eight 64-bit words in work". By value everywhere; state i is bit i mod 64 of word i / 64.
 ghost use mathlib.Core.Path.{_≡_};
 ghost use lib.ListN.{replicate};
+ghost use Rattle.mask.specs.Rows.{Upto};
 
 pub mod bits;
 pub mod logic;
@@ -15,4 +16,11 @@ pub fn none() -> Mask
     ensures { λ r. ⌜ r .words ≡ replicate 8 0 ⌝ }
 {
     Mask { words: [0; 8] }
+}
+
+// How many of n words a mask has.
+fn upto(n: usize) -> usize
+    ensures { λ r. ⌜ Upto n r ⌝ }
+{
+    if n < 8 { n } else { 8 }
 }

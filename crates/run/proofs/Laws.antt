@@ -1,7 +1,10 @@
 -- What the proofs of the functions cite.
--- Rows are masks as they lie in words and tables of them; Shape what the test of the shape gives; Passes one turn of the loops over the depths, and
--- the masks that the tables make; Scan one turn of the loop over a text.
+-- Rows are masks as they lie in words and tables of them; Passes one turn of the loops over the depths, and the masks that the tables make; One that
+-- a rule of one word has the same ends on plain words; Less that a source may be kept less one; Widths that only the first words of a rule's masks
+-- count; Noted one turn of the loop over a text.
 pub mod Rows
-pub mod Shape
 pub mod Passes
-pub mod Scan
+pub mod One
+pub mod Less
+pub mod Widths
+pub mod Noted

@@ -2,15 +2,15 @@
 use mathlib.Core.Path.{_≡_}
 use mathlib.Core.Bool.{Bool, true, false, _&&_, cond}
 use mathlib.Core.List.{List, [], _∷_, _++_}
-use Prim.Native.Nat.{ℕ, zero, suc, _+_, _-_, _*_}
+use Prim.Native.Nat.{ℕ, zero, suc, _+_, _-_, _*_, _^_, _≤_, _<_}
 use lib.Dec.{eqb, leb}
 use lib.ListN.{drop, getD, length, replicate, take}
-use lib.Seq.{sets}
-use Rattle.model.specs.Bits.{bit}
-use Rattle.model.specs.Image.{width}
+use Rattle.model.specs.Bits.{digit}
 use Rattle.model.specs.Models.Apart.{depthWord, gatherAt, propagateAt, scatterAt, stateWord}
 use Rattle.model.specs.Models.Run.{Masks, passWords, stepWords}
-use Rattle.model.specs.Models.Words.{value}
+use Rattle.model.specs.Models.Words.{subtractWords, wrapAdd}
+use Rattle.word.specs.Ends.{endsWith}
+use Rattle.word.specs.Shape.{shaped, widthOf}
 
 -- "A mask is one record of eight 64-bit words in work, and in the image its first W words"
 abbrev pub rowAt : List ℕ → ℕ → ℕ → List ℕ
@@ -38,6 +38,23 @@ threeOf block source target k (suc (suc j)) = getD target k []
 abbrev pub startWords : List ℕ
 startWords = 1 ∷ replicate 7 0
 
+-- one more than the number of words, and one less: a source is kept less one, as (source - 1) - from is the complement of from - source
+abbrev pub plusWords : List ℕ → Bool → List ℕ
+plusWords [] c = []
+plusWords (x ∷ xs) c = wrapAdd x (digit c) ∷ plusWords xs (c && eqb x (2 ^ 64 - 1))
+
+abbrev pub lessOne : List ℕ → List ℕ
+lessOne xs = subtractWords (take 8 xs) startWords false
+
+abbrev pub Lessened : (source below : List (List ℕ)) → Type 0
+Lessened source below = (k : ℕ) → k < 9 → getD below k [] ≡ lessOne (getD source k [])
+
+-- propagate's three, from tables that hold the source less one
+abbrev pub raisedOf : (block below target : List (List ℕ)) → Threes
+raisedOf block below target k zero = getD block k []
+raisedOf block below target k (suc zero) = plusWords (getD below k []) true
+raisedOf block below target k (suc (suc j)) = getD target k []
+
 -- letters and repeats where they lie, the passes' masks in tables
 abbrev pub workMasks : List ℕ → ℕ → (scatter gather propagate : Threes) → Masks
 workMasks ws W scatter gather propagate = record {
@@ -54,25 +71,29 @@ abbrev pub passMasks : (scatter gather propagate : Threes) → Masks
 passMasks = workMasks [] 0
 
 -- up the depths no scatter mask is looked at, down no gather mask
-abbrev pub riseMasks : (gatherBlock gatherSource gatherTarget propagateBlock propagateSource propagateTarget : List (List ℕ)) → Masks
-riseMasks gb gs gt pb ps pt = passMasks (λ k j. []) (threeOf gb gs gt) (threeOf pb ps pt)
+abbrev pub riseMasks : (gatherBlock gatherSource gatherTarget propagateBlock propagateBelow propagateTarget : List (List ℕ)) → Masks
+riseMasks gb gs gt pb pl pt = passMasks (λ k j. []) (threeOf gb gs gt) (raisedOf pb pl pt)
 
-abbrev pub fallMasks : (scatterBlock scatterSource scatterTarget propagateBlock propagateSource propagateTarget : List (List ℕ)) → Masks
-fallMasks sb ss st pb ps pt = passMasks (threeOf sb ss st) (λ k j. []) (threeOf pb ps pt)
+abbrev pub fallMasks : (scatterBlock scatterSource scatterTarget propagateBlock propagateBelow propagateTarget : List (List ℕ)) → Masks
+fallMasks sb ss st pb pl pt = passMasks (threeOf sb ss st) (λ k j. []) (raisedOf pb pl pt)
 
--- whether words have the length that their shape asks: "The length is 9 + W(515 + 9d) words", for 2 to 512 states and a depth of at most 8
-abbrev pub shapeLength : ℕ → ℕ → ℕ
-shapeLength W d = 9 + W * (515 + 9 * d)
+-- the first n words of each mask
+abbrev pub cutMasks : ℕ → Masks → Masks
+cutMasks n M = record {
+  letterMask = λ b. take n (M .letterMask b);
+  loopMask = λ b. take n (M .loopMask b);
+  scatterMask = λ k j. take n (M .scatterMask k j);
+  gatherMask = λ k j. take n (M .gatherMask k j);
+  propagateMask = λ k j. take n (M .propagateMask k j);
+  startMask = take n (M .startMask);
+}
 
-abbrev pub shaped : List ℕ → Bool
-shaped ws =
-    leb 2 (stateWord ws)
-    && (leb (stateWord ws) 512 && (leb (depthWord ws) 8 && eqb (length ws) (shapeLength (width (stateWord ws)) (depthWord ws))))
+-- UP AND DOWN on the first n words
+abbrev pub Passes : (n : ℕ) (sb ss st gb gs gt pb pl pt : List (List ℕ)) (d : ℕ) (live r : List ℕ) → Type 0
+Passes n sb ss st gb gs gt pb pl pt d live r =
+    take n r ≡ passWords (cutMasks n (passMasks (threeOf sb ss st) (threeOf gb gs gt) (raisedOf pb pl pt))) d (take n live)
 
 -- THE MASKS OF WORDS WITH A SHAPE
-abbrev pub widthOf : List ℕ → ℕ
-widthOf ws = width (stateWord ws)
-
 abbrev pub scatterTable : List ℕ → ℕ → List (List ℕ)
 scatterTable ws = tableAt ws (scatterAt (widthOf ws)) (widthOf ws) (depthWord ws)
 
@@ -98,23 +119,14 @@ beginWords ws = cond (shaped ws) (passWords (masksOf ws) (depthWord ws) startWor
 abbrev pub nextWords : List ℕ → ℕ → List ℕ → List ℕ
 nextWords ws b live = cond (shaped ws) (stepWords (masksOf ws) (depthWord ws) b live) noWords
 
--- the place as a list, if it is an end
-abbrev pub noted : Bool → ℕ → List ℕ
-noted true p = p ∷ []
-noted false p = []
-
--- the ends from place p on, where the live states are given and then the rest of the text: those places where state `last` is live
-abbrev pub endsFrom : Masks → (d last p : ℕ) → (live rest : List ℕ) → List ℕ
-endsFrom M d last p live [] = noted (bit (value live) last) p
-endsFrom M d last p live (b ∷ rest) = noted (bit (value live) last) p ++ endsFrom M d last (suc p) (stepWords M d b live) rest
-
-abbrev pub endsWith : Masks → (d last : ℕ) → List ℕ → List ℕ
-endsWith M d last text = endsFrom M d last 0 (passWords M d (M .startMask)) text
-
 abbrev pub endsFound : List ℕ → List ℕ → List ℕ
 endsFound ws text = cond (shaped ws && leb (length text) 65535) (endsWith (masksOf ws) (depthWord ws) (stateWord ws - 1) text) []
 
--- the total of a list, and its places stored one after another in what was lent: a store past the end changes nothing
-pub record Written (ps before : List ℕ) (total : ℕ) (after : List ℕ) : Type 0 where
-  pub counted : total ≡ length ps
-  pub stored : after ≡ sets before 0 ps
+-- what the loop over a text asks, for a rule of at least two words
+pub record Scans (ws text : List ℕ) (W d last : ℕ) : Type 0 where
+  pub wide : 2 ≤ W
+  pub narrow : W ≤ 8
+  pub long : 6 + 512 * W ≤ length ws
+  pub deep : d ≤ 8
+  pub small : length text ≤ 65535
+  pub within : last < 64 * W

@@ -6,3 +6,4 @@ pub mod passes;
 mod rows;
 mod shape;
 mod steps;
+mod widths;

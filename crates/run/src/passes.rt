@@ -1,56 +1,66 @@
 // The four moves of the live states by whole words: "shift and letter mask for the move, then subtraction for scatter, addition for gather,
-// subtraction for propagate" (document 01). Each takes its masks by value and keeps the states that were live, but the move.
+// subtraction for propagate" (document 01). Each takes its masks by value and keeps the states that were live, but the move. Only the first n words
+// count: with n as a literal every loop over words becomes straight code.
 use mask::Mask;
 use mask::logic::and;
-use mask::logic::complement;
 use mask::logic::or;
 use mask::logic::xor;
 use mask::sums::add;
 use mask::sums::shift;
 use mask::sums::subtract;
 ghost use mathlib.Core.Path.{_≡_};
+ghost use mathlib.Core.Bool.{false, true};
+ghost use lib.ListN.{take};
 ghost use Rattle.model.specs.Models.Run.{gatherWords, moveWords, propagateWords, scatterWords};
+ghost use Rattle.model.specs.Models.Words.{notWords, subtractWords, xorWords};
+ghost use Rattle.run.specs.Work.{plusWords};
 
 // From each live union start to the starts of its alternatives: below the block's bit the difference sets all bits from the source on.
-pub fn scatter(live: Mask, block: Mask, source: Mask, target: Mask) -> Mask
-    ensures { λ r. ⌜ r .words ≡ scatterWords (block .words) (source .words) (target .words) (live .words) ⌝ }
+pub fn scatter(live: Mask, block: Mask, source: Mask, target: Mask, n: usize) -> Mask
+    ensures { λ r. ⌜ take n (r .words) ≡ scatterWords (take n (block .words)) (take n (source .words)) (take n (target .words)) (take n (live .words)) ⌝ }
 {
-    let starts = and(live, source);
-    let difference = subtract(block, starts);
-    let reached = and(difference, target);
-    or(live, reached)
+    let starts = and(live, source, n);
+    let difference = subtract(block, starts, n);
+    let reached = and(difference, target, n);
+    or(live, reached, n)
 }
 
 // From each live end of an alternative to its union's end: the sum carries through the block.
-pub fn gather(live: Mask, block: Mask, source: Mask, target: Mask) -> Mask
-    ensures { λ r. ⌜ r .words ≡ gatherWords (block .words) (source .words) (target .words) (live .words) ⌝ }
+pub fn gather(live: Mask, block: Mask, source: Mask, target: Mask, n: usize) -> Mask
+    ensures { λ r. ⌜ take n (r .words) ≡ gatherWords (take n (block .words)) (take n (source .words)) (take n (target .words)) (take n (live .words)) ⌝ }
 {
-    let stops = and(live, source);
-    let sum = add(block, stops);
-    let reached = and(sum, target);
-    or(live, reached)
+    let stops = and(live, source, n);
+    let sum = add(block, stops, n);
+    let reached = and(sum, target, n);
+    or(live, reached, n)
 }
 
-// Along each chain of propagate edges from its smallest live state to its end.
-pub fn propagate(live: Mask, block: Mask, source: Mask, target: Mask) -> Mask
-    ensures { λ r. ⌜ r .words ≡ propagateWords (block .words) (source .words) (target .words) (live .words) ⌝ }
+// The states that the difference from the sources changes: (source - 1) - from is the complement of from - source.
+fn change(from: Mask, below: Mask, n: usize) -> Mask
+    ensures { λ r. ⌜ take n (r .words) ≡ xorWords (notWords (subtractWords (take n (from .words)) (take n (plusWords (below .words) true)) false)) (take n (from .words)) ⌝ }
 {
-    let inside = and(live, block);
-    let from = or(inside, target);
-    let difference = subtract(from, source);
-    let kept = complement(difference);
-    let changed = xor(kept, from);
-    let reached = and(block, changed);
-    or(live, reached)
+    let difference = subtract(below, from, n);
+    xor(difference, from, n)
+}
+
+// Along each chain of propagate edges from its smallest live state to its end, with the source less one.
+pub fn propagate(live: Mask, block: Mask, below: Mask, target: Mask, n: usize) -> Mask
+    ensures { λ r. ⌜ take n (r .words) ≡ propagateWords (take n (block .words)) (take n (plusWords (below .words) true)) (take n (target .words)) (take n (live .words)) ⌝ }
+{
+    let inside = and(live, block, n);
+    let from = or(inside, target, n);
+    let changed = change(from, below, n);
+    let reached = and(block, changed, n);
+    or(live, reached, n)
 }
 
 // By a byte: one state on along the letters, staying along the repeats, and the start.
-pub fn advance(live: Mask, letters: Mask, repeats: Mask, start: Mask) -> Mask
-    ensures { λ r. ⌜ r .words ≡ moveWords (letters .words) (repeats .words) (start .words) (live .words) ⌝ }
+pub fn advance(live: Mask, letters: Mask, repeats: Mask, start: Mask, n: usize) -> Mask
+    ensures { λ r. ⌜ take n (r .words) ≡ moveWords (take n (letters .words)) (take n (repeats .words)) (take n (start .words)) (take n (live .words)) ⌝ }
 {
-    let next = shift(live);
-    let moved = and(next, letters);
-    let stayed = and(live, repeats);
-    let both = or(moved, stayed);
-    or(both, start)
+    let next = shift(live, n);
+    let moved = and(next, letters, n);
+    let stayed = and(live, repeats, n);
+    let both = or(moved, stayed, n);
+    or(both, start, n)
 }

@@ -1,19 +1,14 @@
 // Masks as they lie in an image, and as tables of nine in work: "in the image its first W words", zeros above.
-use crate::shape::depth;
 use crate::shape::width;
+use mask::Mask;
+use mask::sums::subtract;
+use word::shape::depth;
 ghost use mathlib.Core.Bool.{true};
 ghost use mathlib.Core.Path.{_≡_};
 ghost use Prim.Native.Nat.{_+_, _*_, _≤_, _<_};
-ghost use lib.ListN.{length, getD};
-ghost use Rattle.run.specs.Work.{gatherTable, propagateTable, rowAt, scatterTable, shaped, tableAt};
-
-// Word i of the mask at a place.
-fn word_of(image: &[u64], at: usize, width: usize, i: usize) -> u64
-    requires { ⌜ at + width ≤ length (now image) ⌝ }
-    ensures { λ r. ⌜ r ≡ getD (rowAt (now (image .entry)) at width) i 0 ⌝ }
-{
-    if i < width { image[at + i] } else { 0 }
-}
+ghost use lib.ListN.{length};
+ghost use Rattle.word.specs.Shape.{shaped};
+ghost use Rattle.run.specs.Work.{gatherTable, Lessened, propagateTable, rowAt, scatterTable, startWords, tableAt};
 
 // The mask at a place, as eight words.
 pub fn row_at(image: &[u64], at: usize, width: usize) -> [u64; 8]
@@ -22,8 +17,8 @@ pub fn row_at(image: &[u64], at: usize, width: usize) -> [u64; 8]
 {
     let mut r = [0u64; 8];
     let mut i = 0;
-    while i < 8 {
-        r[i] = word_of(image, at, width, i);
+    while i < width {
+        r[i] = image[at + i];
         i += 1;
     }
     r
@@ -71,4 +66,29 @@ pub fn propagate_table(image: &[u64], which: usize) -> [[u64; 8]; 9]
     let w = width(image);
     let d = depth(image);
     table(image, 9 + 512 * w + 6 * (w * d), w, d + 1, which)
+}
+
+// The mask of state 0.
+pub fn start() -> Mask
+    ensures { λ r. ⌜ r .words ≡ startWords ⌝ }
+{
+    let mut words = [0u64; 8];
+    words[0] = 1;
+    Mask { words }
+}
+
+// Each row less one.
+pub fn less_ones(source: [[u64; 8]; 9]) -> [[u64; 8]; 9]
+    ensures { λ r. ⌜ Lessened source r ⌝ }
+{
+    let mut r = source;
+    let mut k = 0;
+    while k < 9 {
+        let row = source[k];
+        let less = subtract(Mask { words: row }, start(), 8);
+        let words = less.words;
+        r[k] = words;
+        k += 1;
+    }
+    r
 }

@@ -1,48 +1,12 @@
-// The shape that the first words give: m states, W words to a mask, depth d. Public functions take no word for granted that they did not test.
+// The words to a mask, of words that have a shape.
+use word::shape::states;
 ghost use mathlib.Core.Bool.{true};
 ghost use mathlib.Core.Path.{_≡_};
-ghost use Rattle.model.specs.Models.Apart.{depthWord, stateWord};
-ghost use Rattle.run.specs.Work.{shaped, widthOf};
-
-// Whether there are 2 to 512 states, a depth of at most 8, and as many words as that asks.
-pub fn has_shape(image: &[u64]) -> bool
-    ensures { λ r. ⌜ r ≡ shaped (now (image .entry)) ⌝ }
-{
-    if image.len() < 9 {
-        return false;
-    }
-    let states = image[1];
-    let depth = image[3];
-    if states < 2 {
-        return false;
-    }
-    if states > 512 {
-        return false;
-    }
-    if depth > 8 {
-        return false;
-    }
-    let width = (states + 63) / 64;
-    image.len() as u64 == 9 + width * (515 + 9 * depth)
-}
-
-pub fn states(image: &[u64]) -> usize
-    requires { ⌜ shaped (now image) ≡ true ⌝ }
-    ensures { λ r. ⌜ r ≡ stateWord (now (image .entry)) ⌝ }
-{
-    image[1] as usize
-}
+ghost use Rattle.word.specs.Shape.{shaped, widthOf};
 
 pub fn width(image: &[u64]) -> usize
     requires { ⌜ shaped (now image) ≡ true ⌝ }
     ensures { λ r. ⌜ r ≡ widthOf (now (image .entry)) ⌝ }
 {
-    (image[1] as usize + 63) / 64
-}
-
-pub fn depth(image: &[u64]) -> usize
-    requires { ⌜ shaped (now image) ≡ true ⌝ }
-    ensures { λ r. ⌜ r ≡ depthWord (now (image .entry)) ⌝ }
-{
-    image[3] as usize
+    (states(image) + 63) / 64
 }

@@ -21,7 +21,7 @@ fit-row [] h = tt
 fit-row (w ∷ ws) h = (h 0 .fits, fit-row ws (λ i. h (suc i)))
 
 -- ---- a number by its low k digits and the rest
-low-bit : (k i v r : ℕ) → i < k → bit (v * 2 ^ k + r) i ≡ bit r i
+pub low-bit : (k i v r : ℕ) → i < k → bit (v * 2 ^ k + r) i ≡ bit r i
 low-bit zero i v r h = absurd (not-suc-le-zero h)
 low-bit (suc k) zero v r h = ap (λ (n : ℕ). eqb n 1) (block-odd v k r)
 low-bit (suc k) (suc i) v r h = ap (λ (n : ℕ). bit n i) (block-half v k r) ∙ low-bit k i v (r / 2) (le-of-suc-le-suc h)

@@ -1,13 +1,15 @@
 -- WORD i OF AN OPERATION ON EACH WORD APART, and the loop that makes such a row.
-use mathlib.Core.Path.{_≡_, refl, sym, ap, _∙_}
+use mathlib.Core.Path.{_≡_, refl, sym, _∙_, subst}
 use mathlib.Core.List.{List, [], _∷_}
-use Prim.Native.Nat.{ℕ, zero, suc, _+_, _-_, _^_, _≤_, _<_}
+use Prim.Native.Nat.{ℕ, zero, suc, _+_, _≤_, _<_}
 use native.Mathlib.Nat.{le-of-suc-le-suc, not-suc-le-zero}
 use native.Mathlib.Omega.{arith}
-use lib.ListN.{length, getD, set}
-use Rattle.model.specs.Models.Words.{eachWord, notWords}
+use lib.ListN.{length, getD, set, take}
+use Rattle.model.specs.Models.Words.{eachWord}
 use Rattle.model.proofs.Words.Operations.{each-length}
-use Rattle.mask.proofs.Laws.Filled.{Filled, filled-more, filled-all}
+use Rattle.mask.proofs.Laws.Filled.{Filled, filled-more, filled-take}
+use Rattle.mask.proofs.Laws.Take.{take-each}
+use Rattle.mask.specs.Rows.{Upto}
 
 module _ (op : ℕ → ℕ → ℕ) where
   pub each-word : (xs ys : List ℕ) (i : ℕ) → i < length xs → i < length ys
@@ -17,19 +19,12 @@ module _ (op : ℕ → ℕ → ℕ) where
   each-word (x ∷ xs) (y ∷ ys) zero h k = refl
   each-word (x ∷ xs) (y ∷ ys) (suc i) h k = each-word xs ys i (le-of-suc-le-suc h) (le-of-suc-le-suc k)
 
-  -- the loop of and, or, xor and complement: one word more, and all words
+  -- the loop of and, or and xor: one word more, and all words
   module _ {n : ℕ} (xs ys : List ℕ) (hx : length xs ≡ n) (hy : length ys ≡ n)
       {row : List ℕ} {i : ℕ} (F : Filled n (eachWord op xs ys) row i) where
     pub each-more : i < n → Filled n (eachWord op xs ys) (set row i (op (getD xs i 0) (getD ys i 0))) (i + 1)
     each-more h = filled-more (op (getD xs i 0) (getD ys i 0)) F h (sym (each-word xs ys i (omega arith) (omega arith)))
 
-    pub each-all : n ≤ i → row ≡ eachWord op xs ys
-    each-all h = filled-all F h (each-length op xs ys (hx ∙ sym hy) ∙ hx)
-
--- the complement is such an operation, of a row with itself
-abbrev pub notFirst : ℕ → ℕ → ℕ
-notFirst x y = 2 ^ 64 - 1 - x
-
-pub not-each : (xs : List ℕ) → notWords xs ≡ eachWord notFirst xs xs
-not-each [] = refl
-not-each (x ∷ xs) = ap (λ (zs : List ℕ). (2 ^ 64 - 1 - x) ∷ zs) (not-each xs)
+    pub each-take : {m stop : ℕ} → n ≡ 8 → Upto m stop → stop ≤ i → take m row ≡ eachWord op (take m xs) (take m ys)
+    each-take {m} e u h =
+        filled-take (subst (λ (k : ℕ). Filled k (eachWord op xs ys) row i) e F) (each-length op xs ys (hx ∙ sym hy) ∙ hx ∙ e) u h ∙ take-each op m xs ys

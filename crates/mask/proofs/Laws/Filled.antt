@@ -1,12 +1,13 @@
 -- A ROW FILLED FROM THE FRONT, word by word, is the whole when it is full. Every loop over the words cites this.
-use mathlib.Core.Path.{_≡_, subst, sym, _∙_}
+use mathlib.Core.Path.{_≡_, subst, sym, ap, _∙_}
 use mathlib.Core.Logic.{_⊎_, inl, inr}
 use mathlib.Core.List.{List}
 use Prim.Native.Nat.{ℕ, _+_, _≤_, _<_}
 use native.Mathlib.Nat.{eq-or-lt-of-le}
 use native.Mathlib.Omega.{arith}
-use lib.ListN.{length, getD, set, length-set}
-use lib.Seq.{ext-getD, getD-set-same, getD-set-other}
+use lib.ListN.{length, getD, set, length-set, take}
+use lib.Seq.{ext-getD, getD-set-same, getD-set-other, getD-take, length-take-le}
+use Rattle.mask.specs.Rows.{Upto}
 
 -- the row has n words, and its first i are those of the whole
 pub record Filled (n : ℕ) (whole row : List ℕ) (i : ℕ) : Type 0 where
@@ -42,3 +43,15 @@ module _ {n : ℕ} {whole row : List ℕ} {i : ℕ} (F : Filled n whole row i) w
 pub filled-more : {n : ℕ} {whole row : List ℕ} {i : ℕ} (v : ℕ) → Filled n whole row i → i < n → v ≡ getD whole i 0
     → Filled n whole (set row i v) (i + 1)
 filled-more {row = row} {i = i} v F h e = filled-next (filled-store F v) h (getD-set-same row i v 0 (omega (arith, F .long)) ∙ e)
+
+-- the first n words, where the loop ran to n or to the end of a row of eight
+pub filled-take : {whole row : List ℕ} {i n stop : ℕ} → Filled 8 whole row i → length whole ≡ 8 → Upto n stop → stop ≤ i → take n row ≡ take n whole
+filled-take {whole} {row} {i} {n} {stop} F e u h = go (u .1)
+  where
+    go : (stop ≡ n) ⊎ (stop ≡ 8) → take n row ≡ take n whole
+    go (inr q) = ap (take n) (filled-all F (omega arith) e)
+    go (inl q) =
+        let a : length (take n row) ≡ n = length-take-le n row (omega (arith, F .long, u .0)) in
+        let b : length (take n whole) ≡ n = length-take-le n whole (omega (arith, u .0)) in
+        ext-getD 0 (take n row) (take n whole) (a ∙ sym b)
+        (λ k l. let m : k < n = omega (arith, a) in getD-take n row k 0 m ∙ F .front k (omega arith) ∙ sym (getD-take n whole k 0 m))

@@ -1,5 +1,5 @@
 -- WORD i OF A ROW THAT HANDS ON FROM WORD TO WORD, what goes into word i, and the loop that makes such a row.
-use mathlib.Core.Path.{_≡_, refl, sym, ap, _∙_}
+use mathlib.Core.Path.{_≡_, refl, sym, ap, _∙_, subst}
 use mathlib.Core.Bool.{Bool, false}
 use mathlib.Core.List.{List, [], _∷_}
 use Prim.Native.Nat.{ℕ, zero, suc, _+_, _*_, _%_, _^_, _≤_, _<_}
@@ -7,10 +7,12 @@ use native.Mathlib.Nat.{le-of-suc-le-suc, not-suc-le-zero}
 use native.Mathlib.Numerals.{add-one}
 use native.Mathlib.Omega.{arith}
 use lib.Dec.{leb}
-use lib.ListN.{length, getD, set}
+use lib.ListN.{length, getD, set, take}
 use Rattle.model.specs.Bits.{digit}
 use Rattle.model.specs.Models.Words.{ripple, shiftWords}
-use Rattle.mask.proofs.Laws.Filled.{Filled, filled-none, filled-more, filled-all}
+use Rattle.mask.proofs.Laws.Filled.{Filled, filled-none, filled-more, filled-take}
+use Rattle.mask.proofs.Laws.Take.{take-ripple}
+use Rattle.mask.specs.Rows.{Upto}
 
 -- what goes into word i, from c into word 0
 abbrev pub intoWord : (out : ℕ → ℕ → Bool → Bool) → List ℕ → List ℕ → Bool → ℕ → Bool
@@ -61,8 +63,10 @@ module _ (word : ℕ → ℕ → Bool → ℕ) (out : ℕ → ℕ → Bool → B
           handed = s .1 ∙ ap digit (sym (ap (intoWord out xs ys false) (add-one i) ∙ into-next out xs ys false i kx ky));
         }
 
-    pub rippled-all : n ≤ i → row ≡ ripple word out xs ys false
-    rippled-all h = filled-all (R .words) h (ripple-length xs ys false (hx ∙ sym hy) ∙ hx)
+    pub rippled-take : {m stop : ℕ} → n ≡ 8 → Upto m stop → stop ≤ i → take m row ≡ ripple word out (take m xs) (take m ys) false
+    rippled-take {m} e u h =
+        filled-take (subst (λ (k : ℕ). Filled k (ripple word out xs ys false) row i) e (R .words)) (ripple-length xs ys false (hx ∙ sym hy) ∙ hx ∙ e) u h
+        ∙ take-ripple word out m xs ys false
 
 -- the shift is such a row, of a row with itself
 abbrev pub shiftWord : ℕ → ℕ → Bool → ℕ

@@ -28,9 +28,10 @@ use Rattle.model.proofs.Reading.WellFormed.{rule-well}
 use Rattle.model.proofs.Words.Holds.{Holds, pad-holds}
 use Rattle.model.proofs.Words.ImageRun.{image-carry}
 use Rattle.model.proofs.Words.Run.{Carry}
-use Rattle.run.specs.Work.{gatherTable, masksOf, propagateTable, rowAt, scatterTable, shaped, startWords, tableAt}
+use Rattle.word.specs.Shape.{shaped}
+use Rattle.run.specs.Work.{gatherTable, masksOf, propagateTable, rowAt, scatterTable, startWords, tableAt}
 use Rattle.run.proofs.Laws.Rows.{table-row}
-use Rattle.run.proofs.Laws.Shape.{Shape, shape-is}
+use Rattle.word.proofs.Laws.Shape.{Shape, shape-is}
 
 -- the mask of state 0: one word, and zeros above
 start-bit : (x : ℕ) → bit (value (1 ∷ [])) x ≡ startSet x

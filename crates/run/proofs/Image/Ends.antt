@@ -26,7 +26,9 @@ use Rattle.model.proofs.Laws.Bool.{le-false, le-true}
 use Rattle.model.proofs.Laws.Stores.{sets-fit}
 use Rattle.model.proofs.Words.Run.{Bytes, bytes-fed, bytes-take, end-words}
 use Rattle.run.specs.Says.{FindSays}
-use Rattle.run.specs.Work.{endsFound, endsFrom, endsWith, masksOf, noted, shaped, Written}
+use Rattle.word.specs.Ends.{endsFrom, endsWith, noted, Written}
+use Rattle.word.specs.Shape.{shaped}
+use Rattle.run.specs.Work.{endsFound, masksOf}
 use Rattle.run.proofs.Image.Carry.{as-arcs, carried, image-shaped}
 use Rattle.run.proofs.Image.Live.{depth-is}
 
@@ -54,11 +56,6 @@ module _ (M : Masks) (d last : ℕ) where
     where
       later : (i : ℕ) → f (suc p + i) ≡ hit (feed (b ∷ w) (take i rest))
       later i = ap f (let e : suc p + i ≡ p + suc i = omega arith in e) ∙ h (suc i)
-
--- ---- the bytes of a text
-pub all-bytes : (text : List ℕ) → ((i : ℕ) → getD text i 0 < 256) → Bytes text
-all-bytes [] h = tt
-all-bytes (b ∷ text) h = (h 0, all-bytes text (λ i. h (suc i)))
 
 -- ---- the list found, by the two tests
 pub found-whole : (ws text : List ℕ) → shaped ws ≡ true → length text ≤ 65535 → endsWith (masksOf ws) (depthWord ws) (stateWord ws - 1) text ≡ endsFound ws text
@@ -105,8 +102,15 @@ module _ (ws : List ℕ) (t : Tree) (I : ImageOf ws t) (text : List ℕ) (B : By
   found-is h ps E = found h ∙ ends-one t text (endsWith M (depth t) (accepting t) text) ps ends-of E
 
 -- WHAT `find` SAYS
-pub find-says : (ws text before : List ℕ) (total : ℕ) (after : List ℕ) → Bytes text → Written (endsFound ws text) before total after
+find-says : (ws text before : List ℕ) (total : ℕ) (after : List ℕ) → Bytes text → Written (endsFound ws text) before total after
     → FindSays ws text before total after
 find-says ws text before total after B R t I h ps E =
     let q = found-is ws t I text B h ps E in
     (R .counted ∙ ap length q, R .stored ∙ ap (sets before 0) q ∙ sets-fit before ps)
+
+-- with what was computed, for any list that is the one found
+pub find-both : (ws text before : List ℕ) (total : ℕ) (after ps : List ℕ) → Bytes text → ps ≡ endsFound ws text → Written ps before total after
+    → Written (endsFound ws text) before total after × FindSays ws text before total after
+find-both ws text before total after ps B e w =
+    let v = subst (λ (qs : List ℕ). Written qs before total after) e w in
+    (v, find-says ws text before total after B v)

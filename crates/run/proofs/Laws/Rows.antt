@@ -1,34 +1,46 @@
--- MASKS AS THEY LIE IN WORDS, with zeros above, and tables of them: each word of a row, each row of a table, and a table made row by row.
+-- MASKS AS THEY LIE IN WORDS, with zeros above, and tables of them: a row made word by word, each row of a table, and a table made row by row.
 use mathlib.Core.Path.{_≡_, refl, sym, ap, _∙_}
 use mathlib.Core.List.{List, [], _∷_, _++_, append-assoc}
 use Prim.Native.Nat.{ℕ, zero, suc, _+_, _-_, _*_, _≤_, _<_}
 use native.Mathlib.Nat.{add-suc, add-zero, le-of-suc-le-suc, not-suc-le-zero, suc-add}
 use native.Mathlib.Omega.{arith}
-use lib.ListN.{drop, getD, length, length-append, length-drop, length-replicate, List·getD-eq-default, replicate, set, take}
-use lib.Seq.{getD-drop, getD-take, length-take-le, set-at}
+use lib.ListN.{drop, getD, length, length-append, length-drop, length-replicate, replicate, set, take}
+use lib.Seq.{getD-drop, length-take-le, set-at, take-suc}
 use Rattle.model.proofs.Image.Address.{part-fits}
 use Rattle.run.specs.Work.{rowAt, rowsFrom, tableAt}
 
--- ---- a row: words of zeros above are what lies past the end
-pub pad-word : (xs : List ℕ) (n i : ℕ) → getD (xs ++ replicate n 0) i 0 ≡ getD xs i 0
-pad-word [] zero i = refl
-pad-word [] (suc n) zero = refl
-pad-word [] (suc n) (suc i) = pad-word [] n i
-pad-word (x ∷ xs) n zero = refl
-pad-word (x ∷ xs) n (suc i) = pad-word xs n i
+-- ---- a row made word by word: what was made so far is the row of fewer words
+pub row-more : (ws : List ℕ) (at i : ℕ) → i < 8 → at + i < length ws → set (rowAt ws at i) i (getD ws (at + i) 0) ≡ rowAt ws at (i + 1)
+row-more ws at i h l =
+    ap (λ (n : ℕ). set (own ++ replicate n 0) i v) left
+    ∙ set-at own 0 rest v i (length-take-le i (drop at ws) (omega (arith, length-drop at ws)))
+    ∙ sym (append-assoc own (v ∷ []) rest)
+    ∙ ap (λ (x : List ℕ). x ++ rest) (ap (λ (w : ℕ). own ++ (w ∷ [])) (sym (getD-drop at ws i 0)) ∙ sym (take-suc (drop at ws) i 0 (omega (arith, length-drop at ws))))
+    ∙ ap (λ (n : ℕ). take n (drop at ws) ++ rest) one
+  where
+    own : List ℕ
+    own = take i (drop at ws)
 
-module _ (ws : List ℕ) (at W : ℕ) (fits : at + W ≤ length ws) where
-  own-length : length (take W (drop at ws)) ≡ W
-  own-length = length-take-le W (drop at ws) (omega (arith, length-drop at ws))
+    v : ℕ
+    v = getD ws (at + i) 0
 
-  pub row-length : W ≤ 8 → length (rowAt ws at W) ≡ 8
-  row-length h = omega (arith, length-append (take W (drop at ws)) (replicate (8 - W) 0), own-length, length-replicate {A = ℕ} (8 - W) 0)
+    rest : List ℕ
+    rest = replicate (8 - (i + 1)) 0
 
-  pub row-word : (i : ℕ) → i < W → getD (rowAt ws at W) i 0 ≡ getD ws (at + i) 0
-  row-word i h = pad-word (take W (drop at ws)) (8 - W) i ∙ getD-take W (drop at ws) i 0 h ∙ getD-drop at ws i 0
+    left : 8 - i ≡ suc (8 - (i + 1))
+    left = omega arith
 
-  pub row-above : (i : ℕ) → W ≤ i → getD (rowAt ws at W) i 0 ≡ 0
-  row-above i h = pad-word (take W (drop at ws)) (8 - W) i ∙ List·getD-eq-default (take W (drop at ws)) 0 (let l : length (take W (drop at ws)) ≤ i = omega (arith, own-length) in l)
+    one : suc i ≡ i + 1
+    one = omega arith
+
+take-short : (n : ℕ) (xs : List ℕ) → length (take n xs) ≤ n
+take-short zero xs = omega arith
+take-short (suc n) [] = omega arith
+take-short (suc n) (x ∷ xs) = let l = take-short n xs in omega arith
+
+pub row-short : (ws : List ℕ) (at W : ℕ) → W ≤ 8 → length (rowAt ws at W) ≤ 8
+row-short ws at W h =
+    omega (arith, length-append (take W (drop at ws)) (replicate (8 - W) 0), take-short W (drop at ws), length-replicate {A = ℕ} (8 - W) 0)
 
 -- ---- rows one after another
 rows-length : (n k : ℕ) (f : ℕ → List ℕ) → length (rowsFrom n k f) ≡ n

@@ -1,18 +1,22 @@
 -- `add`: the words made so far are those of `addWords`, and the carry is the one that goes into the next; each turn makes one more.
+use mathlib.Core.Path.{refl}
 use Prim.Native.Nat.{_-_}
 use borrow.Author.Needs.{needs}
 use lib.ListN.{getD}
 use Rattle.model.specs.Models.Words.{carryOut}
 use Rattle.mask.proofs.Laws.Carries.{sum-word, sumWord}
-use Rattle.mask.proofs.Laws.Ripple.{Rippled, rippled-none, rippled-more, rippled-all}
+use Rattle.mask.proofs.Laws.Ripple.{Rippled, rippled-none, rippled-more, rippled-take}
 use Rattle.mask.proofs.sums.add.Statement.{statement}
 use Rattle.mask.proofs.sums.add.Tie as tie
 
 abbrev Inv-loop : tie.InvT-loop
-Inv-loop a b r₀ carry₀ i₀ r carry i = Rippled sumWord carryOut 8 (a .words) (b .words) (r .words) carry i
+Inv-loop n a b stop r₀ carry₀ i₀ r carry i = Rippled sumWord carryOut 8 (a .words) (b .words) (r .words) carry i
 
 abbrev μ-loop : tie.MeasureT-loop
-μ-loop a b r₀ carry₀ i₀ r carry i = 8 - i
+μ-loop n a b stop r₀ carry₀ i₀ r carry i = stop - i
+
+upto-requires : tie.Need-upto-requires Inv-loop μ-loop
+upto-requires c κs = search needs
 
 loop-holds : tie.Need-loop-holds Inv-loop μ-loop
 loop-holds c = rippled-none sumWord carryOut (search needs)
@@ -56,13 +60,13 @@ loop-less c = search needs
 loop-again : tie.Need-loop-again Inv-loop μ-loop
 loop-again c =
     let l = c .before .before .before .before .before in
-    let x = getD (l .before .args .t1 .words) (l .loop .i) 0 in
-    let y = getD (l .before .args .t2 .words) (l .loop .i) 0 in
+    let x = getD (l .before .before .args .t1 .words) (l .loop .i) 0 in
+    let y = getD (l .before .before .args .t2 .words) (l .loop .i) 0 in
     rippled-more sumWord carryOut (l .loop .inv) (search needs) (search needs) _ _ (search needs)
     (sum-word x y (c .before .wrapping-add-u64 .ensures) (c .wrapping-add-u642 .ensures))
 
 returns : tie.Need-returns Inv-loop μ-loop
-returns c = rippled-all sumWord carryOut (c .before .loop .inv) (search needs) (search needs) (search needs)
+returns c = rippled-take sumWord carryOut (c .before .loop .inv) (search needs) (search needs) refl (c .before .before .upto .ensures) (c .loop-test .left)
 
 pub add-spec : {M : Type 1} → statement M
 add-spec =
@@ -70,6 +74,7 @@ add-spec =
     (tie.spec
     Inv-loop
     μ-loop
+    upto-requires
     loop-holds
     mul-x
     element-copy-out-x

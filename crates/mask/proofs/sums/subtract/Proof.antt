@@ -1,4 +1,5 @@
 -- `subtract`: the words made so far are those of `subtractWords`, and the borrow is the one that goes into the next; each turn makes one more.
+use mathlib.Core.Path.{refl}
 use Prim.Native.Nat.{_-_}
 use borrow.Author.Needs.{needs}
 use lib.ListN.{getD}
@@ -6,15 +7,18 @@ use mir.Syntax.{w64}
 use mir.Val.{Fits}
 use Rattle.model.specs.Models.Words.{borrowOut}
 use Rattle.mask.proofs.Laws.Carries.{difference-word, differenceWord}
-use Rattle.mask.proofs.Laws.Ripple.{Rippled, rippled-none, rippled-more, rippled-all}
+use Rattle.mask.proofs.Laws.Ripple.{Rippled, rippled-none, rippled-more, rippled-take}
 use Rattle.mask.proofs.sums.subtract.Statement.{statement}
 use Rattle.mask.proofs.sums.subtract.Tie as tie
 
 abbrev Inv-loop : tie.InvT-loop
-Inv-loop a b r₀ borrow₀ i₀ r borrow i = Rippled differenceWord borrowOut 8 (a .words) (b .words) (r .words) borrow i
+Inv-loop n a b stop r₀ borrow₀ i₀ r borrow i = Rippled differenceWord borrowOut 8 (a .words) (b .words) (r .words) borrow i
 
 abbrev μ-loop : tie.MeasureT-loop
-μ-loop a b r₀ borrow₀ i₀ r borrow i = 8 - i
+μ-loop n a b stop r₀ borrow₀ i₀ r borrow i = stop - i
+
+upto-requires : tie.Need-upto-requires Inv-loop μ-loop
+upto-requires c κs = search needs
 
 loop-holds : tie.Need-loop-holds Inv-loop μ-loop
 loop-holds c = rippled-none differenceWord borrowOut (search needs)
@@ -58,15 +62,15 @@ loop-less c = search needs
 loop-again : tie.Need-loop-again Inv-loop μ-loop
 loop-again c =
     let l = c .before .before .before .before .before in
-    let hx : Fits w64 (getD (l .before .args .t1 .words) (l .loop .i) 0) = search needs in
-    let hy : Fits w64 (getD (l .before .args .t2 .words) (l .loop .i) 0) = search needs in
+    let hx : Fits w64 (getD (l .before .before .args .t1 .words) (l .loop .i) 0) = search needs in
+    let hy : Fits w64 (getD (l .before .before .args .t2 .words) (l .loop .i) 0) = search needs in
     let s = c .before .wrapping-sub-u64 in
     let t = c .wrapping-sub-u642 in
     rippled-more differenceWord borrowOut (l .loop .inv) (search needs) (search needs) _ _ (search needs)
     (difference-word (hx .fits) (hy .fits) (s .ok) (t .ok) (s .ensures) (t .ensures))
 
 returns : tie.Need-returns Inv-loop μ-loop
-returns c = rippled-all differenceWord borrowOut (c .before .loop .inv) (search needs) (search needs) (search needs)
+returns c = rippled-take differenceWord borrowOut (c .before .loop .inv) (search needs) (search needs) refl (c .before .before .upto .ensures) (c .loop-test .left)
 
 pub subtract-spec : {M : Type 1} → statement M
 subtract-spec =
@@ -74,6 +78,7 @@ subtract-spec =
     (tie.spec
     Inv-loop
     μ-loop
+    upto-requires
     loop-holds
     mul-x
     element-copy-out-x

@@ -1,10 +1,15 @@
--- `find`: the two tests, and what was found between them.
-use mathlib.Core.Path.{refl, sym, _∙_, subst}
-use mathlib.Core.List.{List}
-use Prim.Native.Nat.{ℕ}
+-- `find`: the tests, and what was found between them; a rule of one word finds the same on plain words.
+use mathlib.Core.Path.{refl, sym, _∙_}
+use mathlib.Core.List.{[]}
+use Prim.Native.Nat.{_-_}
 use native.Mathlib.Omega.{arith}
-use Rattle.run.specs.Work.{endsFound, Written}
-use Rattle.run.proofs.Image.Ends.{all-bytes, find-says, found-no-shape, found-too-long, found-whole}
+use Rattle.model.specs.Models.Apart.{depthWord, stateWord}
+use Rattle.word.specs.Ends.{endsWith}
+use Rattle.word.specs.One.{endsOfOne}
+use Rattle.word.proofs.Laws.Scan.{all-bytes}
+use Rattle.run.specs.Work.{masksOf}
+use Rattle.run.proofs.Image.Ends.{find-both, found-no-shape, found-too-long, found-whole}
+use Rattle.run.proofs.Laws.One.{one-same}
 use borrow.Author.Needs.{needs}
 use Rattle.run.proofs.ends.find.Statement.{statement}
 use Rattle.run.proofs.ends.find.Tie as tie
@@ -12,39 +17,58 @@ use Rattle.run.proofs.ends.find.Tie as tie
 has-shape-requires : tie.Need-has-shape-requires
 has-shape-requires c κs = search needs
 
-find-in-requires : tie.Need-find-in-requires
-find-in-requires c κs = (sym (c .before .before .before .has-shape .ensures) ∙ c .before .before .if1 .taken, c .before .if2 .taken)
+states-requires : tie.Need-states-requires
+states-requires c κs = search needs
+
+find-requires : tie.Need-find-requires
+find-requires c κs = search needs
 
 same-length : tie.Need-same-length
 same-length c = search needs
 
 returns : tie.Need-returns
 returns c =
-    let r = c .before .before .find-in in
-    let k = c .before .before .before .before .before .before .before .before .shared-slice-known2 .given in
-    let a = c .before .before .before .before .before .before .before .before .before .before .args in
-    let e = sym (c .before .before .before .before .before .before .has-shape .ensures) ∙ c .before .before .before .before .before .if1 .taken in
-    let w : Written (endsFound (a .image .now) (a .text .now)) (a .places .now) (r .result) (r .last .1 .1 .0) =
-    subst (λ (ends : List ℕ). Written ends (a .places .now) (r .result) (r .last .1 .1 .0)) (found-whole (a .image .now) (a .text .now) e (c .before .before .before .before .if2 .taken)) (r .ensures) in
-    (w, find-says (a .image .now) (a .text .now) (a .places .now) (r .result) (r .last .1 .1 .0) (all-bytes (a .text .now) (λ i. omega (arith, k i))) w)
+    let r = c .before .before .find in
+    let a = c .before .before .before .before .before .before .before .before .before .before .before .before .args in
+    let B = all-bytes (a .text .now) (λ i. omega (arith, c .before .before .before .before .before .before .before .before .before .before .shared-slice-known2 .given i)) in
+    find-both (a .image .now) (a .text .now) (a .places .now) (r .result) (r .last .1 .1 .0) (endsOfOne (a .image .now) (a .text .now)) B (one-same (a .image .now) (a .text .now) (sym (c .before .before .before .before .before .before .before .before .has-shape .ensures) ∙ c .before .before .before .before .before .before .before .if1 .taken) (omega (arith, c .before .before .before .before .before .states .ensures, c .before .before .before .before .if3 .taken)) (c .before .before .before .before .before .before .if2 .taken) B) (r .ensures)
+
+find-in-requires : tie.Need-find-in-requires
+find-in-requires c κs = (sym (c .before .before .before .before .before .has-shape .ensures) ∙ c .before .before .before .before .if1 .taken, omega (arith, c .before .before .states .ensures, c .before .if3 .left), c .before .before .before .if2 .taken)
+
+same-length-2 : tie.Need-same-length-2
+same-length-2 c = search needs
 
 returns-2 : tie.Need-returns-2
 returns-2 c =
-    let k = c .before .before .before .before .shared-slice-known2 .given in
-    let a = c .before .before .before .before .before .before .args in
-    let w : Written (endsFound (a .image .now) (a .text .now)) (a .places .now) 0 (a .places .now) =
-    subst (λ (ends : List ℕ). Written ends (a .places .now) 0 (a .places .now)) (found-too-long (a .image .now) (a .text .now) (c .if2 .left)) (record { counted = refl; stored = refl }) in
-    (w, find-says (a .image .now) (a .text .now) (a .places .now) 0 (a .places .now) (all-bytes (a .text .now) (λ i. omega (arith, k i))) w)
+    let r = c .before .before .find-in in
+    let a = c .before .before .before .before .before .before .before .before .before .before .before .before .args in
+    let B = all-bytes (a .text .now) (λ i. omega (arith, c .before .before .before .before .before .before .before .before .before .before .shared-slice-known2 .given i)) in
+    find-both (a .image .now) (a .text .now) (a .places .now) (r .result) (r .last .1 .1 .0) (endsWith (masksOf (a .image .now)) (depthWord (a .image .now)) (stateWord (a .image .now) - 1) (a .text .now)) B (found-whole (a .image .now) (a .text .now) (sym (c .before .before .before .before .before .before .before .before .has-shape .ensures) ∙ c .before .before .before .before .before .before .before .if1 .taken) (c .before .before .before .before .before .before .if2 .taken)) (r .ensures)
 
 returns-3 : tie.Need-returns-3
 returns-3 c =
-    let k = c .before .before .before .shared-slice-known2 .given in
+    let a = c .before .before .before .before .before .before .args in
+    let B = all-bytes (a .text .now) (λ i. omega (arith, c .before .before .before .before .shared-slice-known2 .given i)) in
+    find-both (a .image .now) (a .text .now) (a .places .now) (0) (a .places .now) ([]) B (found-too-long (a .image .now) (a .text .now) (c .if2 .left)) (record { counted = refl; stored = refl })
+
+returns-4 : tie.Need-returns-4
+returns-4 c =
     let a = c .before .before .before .before .before .args in
-    let w : Written (endsFound (a .image .now) (a .text .now)) (a .places .now) 0 (a .places .now) =
-    subst (λ (ends : List ℕ). Written ends (a .places .now) 0 (a .places .now)) (found-no-shape (a .image .now) (a .text .now) (sym (c .before .has-shape .ensures) ∙ c .if1 .left)) (record { counted = refl; stored = refl }) in
-    (w, find-says (a .image .now) (a .text .now) (a .places .now) 0 (a .places .now) (all-bytes (a .text .now) (λ i. omega (arith, k i))) w)
+    let B = all-bytes (a .text .now) (λ i. omega (arith, c .before .before .before .shared-slice-known2 .given i)) in
+    find-both (a .image .now) (a .text .now) (a .places .now) (0) (a .places .now) ([]) B (found-no-shape (a .image .now) (a .text .now) (sym (c .before .has-shape .ensures) ∙ c .if1 .left)) (record { counted = refl; stored = refl })
 
 pub find-spec : {M : Type 1} → statement M
 find-spec =
     tie.close
-    (tie.spec has-shape-requires find-in-requires same-length returns returns-2 returns-3)
+    (tie.spec
+    has-shape-requires
+    states-requires
+    find-requires
+    same-length
+    returns
+    find-in-requires
+    same-length-2
+    returns-2
+    returns-3
+    returns-4)

@@ -1,12 +1,13 @@
--- `find_in`: the nine tables are those of the words.
-use mathlib.Core.Path.{ap, ap₂, _∙_, subst}
+-- `find_in`: the tables are those of the words, of which only the first words count (`work-ends`).
+use mathlib.Core.Path.{subst}
 use mathlib.Core.List.{List}
-use Prim.Native.Nat.{ℕ, _-_}
+use Prim.Native.Nat.{ℕ}
 use native.Mathlib.Omega.{arith}
-use Rattle.model.specs.Models.Run.{Masks}
-use Rattle.run.specs.Work.{endsWith, masksOf, threeOf, workMasks, Written}
-use Rattle.run.proofs.Laws.Passes.{masks-are}
-use Rattle.run.proofs.Laws.Shape.{sections-of, shape-of}
+use Rattle.mask.proofs.Laws.Bits.{fit-row}
+use Rattle.word.specs.Ends.{Written}
+use Rattle.word.proofs.Laws.Scan.{all-bytes}
+use Rattle.word.proofs.Laws.Shape.{sections-of, shape-of}
+use Rattle.run.proofs.Laws.Widths.{work-ends}
 use borrow.Author.Needs.{needs}
 use Rattle.run.proofs.ends.find_in.Statement.{statement}
 use Rattle.run.proofs.ends.find_in.Tie as tie
@@ -35,6 +36,9 @@ propagate-table-requires c κs = search needs
 propagate-table-requires-2 : tie.Need-propagate-table-requires-2
 propagate-table-requires-2 c κs = search needs
 
+less-ones-requires : tie.Need-less-ones-requires
+less-ones-requires c κs = search needs
+
 propagate-table-requires-3 : tie.Need-propagate-table-requires-3
 propagate-table-requires-3 c κs = search needs
 
@@ -42,50 +46,44 @@ states-requires : tie.Need-states-requires
 states-requires c κs = search needs
 
 sub-last : tie.Need-sub-last
-sub-last c = let s = c .before .before .before .before .before .before .before .before .before .before .before .before .before in omega (arith, c .states .ensures, shape-of (s .args .image .now) (s .pre .0) .some-states)
+sub-last c = let s = c .before .before .before .before .before .before .before .before .before .before .before .before .before .before in omega (arith, c .states .ensures, shape-of (s .args .image .now) (s .pre .0) .some-states)
 
 width-requires : tie.Need-width-requires
-width-requires c κs = search needs
+width-requires c κs = c .before .before .before .before .before .before .before .before .before .before .before .before .before .before .before .pre .0
 
 depth-requires : tie.Need-depth-requires
 depth-requires c κs = search needs
 
 scan-requires : tie.Need-scan-requires
 scan-requires c κs =
-    let s = c .before .before .before .before .before .before .before .before .before .before .before .before .before .before .before .before in
+    let s = c .before .before .before .before .before .before .before .before .before .before .before .before .before .before .before .before .before in
     let S = sections-of (s .args .image .now) (s .pre .0) (c .before .width .ensures) (c .depth .ensures) in
-    (S .narrow, S .letters, S .deep, s .pre .1)
+    let H = shape-of (s .args .image .now) (s .pre .0) in
+    let w = c .before .width .ensures in
+    record {
+      wide = omega (arith, w, s .pre .1);
+      narrow = S .narrow;
+      long = S .letters;
+      deep = S .deep;
+      small = s .pre .2;
+      within = omega (arith, w, c .before .before .before .states .ensures, H .some-states);
+    }
 
 same-length : tie.Need-same-length
 same-length c = search needs
 
 returns : tie.Need-returns
 returns c =
-    let d = c .before .before .before in
-    let w = d .before in
-    let m = w .before .before in
-    let p3 = m .before in
-    let p2 = p3 .before in
-    let p1 = p2 .before in
-    let g3 = p1 .before in
-    let g2 = g3 .before in
-    let g1 = g2 .before in
-    let s3 = g1 .before in
-    let s2 = s3 .before in
-    let s1 = s2 .before in
-    let a = s1 .before .before .before .before .args in
+    let s = c .before .before .before .before .before .before .before .before .before .before .before .before .before .before .before .before .before .before .before .before in
+    let a = s .args in
     let ws = a .image .now in
-    let s = threeOf (s1 .scatter-table .result) (s2 .scatter-table2 .result) (s3 .scatter-table3 .result) in
-    let g = threeOf (g1 .gather-table .result) (g2 .gather-table2 .result) (g3 .gather-table3 .result) in
-    let p = threeOf (p1 .propagate-table .result) (p2 .propagate-table2 .result) (p3 .propagate-table3 .result) in
-    subst (λ (ends : List ℕ). Written ends (a .places .now) (c .before .before .scan .result) (c .before .before .scan .last .1 .1 .0))
-    (ap (λ (n : ℕ). endsWith (workMasks ws n s g p) (d .depth .result) (m .states .result - 1) (a .text .now)) (w .width .ensures)
-    ∙ ap (λ (M : Masks). endsWith M (d .depth .result) (m .states .result - 1) (a .text .now))
-    (masks-are ws (s1 .scatter-table .ensures) (s2 .scatter-table2 .ensures) (s3 .scatter-table3 .ensures) (g1 .gather-table .ensures)
-    (g2 .gather-table2 .ensures) (g3 .gather-table3 .ensures) (p1 .propagate-table .ensures) (p2 .propagate-table2 .ensures)
-    (p3 .propagate-table3 .ensures))
-    ∙ ap₂ (λ (n k : ℕ). endsWith (masksOf ws) n (k - 1) (a .text .now)) (d .depth .ensures) (m .states .ensures))
-    (c .before .before .scan .ensures)
+    let l = c .before .before .before .before .before .before .before .before .less-ones in
+    let t = c .before .before .before .before .before .before .before .before .before .before .before .before .before .before .before .before .before .before .shared-slice-known2 .given in
+    let r = c .before .before .scan in
+    subst (λ (ends : List ℕ). Written ends (a .places .now) (r .result) (r .last .1 .1 .0))
+    (work-ends ws (fit-row ws (c .before .before .before .before .before .before .before .before .before .before .before .before .before .before .before .before .before .before .before .shared-slice-known .given)) (l .result) (c .before .before .before .before .before .before .before .before .before .before .before .before .before .before .before .before .scatter-table .ensures) (c .before .before .before .before .before .before .before .before .before .before .before .before .before .before .before .scatter-table2 .ensures) (c .before .before .before .before .before .before .before .before .before .before .before .before .before .before .scatter-table3 .ensures) (c .before .before .before .before .before .before .before .before .before .before .before .before .before .gather-table .ensures) (c .before .before .before .before .before .before .before .before .before .before .before .before .gather-table2 .ensures) (c .before .before .before .before .before .before .before .before .before .before .before .gather-table3 .ensures) (c .before .before .before .before .before .before .before .before .before .before .propagate-table .ensures) (c .before .before .before .before .before .before .before .before .before .propagate-table2 .ensures) (l .ensures) (c .before .before .before .before .before .before .before .propagate-table3 .ensures)
+    (shape-of ws (s .pre .0)) (c .before .before .before .before .width .ensures) (c .before .before .before .depth .ensures) (c .before .before .before .before .before .before .states .ensures) (a .text .now) (all-bytes (a .text .now) (λ i. omega (arith, t i))))
+    (r .ensures)
 
 pub find-in-spec : {M : Type 1} → statement M
 find-in-spec =
@@ -99,6 +97,7 @@ find-in-spec =
     gather-table-requires-3
     propagate-table-requires
     propagate-table-requires-2
+    less-ones-requires
     propagate-table-requires-3
     states-requires
     sub-last

@@ -5,6 +5,9 @@ use Rattle.model.specs.Models.Apart.{depthWord}
 use Rattle.model.specs.Models.Run.{passWords}
 use Rattle.run.specs.Work.{beginWords, masksOf, noWords, startWords}
 use Rattle.run.proofs.Image.Live.{begin-says}
+use native.Mathlib.Omega.{arith}
+use lib.ListN.{length}
+use Rattle.run.proofs.Laws.Widths.{pass-whole}
 use borrow.Author.Needs.{needs}
 use Rattle.run.proofs.live.begin.Statement.{statement}
 use Rattle.run.proofs.live.begin.Tie as tie
@@ -23,8 +26,11 @@ returns c =
     let h = c .before .before .before .has-shape in
     let ws = c .before .before .before .before .before .args .image .now in
     let X = passWords (masksOf ws) (depthWord ws) in
+    let f = c .before .start in
+    let long : length (c .pass-of .result .words) ≡ 8 = search needs in
     let e : c .pass-of .result .words ≡ beginWords ws =
-    c .pass-of .ensures ∙ ap X (c .before .start .ensures)
+    pass-whole (masksOf ws) (depthWord ws) (f .result .words) (c .pass-of .result .words) (omega (arith, ap length (f .ensures))) (omega (arith, long)) (c .pass-of .ensures)
+    ∙ ap X (f .ensures)
     ∙ sym (ap (λ (b : Bool). cond b (X startWords) noWords) (sym (h .ensures) ∙ c .before .before .if1 .taken)) in
     (e, begin-says ws (c .pass-of .result .words) e)
 

@@ -1,13 +1,16 @@
 -- `step`: the move and the passes where there is a shape.
 use mathlib.Core.Path.{_≡_, refl, sym, ap, _∙_}
 use mathlib.Core.Bool.{Bool, cond}
-use Prim.Native.Nat.{ℕ, _+_, _*_}
+use Prim.Native.Nat.{ℕ, _+_, _*_, _≤_}
+use native.Mathlib.Omega.{arith}
+use lib.ListN.{length}
 use Rattle.mask.proofs.Laws.Bits.{fit-row}
 use Rattle.model.specs.Models.Apart.{depthWord}
 use Rattle.model.specs.Models.Run.{moveWords, passWords, stepWords}
 use Rattle.run.specs.Work.{masksOf, nextWords, noWords, rowAt, startWords}
 use Rattle.run.proofs.Image.Live.{step-says}
-use Rattle.run.proofs.Laws.Shape.{sections-of}
+use Rattle.word.proofs.Laws.Shape.{sections-of, shape-of}
+use Rattle.run.proofs.Laws.Widths.{move-whole, pass-whole}
 use borrow.Author.Needs.{needs}
 use Rattle.run.proofs.live.step.Statement.{statement}
 use Rattle.run.proofs.live.step.Tie as tie
@@ -32,9 +35,15 @@ returns c =
     let h = c .before .before .before .before .has-shape in
     let a = c .before .before .before .before .before .before .args in
     let ws = a .image .now in
+    let m = c .before .moved in
+    let long : length (m .result .words) ≡ 8 = search needs in
+    let longer : length (c .pass-of .result .words) ≡ 8 = search needs in
+    let eight : length (a .live .words) ≡ 8 = search needs in
+    let S = shape-of ws (sym (h .ensures) ∙ c .before .before .before .if1 .taken) in
+    let narrow : c .before .before .width .result ≤ 8 = omega (arith, c .before .before .width .ensures, S .few-states) in
     let e : c .pass-of .result .words ≡ nextWords ws (a .byte) (a .live .words) =
-    c .pass-of .ensures
-    ∙ ap (passWords (masksOf ws) (depthWord ws)) (c .before .moved .ensures
+    pass-whole (masksOf ws) (depthWord ws) (m .result .words) (c .pass-of .result .words) (omega (arith, long)) (omega (arith, longer)) (c .pass-of .ensures)
+    ∙ ap (passWords (masksOf ws) (depthWord ws)) (move-whole ws (c .before .before .width .result) (a .byte) (a .live .words) (m .result .words) narrow (omega (arith, eight)) (omega (arith, long)) (m .ensures)
     ∙ ap (λ (w : ℕ). moveWords (rowAt ws (5 + w * a .byte) w) (rowAt ws (6 + w * (256 + a .byte)) w) startWords (a .live .words)) (c .before .before .width .ensures))
     ∙ sym (ap (λ (b : Bool). cond b (stepWords (masksOf ws) (depthWord ws) (a .byte) (a .live .words)) noWords) (sym (h .ensures) ∙ c .before .before .before .if1 .taken)) in
     (e, step-says ws (a .byte) (a .live .words) (c .pass-of .result .words) (search needs) (search needs) (fit-row (a .live .words) (λ k. search needs)) e)

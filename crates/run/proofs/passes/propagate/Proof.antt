@@ -9,14 +9,8 @@ and-requires c κs = search needs
 or-requires : tie.Need-or-requires
 or-requires c κs = search needs
 
-subtract-requires : tie.Need-subtract-requires
-subtract-requires c κs = search needs
-
-complement-requires : tie.Need-complement-requires
-complement-requires c κs = search needs
-
-xor-requires : tie.Need-xor-requires
-xor-requires c κs = search needs
+change-requires : tie.Need-change-requires
+change-requires c κs = search needs
 
 and-requires-2 : tie.Need-and-requires-2
 and-requires-2 c κs = search needs
@@ -28,14 +22,4 @@ returns : tie.Need-returns
 returns c = cc
 
 pub propagate-spec : {M : Type 1} → statement M
-propagate-spec =
-    tie.close
-    (tie.spec
-    and-requires
-    or-requires
-    subtract-requires
-    complement-requires
-    xor-requires
-    and-requires-2
-    or-requires-2
-    returns)
+propagate-spec = tie.close (tie.spec and-requires or-requires change-requires and-requires-2 or-requires-2 returns)

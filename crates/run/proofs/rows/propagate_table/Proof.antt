@@ -4,7 +4,7 @@ use Prim.Native.Nat.{ℕ, _+_}
 use native.Mathlib.Omega.{arith}
 use Rattle.model.specs.Models.Apart.{propagateAt}
 use Rattle.run.specs.Work.{tableAt}
-use Rattle.run.proofs.Laws.Shape.{propagate-place, sections-of}
+use Rattle.word.proofs.Laws.Shape.{propagate-place, sections-of}
 use borrow.Author.Needs.{needs}
 use Rattle.run.proofs.rows.propagate_table.Statement.{statement}
 use Rattle.run.proofs.rows.propagate_table.Tie as tie

@@ -1,0 +1,208 @@
+-- THE TABLE OF WORK HOLDS THE IMAGE'S MASKS: the entries by their tests; the table's masks are those of the image, so they find the same ends; and
+-- so do the masks of eight words of a rule of one.
+use mathlib.Core.Path.{_≡_, refl, sym, ap, ap₂, _∙_, subst}
+use mathlib.Core.Logic.{_⊎_, inl, inr, _≢_}
+use mathlib.Core.Bool.{Bool, true, false, _&&_, and-false, cond}
+use mathlib.Core.List.{List, [], _∷_}
+use Prim.Native.Nat.{ℕ, zero, suc, _+_, _-_, _*_, _/_, _%_, _^_, _≤_, _<_}
+use native.Mathlib.Nat.{eq-or-lt-of-le, le-of-suc-le-suc}
+use native.Mathlib.Omega.{arith}
+use lib.Dec.{eqb, eqb-refl, leb, ltb, lt→ltb, ltb→lt}
+use lib.ListN.{getD, length, set, take}
+use lib.Seq.{getD-set-other, getD-set-same}
+use Rattle.model.specs.Image.{width}
+use Rattle.model.specs.Models.Apart.{depthWord, stateWord}
+use Rattle.model.specs.Models.Run.{Masks}
+use Rattle.model.specs.Models.Words.{wrapAdd, wrapSub}
+use Rattle.model.proofs.Laws.Bool.{is-not, is-true, le-false, le-true, unequal}
+use Rattle.model.proofs.Words.Run.{Bytes}
+use Rattle.word.specs.Ends.{endsWith, Written}
+use Rattle.word.specs.One.{chain, Chosen, endsOfOne, Entered, entryAt, NoChain, oneMasks, tableMasks, three, wordAt}
+use Rattle.word.specs.Shape.{shaped}
+use Rattle.word.proofs.Laws.Cut.{Cut, ends-cut}
+use Rattle.word.proofs.Laws.Shape.{Shape}
+
+below : (m n : ℕ) → m < n → ltb m n ≡ true
+below m n h = is-true (ltb m n) (lt→ltb m n h)
+
+not-below : (m n : ℕ) → n ≤ m → ltb m n ≡ false
+not-below m n h = is-not (ltb m n) (λ t. let l = ltb→lt m n t in absurd (omega arith))
+
+-- ---- an entry by its tests
+module _ (ws : List ℕ) (d k j : ℕ) where
+  abbrev low : ℕ
+  low = getD ws (516 + 3 * k + j) 0
+
+  abbrev mid : ℕ
+  mid = getD ws (514 + 3 * d + 3 * k + j) 0
+
+  abbrev high : ℕ
+  high = getD ws (515 + 6 * d + 3 * k + j) 0
+
+  abbrev pick : Bool → Bool → Bool → ℕ
+  pick a b c = cond a low (cond b mid (cond c (wrapSub high 1) high))
+
+  pub entry-first : j < 3 → low ≡ entryAt ws d k j
+  entry-first h = sym (ap (λ (a : Bool). pick a (ltb j 6) (eqb j 7)) (below j 3 h))
+
+  pub entry-second : 3 ≤ j → j < 6 → mid ≡ entryAt ws d k j
+  entry-second h l = sym (ap₂ (λ (a b : Bool). pick a b (eqb j 7)) (not-below j 3 h) (below j 6 l))
+
+  entry-high : 6 ≤ j → cond (eqb j 7) (wrapSub high 1) high ≡ entryAt ws d k j
+  entry-high h = sym (ap₂ (λ (a b : Bool). pick a b (eqb j 7)) (not-below j 3 (omega arith)) (not-below j 6 h))
+
+  pub entry-less : 6 ≤ j → j ≡ 7 → wrapSub high 1 ≡ entryAt ws d k j
+  entry-less h e =
+      sym (ap (λ (c : Bool). cond c (wrapSub high 1) high) (ap (λ (i : ℕ). eqb i 7) e)) ∙ entry-high h
+
+  pub entry-last : 6 ≤ j → j ≢ 7 → high ≡ entryAt ws d k j
+  entry-last h e = sym (ap (λ (c : Bool). cond c (wrapSub high 1) high) (unequal j 7 e)) ∙ entry-high h
+
+pub less-one : {x s : ℕ} → s < 2 ^ 64 → (s + 1) % 2 ^ 64 ≡ x → s ≡ wrapSub x 1
+less-one h e = omega arith
+
+pub never : true ≡ false → ⊥
+never e = let z : _≡_ {A = ℕ} 0 1 = cc in omega arith
+
+-- ---- the table entry by entry
+pub entered-more : (ws table : List ℕ) (d i v : ℕ) → i < length table → ((x : ℕ) → x < i → getD table x 0 ≡ entryAt ws d (x / 9) (x % 9)) → v ≡ entryAt ws d (i / 9) (i % 9)
+    → (x : ℕ) → x < i + 1 → getD (set table i v) x 0 ≡ entryAt ws d (x / 9) (x % 9)
+entered-more ws table d i v l I e x h = go (eq-or-lt-of-le (let k : x ≤ i = omega arith in k))
+  where
+    go : (x ≡ i) ⊎ (x < i) → getD (set table i v) x 0 ≡ entryAt ws d (x / 9) (x % 9)
+    go (inl q) = ap (λ (y : ℕ). getD (set table i v) y 0) q ∙ getD-set-same table i v 0 l ∙ e ∙ sym (ap (λ (y : ℕ). entryAt ws d (y / 9) (y % 9)) q)
+    go (inr q) = getD-set-other table i x v 0 (λ y. let z : x ≡ i = y in absurd (omega arith)) ∙ I x q
+
+-- the empty blocks, one more
+pub empty-more : (table : List ℕ) (k : ℕ) → ((x : ℕ) → x < k → getD table (9 * x + 6) 0 ≡ 0) → getD table (9 * k + 6) 0 ≡ 0 → (x : ℕ) → x ≤ k → getD table (9 * x + 6) 0 ≡ 0
+empty-more table k I e x h = go (eq-or-lt-of-le h)
+  where
+    go : (x ≡ k) ⊎ (x < k) → getD table (9 * x + 6) 0 ≡ 0
+    go (inl q) = ap (λ (y : ℕ). getD table (9 * y + 6) 0) q ∙ e
+    go (inr q) = I x q
+
+-- ---- THE TABLE'S MASKS ARE THE IMAGE'S
+module _ (ws table : List ℕ) (d : ℕ) (any : Bool) (deep : d ≡ depthWord ws) (I : Entered ws d table) (N : NoChain table d any)
+    (fit : (i : ℕ) → getD ws i 0 < 2 ^ 64) where
+  entry : (k j : ℕ) → k ≤ d → j < 9 → getD table (9 * k + j) 0 ≡ entryAt ws d k j
+  entry k j h l =
+      let e : (9 * k + j) / 9 ≡ k = omega arith in
+      let f : (9 * k + j) % 9 ≡ j = omega arith in
+      I (9 * k + j) (omega arith) ∙ ap₂ (entryAt ws d) e f
+
+  -- word j of depth k + 1, where the image has it
+  scattered : (k j : ℕ) → k < d → j < 3 → getD table (9 * suc k + j) 0 ≡ getD ws (519 + 3 * k + j) 0
+  scattered k j h l =
+      entry (suc k) j h (omega arith) ∙ sym (entry-first ws d (suc k) j l)
+      ∙ (let e : 516 + 3 * suc k + j ≡ 519 + 3 * k + j = omega arith in ap (λ (i : ℕ). getD ws i 0) e)
+
+  gathered : (k j : ℕ) → k < d → j < 3 → getD table (9 * suc k + (3 + j)) 0 ≡ getD ws (520 + 3 * depthWord ws + 3 * k + j) 0
+  gathered k j h l =
+      entry (suc k) (3 + j) h (omega arith) ∙ sym (entry-second ws d (suc k) (3 + j) (omega arith) (omega arith))
+      ∙ (let e : 514 + 3 * d + 3 * suc k + (3 + j) ≡ 520 + 3 * depthWord ws + 3 * k + j = omega arith in ap (λ (i : ℕ). getD ws i 0) e)
+
+  abbrev at : ℕ → ℕ → ℕ
+  at k j = 521 + 6 * depthWord ws + 3 * k + j
+
+  place : (k j : ℕ) → 515 + 6 * d + 3 * k + (6 + j) ≡ at k j
+  place k j = omega arith
+
+  block : (k : ℕ) → k ≤ d → getD table (9 * k + 6) 0 ≡ getD ws (at k 0) 0
+  block k h = entry k 6 h (omega arith) ∙ sym (entry-last ws d k 6 (omega arith) (λ e. absurd (omega arith))) ∙ ap (λ (i : ℕ). getD ws i 0) (place k 0)
+
+  source : (k : ℕ) → k ≤ d → wrapAdd (getD table (9 * k + 7) 0) 1 ≡ getD ws (at k 1) 0
+  source k h =
+      ap (λ (x : ℕ). wrapAdd x 1) (entry k 7 h (omega arith) ∙ sym (entry-less ws d k 7 (omega arith) refl))
+      ∙ back (getD ws (515 + 6 * d + 3 * k + 7) 0) (fit (515 + 6 * d + 3 * k + 7)) ∙ ap (λ (i : ℕ). getD ws i 0) (place k 1)
+    where
+      back : (x : ℕ) → x < 2 ^ 64 → wrapAdd (wrapSub x 1) 1 ≡ x
+      back x l = omega arith
+
+  target : (k : ℕ) → k ≤ d → getD table (9 * k + 8) 0 ≡ getD ws (at k 2) 0
+  target k h = entry k 8 h (omega arith) ∙ sym (entry-last ws d k 8 (omega arith) (λ e. absurd (omega arith))) ∙ ap (λ (i : ℕ). getD ws i 0) (place k 2)
+
+  -- without a chain the block was empty
+  shown : (b : Bool) → any ≡ b → (k : ℕ) → k ≤ d → cond b (getD table (9 * k + 6) 0) 0 ≡ getD table (9 * k + 6) 0
+  shown true e k h = refl
+  shown false e k h = sym (N e k h)
+
+  chained : (k j : ℕ) → k ≤ d → j < 3
+      → chain any (getD table (9 * k + 6) 0) (getD table (9 * k + 7) 0) (getD table (9 * k + 8) 0) j ≡ wordAt ws (at k j)
+  chained k zero h l = ap (λ (x : ℕ). x ∷ []) (shown any refl k h ∙ block k h)
+  chained k (suc zero) h l = ap (λ (x : ℕ). x ∷ []) (source k h)
+  chained k (suc (suc zero)) h l = ap (λ (x : ℕ). x ∷ []) (target k h)
+  chained k (suc (suc (suc j))) h l = absurd (omega arith)
+
+  abbrev T : Masks
+  T = tableMasks ws any (getD table 6 0) (getD table 7 0) (getD table 8 0) table
+
+  one-cut : Cut 1 d T (oneMasks ws)
+  one-cut = record {
+    letters = λ b l. refl;
+    loops = λ b l. refl;
+    scatters = scatters;
+    gathers = gathers;
+    propagates = propagates;
+    start = refl;
+  }
+    where
+      scatters : (k j : ℕ) → k < d → j < 3 → take 1 (T .scatterMask k j) ≡ oneMasks ws .scatterMask k j
+      scatters k zero h l = (let e : 9 * suc k ≡ 9 * suc k + 0 = omega arith in ap (wordAt table) e) ∙ ap (λ (x : ℕ). x ∷ []) (scattered k 0 h l)
+      scatters k (suc zero) h l = ap (λ (x : ℕ). x ∷ []) (scattered k 1 h l)
+      scatters k (suc (suc zero)) h l = ap (λ (x : ℕ). x ∷ []) (scattered k 2 h l)
+      scatters k (suc (suc (suc j))) h l = absurd (omega arith)
+
+      gathers : (k j : ℕ) → k < d → j < 3 → take 1 (T .gatherMask k j) ≡ oneMasks ws .gatherMask k j
+      gathers k zero h l = ap (λ (x : ℕ). x ∷ []) (gathered k 0 h l)
+      gathers k (suc zero) h l = ap (λ (x : ℕ). x ∷ []) (gathered k 1 h l)
+      gathers k (suc (suc zero)) h l = ap (λ (x : ℕ). x ∷ []) (gathered k 2 h l)
+      gathers k (suc (suc (suc j))) h l = absurd (omega arith)
+
+      propagates : (k j : ℕ) → k ≤ d → j < 3 → take 1 (T .propagateMask k j) ≡ oneMasks ws .propagateMask k j
+      propagates zero zero h l = chained 0 0 h l
+      propagates zero (suc zero) h l = chained 0 1 h l
+      propagates zero (suc (suc j)) h l = chained 0 (suc (suc j)) h l
+      propagates (suc k) zero h l = chained (suc k) 0 h l
+      propagates (suc k) (suc zero) h l = chained (suc k) 1 h l
+      propagates (suc k) (suc (suc j)) h l = chained (suc k) (suc (suc j)) h l
+
+  pub one-ends : (last : ℕ) → last < 64 → (text : List ℕ) → Bytes text → endsWith T d last text ≡ endsWith (oneMasks ws) d last text
+  one-ends last l text B = ends-cut 1 d T (oneMasks ws) one-cut last (omega arith) text B
+
+-- ---- the list found, by the three tests
+module _ (ws text : List ℕ) where
+  abbrev found : Bool → Bool → Bool → List ℕ
+  found a b c = cond ((a && b) && c) (endsWith (oneMasks ws) (depthWord ws) (stateWord ws - 1) text) []
+
+  pub found-one : shaped ws ≡ true → stateWord ws ≤ 64 → length text ≤ 65535
+      → endsWith (oneMasks ws) (depthWord ws) (stateWord ws - 1) text ≡ endsOfOne ws text
+  found-one e h l = sym (ap₂ (λ (a b : Bool). found a b (leb (length text) 65535)) e (le-true (stateWord ws) 64 h) ∙ ap (found true true) (le-true (length text) 65535 l))
+
+  pub one-no-shape : shaped ws ≡ false → [] ≡ endsOfOne ws text
+  one-no-shape e = sym (ap (λ (a : Bool). found a (leb (stateWord ws) 64) (leb (length text) 65535)) e)
+
+  pub one-too-wide : 64 < stateWord ws → [] ≡ endsOfOne ws text
+  one-too-wide h =
+      sym (ap (λ (b : Bool). found (shaped ws) b (leb (length text) 65535)) (le-false (stateWord ws) 64 h)
+      ∙ ap (λ (b : Bool). cond (b && leb (length text) 65535) (found true true true) []) (and-false (shaped ws)))
+
+  pub one-too-long : 65535 < length text → [] ≡ endsOfOne ws text
+  one-too-long h =
+      sym (ap (found (shaped ws) (leb (stateWord ws) 64)) (le-false (length text) 65535 h)
+      ∙ ap (λ (b : Bool). cond b (found true true true) []) (and-false (shaped ws && leb (stateWord ws) 64)))
+
+-- ---- the choice of a loop: each writes the ends of the image's masks, with the depth and the presence of chains as literals or not
+pub chosen : {ws text : List ℕ} {last d : ℕ} {any : Bool} {table : List ℕ} → Chosen ws text last d any table → ((i : ℕ) → getD ws i 0 < 2 ^ 64) → Bytes text
+    → (flag : Bool) → NoChain table d flag → (n : ℕ) → d ≡ n → {before after : List ℕ} {total : ℕ}
+    → Written (endsWith (tableMasks ws flag (getD table 6 0) (getD table 7 0) (getD table 8 0) table) n last text) before total after
+    → Written (endsWith (oneMasks ws) d last text) before total after
+chosen {ws} {text} {last} {d} {any} {table} C fit B flag N n e {before} {after} {total} w =
+    let T = tableMasks ws flag (getD table 6 0) (getD table 7 0) (getD table 8 0) table in
+    subst (λ (ps : List ℕ). Written ps before total after)
+    (ap (λ (i : ℕ). endsWith T i last text) (sym e) ∙ one-ends ws table d flag (C .deep) (C .entered) N fit last (C .few) text B) w
+
+-- words with a shape of one word to a mask are 524 and nine for each depth
+pub one-long : (ws : List ℕ) → Shape ws → stateWord ws ≤ 64 → length ws ≡ 524 + 9 * depthWord ws
+one-long ws S h =
+    let e : width (stateWord ws) ≡ 1 = omega (arith, S .some-states) in
+    S .long ∙ ap (λ (w : ℕ). 9 + w * (515 + 9 * depthWord ws)) e ∙ (let q : 9 + 1 * (515 + 9 * depthWord ws) ≡ 524 + 9 * depthWord ws = omega arith in q)

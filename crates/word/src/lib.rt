@@ -1,0 +1,8 @@
+// The run of a rule of at most 64 states, on plain 64-bit words; and the shape of an image and the writing of an end, which the run of wider
+// rules shares.
+pub mod ends;
+pub mod passes;
+pub mod places;
+pub mod shape;
+mod steps;
+mod table;

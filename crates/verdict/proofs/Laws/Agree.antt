@@ -1,8 +1,8 @@
 -- THE COMPARISON SECTION BY SECTION IS THE MODEL'S: a section equals the joined rows exactly if each part equals its row, and the rows are those that
 -- the model lays out, since the tape's tokens are the model's but for their classes.
-use mathlib.Core.Path.{_≡_, refl, sym, ap, ap₂, _∙_, subst}
+use mathlib.Core.Path.{_≡_, refl, sym, ap, _∙_, subst}
 use mathlib.Core.Logic.{_⊎_, inl, inr, _↔_}
-use mathlib.Core.Bool.{Bool, true, false, _&&_}
+use mathlib.Core.Bool.{Bool, false}
 use mathlib.Core.List.{List, [], _∷_, _++_}
 use Prim.Native.Nat.{ℕ, zero, suc, _+_, _*_, _≤_, _<_}
 use native.Mathlib.Nat.{lt-of-lt-of-le, mul-suc, mul-zero, mul-le-mul-left, zero-add}
@@ -36,7 +36,7 @@ use Rattle.tape.proofs.Bare.{bares-lay, bares-length}
 use Rattle.tape.proofs.FirstWords.{first-words}
 use Rattle.tape.proofs.Painted.{propagate-block-is, propagate-source-is, propagate-target-is, row-is}
 use Rattle.image.specs.Work.{threeRows}
-use Rattle.verdict.specs.Work.{sameAll, sameGather, samePropagate, sameRepeats, sameScatter, sameTables, wordsAt}
+use Rattle.verdict.specs.Work.{sameGather, samePropagate, sameRepeats, sameScatter, sameTables, wordsAt}
 use Rattle.model.proofs.Image.Address.{chunk-at, gather-at, part-fits, part-of-part, propagate-at, repeats-at, scatter-at}
 
 -- ---- a section and its parts

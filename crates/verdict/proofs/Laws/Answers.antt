@@ -2,17 +2,14 @@
 use mathlib.Core.Path.{_≡_, refl, sym, ap, ap₂, _∙_, subst}
 use mathlib.Core.Bool.{Bool, true, false, not}
 use mathlib.Core.List.{List, map}
-use Prim.Native.Nat.{ℕ, suc, _+_, _-_, _*_, _≤_, _<_}
+use Prim.Native.Nat.{ℕ, _+_, _-_, _*_, _≤_}
 use native.Mathlib.Omega.{arith}
 use lib.Dec.{T}
 use lib.ListN.{length}
 use lib.ListN.{length-map}
-use Rattle.model.specs.Answers.{ImageOf, NoImage}
+use Rattle.model.specs.Answers.{NoImage}
 use Rattle.model.specs.Bits.{bit}
-use Rattle.model.specs.Edges.{states}
-use Rattle.model.specs.Image.{width}
 use Rattle.model.specs.Models.Apart.{anyBelow, bitOf, depthWord, lettersIn, stateWord, tape, widthWord}
-use Rattle.model.specs.Models.LayOut.{begin, reach}
 use Rattle.model.specs.Models.Words.{Fit, value}
 use Rattle.model.specs.Tree as tree
 use Rattle.tape.specs.Tapes.{bares, shapeOf, tokensOf}

@@ -1,19 +1,19 @@
 -- THE CHECK DECIDES: what it tests are the model's conditions for an image, so it answers yes exactly for images, with the tree's tape.
-use mathlib.Core.Path.{_≡_, refl, sym, ap, ap₂, _∙_, subst}
+use mathlib.Core.Path.{_≡_, refl, sym, ap, _∙_, subst}
 use mathlib.Core.Logic.{_↔_}
 use mathlib.Core.Bool.{Bool, true, false, _&&_, cond}
 use mathlib.Core.List.{List, [], _∷_}
-use Prim.Native.Nat.{ℕ, zero, suc, _+_, _-_, _*_, _≤_, _<_}
+use Prim.Native.Nat.{ℕ, suc, _+_, _-_, _*_, _≤_}
 use native.Mathlib.Nat.{mul-assoc, mul-comm}
 use native.Mathlib.Omega.{arith}
 use lib.Dec.{T, leb, le→leb}
 use lib.ListN.{drop, getD, length}
 use lib.Seq.{getD-drop}
-use Rattle.model.specs.Answers.{ImageOf, NoImage}
+use Rattle.model.specs.Answers.{ImageOf}
 use Rattle.model.specs.Bits.{bit}
-use Rattle.model.specs.Edges.{depth, states}
+use Rattle.model.specs.Edges.{states}
 use Rattle.model.specs.Image.{width}
-use Rattle.model.specs.Models.Apart.{anyBelow, bitOf, depthWord, gatherAt, gatherIn, lettersIn, propagateAt, propagateIn, repeatsIn, scatterAt, scatterIn, stateWord, tape, tokenAt, widthWord}
+use Rattle.model.specs.Models.Apart.{anyBelow, bitOf, depthWord, gatherAt, gatherIn, lettersIn, propagateAt, repeatsIn, scatterAt, scatterIn, stateWord, tape, tokenAt, widthWord}
 use Rattle.model.specs.Models.LayOut.{begin, letter-place, loop-place, reach, valid}
 use Rattle.model.specs.Models.Tokens.{parse, Token, tokens}
 use Rattle.model.specs.Models.Verdict.{accepts, sameWords}
@@ -30,7 +30,7 @@ use Rattle.tape.specs.Tapes.{bares, isTree, shapeOf, tableOf, TapeOf, tokensOf}
 use Rattle.tape.specs.declared.Shape.{Shape}
 use Rattle.tape.specs.declared.Shape.the-variants.{Other, Tree}
 use Rattle.tape.specs.declared.Tape.{Tape}
-use Rattle.tape.proofs.Bare.{bares-length, bares-reach, bares-valid}
+use Rattle.tape.proofs.Bare.{bares-reach, bares-valid}
 use Rattle.verdict.specs.Work.{headerFits, sameAll, sameGather, samePropagate, sameRepeats, sameScatter}
 use Rattle.model.proofs.Image.Address.{gather-at, repeats-at, scatter-at}
 use Rattle.verdict.proofs.Laws.Header.{counts-fit, counts-of, fits-of, header-fits}

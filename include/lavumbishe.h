@@ -19,7 +19,7 @@
  *  - Areas. Each is a pointer and a length in elements, not in bytes. The area to be written must not overlap one to be read. A
  *    pointer must be aligned for its type and must not be null, also where the length is 0.
  *  - Stack: 1 MiB for build, since the readers nest as deep as the rule's brackets may; 16 KiB for read back, 64 KiB for match. The
- *    tests measure some 800,000, 8,800 and 14,300 bytes on x86-64. Build may be left to the desk: a panel that gets images needs match alone.
+ *    tests measure some 802,000, 8,700 and 12,600 bytes on x86-64. Build may be left to the desk: a panel that gets images needs match alone.
  *  - memcpy, memmove and memset, which the compiler may call. Nothing else is called.
  *
  * No heap and no variable data outside the stack is used, so calls from several threads or from an interrupt are safe as long as none writes an

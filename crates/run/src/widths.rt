@@ -11,285 +11,146 @@ ghost use lib.ListN.{length, take};
 ghost use Rattle.model.specs.Models.Run.{moveWords};
 ghost use Rattle.run.specs.Work.{Passes, rowAt, startWords};
 
-// Up and down with K words: all that the live states reach by edges without a letter.
+// Up and down with K words: all that the live states reach by edges without a letter. The tables of scatter, gather and propagate (s, g, p) have
+// block, source and target (b, s, t), propagate's source less one (l).
 fn pass_2(
     live: Mask,
     depth: usize,
-    scatter_block: &Table,
-    scatter_source: &Table,
-    scatter_target: &Table,
-    gather_block: &Table,
-    gather_source: &Table,
-    gather_target: &Table,
-    propagate_block: &Table,
-    propagate_below: &Table,
-    propagate_target: &Table,
+    sb: &Table,
+    ss: &Table,
+    st: &Table,
+    gb: &Table,
+    gs: &Table,
+    gt: &Table,
+    pb: &Table,
+    pl: &Table,
+    pt: &Table,
 ) -> Mask
     requires { ⌜ depth ≤ 8 ⌝ }
-    ensures { λ r. ⌜ Passes 2 (now («scatter_block» .entry)) (now («scatter_source» .entry)) (now («scatter_target» .entry)) (now («gather_block» .entry)) (now («gather_source» .entry)) (now («gather_target» .entry)) (now («propagate_block» .entry)) (now («propagate_below» .entry)) (now («propagate_target» .entry)) depth (live .words) (r .words) ⌝ }
+    ensures { λ r. ⌜ Passes 2 (now (sb .entry)) (now (ss .entry)) (now (st .entry)) (now (gb .entry)) (now (gs .entry)) (now (gt .entry)) (now (pb .entry)) (now (pl .entry)) (now (pt .entry)) depth (live .words) (r .words) ⌝ }
 {
-    let up = rise(
-        live,
-        depth,
-        2,
-        gather_block,
-        gather_source,
-        gather_target,
-        propagate_block,
-        propagate_below,
-        propagate_target,
-    );
-    fall(
-        up,
-        depth,
-        2,
-        scatter_block,
-        scatter_source,
-        scatter_target,
-        propagate_block,
-        propagate_below,
-        propagate_target,
-    )
+    let up = rise(live, depth, 2, gb, gs, gt, pb, pl, pt);
+    fall(up, depth, 2, sb, ss, st, pb, pl, pt)
 }
 
 fn pass_3(
     live: Mask,
     depth: usize,
-    scatter_block: &Table,
-    scatter_source: &Table,
-    scatter_target: &Table,
-    gather_block: &Table,
-    gather_source: &Table,
-    gather_target: &Table,
-    propagate_block: &Table,
-    propagate_below: &Table,
-    propagate_target: &Table,
+    sb: &Table,
+    ss: &Table,
+    st: &Table,
+    gb: &Table,
+    gs: &Table,
+    gt: &Table,
+    pb: &Table,
+    pl: &Table,
+    pt: &Table,
 ) -> Mask
     requires { ⌜ depth ≤ 8 ⌝ }
-    ensures { λ r. ⌜ Passes 3 (now («scatter_block» .entry)) (now («scatter_source» .entry)) (now («scatter_target» .entry)) (now («gather_block» .entry)) (now («gather_source» .entry)) (now («gather_target» .entry)) (now («propagate_block» .entry)) (now («propagate_below» .entry)) (now («propagate_target» .entry)) depth (live .words) (r .words) ⌝ }
+    ensures { λ r. ⌜ Passes 3 (now (sb .entry)) (now (ss .entry)) (now (st .entry)) (now (gb .entry)) (now (gs .entry)) (now (gt .entry)) (now (pb .entry)) (now (pl .entry)) (now (pt .entry)) depth (live .words) (r .words) ⌝ }
 {
-    let up = rise(
-        live,
-        depth,
-        3,
-        gather_block,
-        gather_source,
-        gather_target,
-        propagate_block,
-        propagate_below,
-        propagate_target,
-    );
-    fall(
-        up,
-        depth,
-        3,
-        scatter_block,
-        scatter_source,
-        scatter_target,
-        propagate_block,
-        propagate_below,
-        propagate_target,
-    )
+    let up = rise(live, depth, 3, gb, gs, gt, pb, pl, pt);
+    fall(up, depth, 3, sb, ss, st, pb, pl, pt)
 }
 
 fn pass_4(
     live: Mask,
     depth: usize,
-    scatter_block: &Table,
-    scatter_source: &Table,
-    scatter_target: &Table,
-    gather_block: &Table,
-    gather_source: &Table,
-    gather_target: &Table,
-    propagate_block: &Table,
-    propagate_below: &Table,
-    propagate_target: &Table,
+    sb: &Table,
+    ss: &Table,
+    st: &Table,
+    gb: &Table,
+    gs: &Table,
+    gt: &Table,
+    pb: &Table,
+    pl: &Table,
+    pt: &Table,
 ) -> Mask
     requires { ⌜ depth ≤ 8 ⌝ }
-    ensures { λ r. ⌜ Passes 4 (now («scatter_block» .entry)) (now («scatter_source» .entry)) (now («scatter_target» .entry)) (now («gather_block» .entry)) (now («gather_source» .entry)) (now («gather_target» .entry)) (now («propagate_block» .entry)) (now («propagate_below» .entry)) (now («propagate_target» .entry)) depth (live .words) (r .words) ⌝ }
+    ensures { λ r. ⌜ Passes 4 (now (sb .entry)) (now (ss .entry)) (now (st .entry)) (now (gb .entry)) (now (gs .entry)) (now (gt .entry)) (now (pb .entry)) (now (pl .entry)) (now (pt .entry)) depth (live .words) (r .words) ⌝ }
 {
-    let up = rise(
-        live,
-        depth,
-        4,
-        gather_block,
-        gather_source,
-        gather_target,
-        propagate_block,
-        propagate_below,
-        propagate_target,
-    );
-    fall(
-        up,
-        depth,
-        4,
-        scatter_block,
-        scatter_source,
-        scatter_target,
-        propagate_block,
-        propagate_below,
-        propagate_target,
-    )
+    let up = rise(live, depth, 4, gb, gs, gt, pb, pl, pt);
+    fall(up, depth, 4, sb, ss, st, pb, pl, pt)
 }
 
 fn pass_5(
     live: Mask,
     depth: usize,
-    scatter_block: &Table,
-    scatter_source: &Table,
-    scatter_target: &Table,
-    gather_block: &Table,
-    gather_source: &Table,
-    gather_target: &Table,
-    propagate_block: &Table,
-    propagate_below: &Table,
-    propagate_target: &Table,
+    sb: &Table,
+    ss: &Table,
+    st: &Table,
+    gb: &Table,
+    gs: &Table,
+    gt: &Table,
+    pb: &Table,
+    pl: &Table,
+    pt: &Table,
 ) -> Mask
     requires { ⌜ depth ≤ 8 ⌝ }
-    ensures { λ r. ⌜ Passes 5 (now («scatter_block» .entry)) (now («scatter_source» .entry)) (now («scatter_target» .entry)) (now («gather_block» .entry)) (now («gather_source» .entry)) (now («gather_target» .entry)) (now («propagate_block» .entry)) (now («propagate_below» .entry)) (now («propagate_target» .entry)) depth (live .words) (r .words) ⌝ }
+    ensures { λ r. ⌜ Passes 5 (now (sb .entry)) (now (ss .entry)) (now (st .entry)) (now (gb .entry)) (now (gs .entry)) (now (gt .entry)) (now (pb .entry)) (now (pl .entry)) (now (pt .entry)) depth (live .words) (r .words) ⌝ }
 {
-    let up = rise(
-        live,
-        depth,
-        5,
-        gather_block,
-        gather_source,
-        gather_target,
-        propagate_block,
-        propagate_below,
-        propagate_target,
-    );
-    fall(
-        up,
-        depth,
-        5,
-        scatter_block,
-        scatter_source,
-        scatter_target,
-        propagate_block,
-        propagate_below,
-        propagate_target,
-    )
+    let up = rise(live, depth, 5, gb, gs, gt, pb, pl, pt);
+    fall(up, depth, 5, sb, ss, st, pb, pl, pt)
 }
 
 fn pass_6(
     live: Mask,
     depth: usize,
-    scatter_block: &Table,
-    scatter_source: &Table,
-    scatter_target: &Table,
-    gather_block: &Table,
-    gather_source: &Table,
-    gather_target: &Table,
-    propagate_block: &Table,
-    propagate_below: &Table,
-    propagate_target: &Table,
+    sb: &Table,
+    ss: &Table,
+    st: &Table,
+    gb: &Table,
+    gs: &Table,
+    gt: &Table,
+    pb: &Table,
+    pl: &Table,
+    pt: &Table,
 ) -> Mask
     requires { ⌜ depth ≤ 8 ⌝ }
-    ensures { λ r. ⌜ Passes 6 (now («scatter_block» .entry)) (now («scatter_source» .entry)) (now («scatter_target» .entry)) (now («gather_block» .entry)) (now («gather_source» .entry)) (now («gather_target» .entry)) (now («propagate_block» .entry)) (now («propagate_below» .entry)) (now («propagate_target» .entry)) depth (live .words) (r .words) ⌝ }
+    ensures { λ r. ⌜ Passes 6 (now (sb .entry)) (now (ss .entry)) (now (st .entry)) (now (gb .entry)) (now (gs .entry)) (now (gt .entry)) (now (pb .entry)) (now (pl .entry)) (now (pt .entry)) depth (live .words) (r .words) ⌝ }
 {
-    let up = rise(
-        live,
-        depth,
-        6,
-        gather_block,
-        gather_source,
-        gather_target,
-        propagate_block,
-        propagate_below,
-        propagate_target,
-    );
-    fall(
-        up,
-        depth,
-        6,
-        scatter_block,
-        scatter_source,
-        scatter_target,
-        propagate_block,
-        propagate_below,
-        propagate_target,
-    )
+    let up = rise(live, depth, 6, gb, gs, gt, pb, pl, pt);
+    fall(up, depth, 6, sb, ss, st, pb, pl, pt)
 }
 
 fn pass_7(
     live: Mask,
     depth: usize,
-    scatter_block: &Table,
-    scatter_source: &Table,
-    scatter_target: &Table,
-    gather_block: &Table,
-    gather_source: &Table,
-    gather_target: &Table,
-    propagate_block: &Table,
-    propagate_below: &Table,
-    propagate_target: &Table,
+    sb: &Table,
+    ss: &Table,
+    st: &Table,
+    gb: &Table,
+    gs: &Table,
+    gt: &Table,
+    pb: &Table,
+    pl: &Table,
+    pt: &Table,
 ) -> Mask
     requires { ⌜ depth ≤ 8 ⌝ }
-    ensures { λ r. ⌜ Passes 7 (now («scatter_block» .entry)) (now («scatter_source» .entry)) (now («scatter_target» .entry)) (now («gather_block» .entry)) (now («gather_source» .entry)) (now («gather_target» .entry)) (now («propagate_block» .entry)) (now («propagate_below» .entry)) (now («propagate_target» .entry)) depth (live .words) (r .words) ⌝ }
+    ensures { λ r. ⌜ Passes 7 (now (sb .entry)) (now (ss .entry)) (now (st .entry)) (now (gb .entry)) (now (gs .entry)) (now (gt .entry)) (now (pb .entry)) (now (pl .entry)) (now (pt .entry)) depth (live .words) (r .words) ⌝ }
 {
-    let up = rise(
-        live,
-        depth,
-        7,
-        gather_block,
-        gather_source,
-        gather_target,
-        propagate_block,
-        propagate_below,
-        propagate_target,
-    );
-    fall(
-        up,
-        depth,
-        7,
-        scatter_block,
-        scatter_source,
-        scatter_target,
-        propagate_block,
-        propagate_below,
-        propagate_target,
-    )
+    let up = rise(live, depth, 7, gb, gs, gt, pb, pl, pt);
+    fall(up, depth, 7, sb, ss, st, pb, pl, pt)
 }
 
 pub fn pass_8(
     live: Mask,
     depth: usize,
-    scatter_block: &Table,
-    scatter_source: &Table,
-    scatter_target: &Table,
-    gather_block: &Table,
-    gather_source: &Table,
-    gather_target: &Table,
-    propagate_block: &Table,
-    propagate_below: &Table,
-    propagate_target: &Table,
+    sb: &Table,
+    ss: &Table,
+    st: &Table,
+    gb: &Table,
+    gs: &Table,
+    gt: &Table,
+    pb: &Table,
+    pl: &Table,
+    pt: &Table,
 ) -> Mask
     requires { ⌜ depth ≤ 8 ⌝ }
-    ensures { λ r. ⌜ Passes 8 (now («scatter_block» .entry)) (now («scatter_source» .entry)) (now («scatter_target» .entry)) (now («gather_block» .entry)) (now («gather_source» .entry)) (now («gather_target» .entry)) (now («propagate_block» .entry)) (now («propagate_below» .entry)) (now («propagate_target» .entry)) depth (live .words) (r .words) ⌝ }
+    ensures { λ r. ⌜ Passes 8 (now (sb .entry)) (now (ss .entry)) (now (st .entry)) (now (gb .entry)) (now (gs .entry)) (now (gt .entry)) (now (pb .entry)) (now (pl .entry)) (now (pt .entry)) depth (live .words) (r .words) ⌝ }
 {
-    let up = rise(
-        live,
-        depth,
-        8,
-        gather_block,
-        gather_source,
-        gather_target,
-        propagate_block,
-        propagate_below,
-        propagate_target,
-    );
-    fall(
-        up,
-        depth,
-        8,
-        scatter_block,
-        scatter_source,
-        scatter_target,
-        propagate_block,
-        propagate_below,
-        propagate_target,
-    )
+    let up = rise(live, depth, 8, gb, gs, gt, pb, pl, pt);
+    fall(up, depth, 8, sb, ss, st, pb, pl, pt)
 }
 
 // The same with n words.
@@ -297,122 +158,38 @@ pub fn pass_by(
     live: Mask,
     n: usize,
     depth: usize,
-    scatter_block: &Table,
-    scatter_source: &Table,
-    scatter_target: &Table,
-    gather_block: &Table,
-    gather_source: &Table,
-    gather_target: &Table,
-    propagate_block: &Table,
-    propagate_below: &Table,
-    propagate_target: &Table,
+    sb: &Table,
+    ss: &Table,
+    st: &Table,
+    gb: &Table,
+    gs: &Table,
+    gt: &Table,
+    pb: &Table,
+    pl: &Table,
+    pt: &Table,
 ) -> Mask
     requires { ⌜ (2 ≤ n) × (n ≤ 8) × (depth ≤ 8) ⌝ }
-    ensures { λ r. ⌜ Passes n (now («scatter_block» .entry)) (now («scatter_source» .entry)) (now («scatter_target» .entry)) (now («gather_block» .entry)) (now («gather_source» .entry)) (now («gather_target» .entry)) (now («propagate_block» .entry)) (now («propagate_below» .entry)) (now («propagate_target» .entry)) depth (live .words) (r .words) ⌝ }
+    ensures { λ r. ⌜ Passes n (now (sb .entry)) (now (ss .entry)) (now (st .entry)) (now (gb .entry)) (now (gs .entry)) (now (gt .entry)) (now (pb .entry)) (now (pl .entry)) (now (pt .entry)) depth (live .words) (r .words) ⌝ }
 {
     if n <= 4 {
         if n <= 2 {
-            return pass_2(
-                live,
-                depth,
-                scatter_block,
-                scatter_source,
-                scatter_target,
-                gather_block,
-                gather_source,
-                gather_target,
-                propagate_block,
-                propagate_below,
-                propagate_target,
-            );
+            return pass_2(live, depth, sb, ss, st, gb, gs, gt, pb, pl, pt);
         }
         if n == 3 {
-            return pass_3(
-                live,
-                depth,
-                scatter_block,
-                scatter_source,
-                scatter_target,
-                gather_block,
-                gather_source,
-                gather_target,
-                propagate_block,
-                propagate_below,
-                propagate_target,
-            );
+            return pass_3(live, depth, sb, ss, st, gb, gs, gt, pb, pl, pt);
         }
-        return pass_4(
-            live,
-            depth,
-            scatter_block,
-            scatter_source,
-            scatter_target,
-            gather_block,
-            gather_source,
-            gather_target,
-            propagate_block,
-            propagate_below,
-            propagate_target,
-        );
+        return pass_4(live, depth, sb, ss, st, gb, gs, gt, pb, pl, pt);
     }
     if n <= 6 {
         if n == 5 {
-            return pass_5(
-                live,
-                depth,
-                scatter_block,
-                scatter_source,
-                scatter_target,
-                gather_block,
-                gather_source,
-                gather_target,
-                propagate_block,
-                propagate_below,
-                propagate_target,
-            );
+            return pass_5(live, depth, sb, ss, st, gb, gs, gt, pb, pl, pt);
         }
-        return pass_6(
-            live,
-            depth,
-            scatter_block,
-            scatter_source,
-            scatter_target,
-            gather_block,
-            gather_source,
-            gather_target,
-            propagate_block,
-            propagate_below,
-            propagate_target,
-        );
+        return pass_6(live, depth, sb, ss, st, gb, gs, gt, pb, pl, pt);
     }
     if n == 7 {
-        return pass_7(
-            live,
-            depth,
-            scatter_block,
-            scatter_source,
-            scatter_target,
-            gather_block,
-            gather_source,
-            gather_target,
-            propagate_block,
-            propagate_below,
-            propagate_target,
-        );
+        return pass_7(live, depth, sb, ss, st, gb, gs, gt, pb, pl, pt);
     }
-    pass_8(
-        live,
-        depth,
-        scatter_block,
-        scatter_source,
-        scatter_target,
-        gather_block,
-        gather_source,
-        gather_target,
-        propagate_block,
-        propagate_below,
-        propagate_target,
-    )
+    pass_8(live, depth, sb, ss, st, gb, gs, gt, pb, pl, pt)
 }
 
 // The live states moved by a byte, with n words.

@@ -59,7 +59,7 @@ fn scan(
     total as u64
 }
 
-// The loop for depth 0; for depth 1 with and without chains; for depth 2 with chains.
+// The loop for depths 0 and 1 with and without chains; for depth 2 with chains.
 fn scan_0(
     image: &[u64],
     text: &[u8],
@@ -81,6 +81,34 @@ fn scan_0(
         last,
         0,
         true,
+        block,
+        below,
+        target,
+        table,
+    )
+}
+
+fn scan_0_plain(
+    image: &[u64],
+    text: &[u8],
+    places: &mut [u32],
+    last: usize,
+    block: u64,
+    below: u64,
+    target: u64,
+    table: &[u64; 81],
+) -> u64
+    requires { ⌜ (518 ≤ length (now image)) × (length (now text) ≤ 65535) × (last < 64) ⌝ }
+    ensures { λ r. ⌜ Written (endsWith (tableMasks (now (image .entry)) false block below target (now (table .entry))) 0 last (now (text .entry)))
+        (now (places .entry)) r (now (places .exit)) ⌝ }
+{
+    scan(
+        image,
+        text,
+        places,
+        last,
+        0,
+        false,
         block,
         below,
         target,
@@ -189,7 +217,10 @@ fn choose(
     let below = table[7];
     let target = table[8];
     if depth == 0 {
-        return scan_0(image, text, places, last, block, below, target, table);
+        if any {
+            return scan_0(image, text, places, last, block, below, target, table);
+        }
+        return scan_0_plain(image, text, places, last, block, below, target, table);
     }
     if depth == 1 {
         if any {

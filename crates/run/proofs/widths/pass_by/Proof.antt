@@ -15,7 +15,7 @@ returns c =
     let s = c .before .before .before in
     let a = s .args in
     let e : 2 ≡ a .n = omega arith in
-    subst (λ (m : ℕ). Passes m (a .scatter-block .now) (a .scatter-source .now) (a .scatter-target .now) (a .gather-block .now) (a .gather-source .now) (a .gather-target .now) (a .propagate-block .now) (a .propagate-below .now) (a .propagate-target .now) (a .depth) (a .live .words) (c .pass-2 .result .words)) e (c .pass-2 .ensures)
+    subst (λ (m : ℕ). Passes m (a .sb .now) (a .ss .now) (a .st .now) (a .gb .now) (a .gs .now) (a .gt .now) (a .pb .now) (a .pl .now) (a .pt .now) (a .depth) (a .live .words) (c .pass-2 .result .words)) e (c .pass-2 .ensures)
 
 pass-3-requires : tie.Need-pass-3-requires
 pass-3-requires c κs = search needs
@@ -25,7 +25,7 @@ returns-2 c =
     let s = c .before .before .before .before in
     let a = s .args in
     let e : 3 ≡ a .n = omega arith in
-    subst (λ (m : ℕ). Passes m (a .scatter-block .now) (a .scatter-source .now) (a .scatter-target .now) (a .gather-block .now) (a .gather-source .now) (a .gather-target .now) (a .propagate-block .now) (a .propagate-below .now) (a .propagate-target .now) (a .depth) (a .live .words) (c .pass-3 .result .words)) e (c .pass-3 .ensures)
+    subst (λ (m : ℕ). Passes m (a .sb .now) (a .ss .now) (a .st .now) (a .gb .now) (a .gs .now) (a .gt .now) (a .pb .now) (a .pl .now) (a .pt .now) (a .depth) (a .live .words) (c .pass-3 .result .words)) e (c .pass-3 .ensures)
 
 pass-4-requires : tie.Need-pass-4-requires
 pass-4-requires c κs = search needs
@@ -35,7 +35,7 @@ returns-3 c =
     let s = c .before .before .before .before in
     let a = s .args in
     let e : 4 ≡ a .n = omega arith in
-    subst (λ (m : ℕ). Passes m (a .scatter-block .now) (a .scatter-source .now) (a .scatter-target .now) (a .gather-block .now) (a .gather-source .now) (a .gather-target .now) (a .propagate-block .now) (a .propagate-below .now) (a .propagate-target .now) (a .depth) (a .live .words) (c .pass-4 .result .words)) e (c .pass-4 .ensures)
+    subst (λ (m : ℕ). Passes m (a .sb .now) (a .ss .now) (a .st .now) (a .gb .now) (a .gs .now) (a .gt .now) (a .pb .now) (a .pl .now) (a .pt .now) (a .depth) (a .live .words) (c .pass-4 .result .words)) e (c .pass-4 .ensures)
 
 pass-5-requires : tie.Need-pass-5-requires
 pass-5-requires c κs = search needs
@@ -45,7 +45,7 @@ returns-4 c =
     let s = c .before .before .before .before in
     let a = s .args in
     let e : 5 ≡ a .n = omega arith in
-    subst (λ (m : ℕ). Passes m (a .scatter-block .now) (a .scatter-source .now) (a .scatter-target .now) (a .gather-block .now) (a .gather-source .now) (a .gather-target .now) (a .propagate-block .now) (a .propagate-below .now) (a .propagate-target .now) (a .depth) (a .live .words) (c .pass-5 .result .words)) e (c .pass-5 .ensures)
+    subst (λ (m : ℕ). Passes m (a .sb .now) (a .ss .now) (a .st .now) (a .gb .now) (a .gs .now) (a .gt .now) (a .pb .now) (a .pl .now) (a .pt .now) (a .depth) (a .live .words) (c .pass-5 .result .words)) e (c .pass-5 .ensures)
 
 pass-6-requires : tie.Need-pass-6-requires
 pass-6-requires c κs = search needs
@@ -55,7 +55,7 @@ returns-5 c =
     let s = c .before .before .before .before in
     let a = s .args in
     let e : 6 ≡ a .n = omega arith in
-    subst (λ (m : ℕ). Passes m (a .scatter-block .now) (a .scatter-source .now) (a .scatter-target .now) (a .gather-block .now) (a .gather-source .now) (a .gather-target .now) (a .propagate-block .now) (a .propagate-below .now) (a .propagate-target .now) (a .depth) (a .live .words) (c .pass-6 .result .words)) e (c .pass-6 .ensures)
+    subst (λ (m : ℕ). Passes m (a .sb .now) (a .ss .now) (a .st .now) (a .gb .now) (a .gs .now) (a .gt .now) (a .pb .now) (a .pl .now) (a .pt .now) (a .depth) (a .live .words) (c .pass-6 .result .words)) e (c .pass-6 .ensures)
 
 pass-7-requires : tie.Need-pass-7-requires
 pass-7-requires c κs = search needs
@@ -65,7 +65,7 @@ returns-6 c =
     let s = c .before .before .before .before in
     let a = s .args in
     let e : 7 ≡ a .n = omega arith in
-    subst (λ (m : ℕ). Passes m (a .scatter-block .now) (a .scatter-source .now) (a .scatter-target .now) (a .gather-block .now) (a .gather-source .now) (a .gather-target .now) (a .propagate-block .now) (a .propagate-below .now) (a .propagate-target .now) (a .depth) (a .live .words) (c .pass-7 .result .words)) e (c .pass-7 .ensures)
+    subst (λ (m : ℕ). Passes m (a .sb .now) (a .ss .now) (a .st .now) (a .gb .now) (a .gs .now) (a .gt .now) (a .pb .now) (a .pl .now) (a .pt .now) (a .depth) (a .live .words) (c .pass-7 .result .words)) e (c .pass-7 .ensures)
 
 pass-8-requires : tie.Need-pass-8-requires
 pass-8-requires c κs = search needs
@@ -75,7 +75,7 @@ returns-7 c =
     let s = c .before .before .before .before in
     let a = s .args in
     let e : 8 ≡ a .n = omega arith in
-    subst (λ (m : ℕ). Passes m (a .scatter-block .now) (a .scatter-source .now) (a .scatter-target .now) (a .gather-block .now) (a .gather-source .now) (a .gather-target .now) (a .propagate-block .now) (a .propagate-below .now) (a .propagate-target .now) (a .depth) (a .live .words) (c .pass-8 .result .words)) e (c .pass-8 .ensures)
+    subst (λ (m : ℕ). Passes m (a .sb .now) (a .ss .now) (a .st .now) (a .gb .now) (a .gs .now) (a .gt .now) (a .pb .now) (a .pl .now) (a .pt .now) (a .depth) (a .live .words) (c .pass-8 .result .words)) e (c .pass-8 .ensures)
 
 pub pass-by-spec : {M : Type 1} → statement M
 pass-by-spec =

@@ -25,26 +25,26 @@ same-length c = search needs
 
 returns : tie.Need-returns
 returns c =
-    let s = c .before .before .before .before .before .before .before .before .before .before .before in
-    let w = c .before .before .before .before .before .before .before .before .before .before .shared-slice-known .given in
-    let t = c .before .before .before .before .before .before .before .before .before .shared-slice-known2 .given in
-    chosen (s .pre) (λ i. w i .fits) (all-bytes (s .args .text .now) (λ i. omega (arith, t i))) (true) (λ e. absurd (never e)) 0 (c .before .before .before .before .if1 .taken) (c .before .before .scan-0 .ensures)
+    let s = c .before .before .before .before .before .before .before .before .before .before .before .before in
+    let w = c .before .before .before .before .before .before .before .before .before .before .before .shared-slice-known .given in
+    let t = c .before .before .before .before .before .before .before .before .before .before .shared-slice-known2 .given in
+    chosen (s .pre) (λ i. w i .fits) (all-bytes (s .args .text .now) (λ i. omega (arith, t i))) (true) (λ e. absurd (never e)) 0 (c .before .before .before .before .before .if1 .taken) (c .before .before .scan-0 .ensures)
 
-scan-1-requires : tie.Need-scan-1-requires
-scan-1-requires c κs = search needs
+scan-0-plain-requires : tie.Need-scan-0-plain-requires
+scan-0-plain-requires c κs = search needs
 
 same-length-2 : tie.Need-same-length-2
 same-length-2 c = search needs
 
 returns-2 : tie.Need-returns-2
 returns-2 c =
-    let s = c .before .before .before .before .before .before .before .before .before .before .before .before .before in
-    let w = c .before .before .before .before .before .before .before .before .before .before .before .before .shared-slice-known .given in
-    let t = c .before .before .before .before .before .before .before .before .before .before .before .shared-slice-known2 .given in
-    chosen (s .pre) (λ i. w i .fits) (all-bytes (s .args .text .now) (λ i. omega (arith, t i))) (true) (λ e. absurd (never e)) 1 (c .before .before .before .before .before .if2 .taken) (c .before .before .scan-1 .ensures)
+    let s = c .before .before .before .before .before .before .before .before .before .before .before .before in
+    let w = c .before .before .before .before .before .before .before .before .before .before .before .shared-slice-known .given in
+    let t = c .before .before .before .before .before .before .before .before .before .before .shared-slice-known2 .given in
+    chosen (s .pre) (λ i. w i .fits) (all-bytes (s .args .text .now) (λ i. omega (arith, t i))) (false) (λ e. s .pre .none (c .before .before .before .before .if2 .left)) 0 (c .before .before .before .before .before .if1 .taken) (c .before .before .scan-0-plain .ensures)
 
-scan-1-plain-requires : tie.Need-scan-1-plain-requires
-scan-1-plain-requires c κs = search needs
+scan-1-requires : tie.Need-scan-1-requires
+scan-1-requires c κs = search needs
 
 same-length-3 : tie.Need-same-length-3
 same-length-3 c = search needs
@@ -54,10 +54,10 @@ returns-3 c =
     let s = c .before .before .before .before .before .before .before .before .before .before .before .before .before in
     let w = c .before .before .before .before .before .before .before .before .before .before .before .before .shared-slice-known .given in
     let t = c .before .before .before .before .before .before .before .before .before .before .before .shared-slice-known2 .given in
-    chosen (s .pre) (λ i. w i .fits) (all-bytes (s .args .text .now) (λ i. omega (arith, t i))) (false) (λ e. s .pre .none (c .before .before .before .before .if3 .left)) 1 (c .before .before .before .before .before .if2 .taken) (c .before .before .scan-1-plain .ensures)
+    chosen (s .pre) (λ i. w i .fits) (all-bytes (s .args .text .now) (λ i. omega (arith, t i))) (true) (λ e. absurd (never e)) 1 (c .before .before .before .before .before .if3 .taken) (c .before .before .scan-1 .ensures)
 
-scan-2-requires : tie.Need-scan-2-requires
-scan-2-requires c κs = search needs
+scan-1-plain-requires : tie.Need-scan-1-plain-requires
+scan-1-plain-requires c κs = search needs
 
 same-length-4 : tie.Need-same-length-4
 same-length-4 c = search needs
@@ -67,16 +67,29 @@ returns-4 c =
     let s = c .before .before .before .before .before .before .before .before .before .before .before .before .before in
     let w = c .before .before .before .before .before .before .before .before .before .before .before .before .shared-slice-known .given in
     let t = c .before .before .before .before .before .before .before .before .before .before .before .shared-slice-known2 .given in
-    chosen (s .pre) (λ i. w i .fits) (all-bytes (s .args .text .now) (λ i. omega (arith, t i))) (true) (λ e. absurd (never e)) 2 (c .before .before .before .before .if4 .taken) (c .before .before .scan-2 .ensures)
+    chosen (s .pre) (λ i. w i .fits) (all-bytes (s .args .text .now) (λ i. omega (arith, t i))) (false) (λ e. s .pre .none (c .before .before .before .before .if4 .left)) 1 (c .before .before .before .before .before .if3 .taken) (c .before .before .scan-1-plain .ensures)
 
-scan-requires : tie.Need-scan-requires
-scan-requires c κs = search needs
+scan-2-requires : tie.Need-scan-2-requires
+scan-2-requires c κs = search needs
 
 same-length-5 : tie.Need-same-length-5
 same-length-5 c = search needs
 
 returns-5 : tie.Need-returns-5
 returns-5 c =
+    let s = c .before .before .before .before .before .before .before .before .before .before .before .before .before in
+    let w = c .before .before .before .before .before .before .before .before .before .before .before .before .shared-slice-known .given in
+    let t = c .before .before .before .before .before .before .before .before .before .before .before .shared-slice-known2 .given in
+    chosen (s .pre) (λ i. w i .fits) (all-bytes (s .args .text .now) (λ i. omega (arith, t i))) (true) (λ e. absurd (never e)) 2 (c .before .before .before .before .if5 .taken) (c .before .before .scan-2 .ensures)
+
+scan-requires : tie.Need-scan-requires
+scan-requires c κs = search needs
+
+same-length-6 : tie.Need-same-length-6
+same-length-6 c = search needs
+
+returns-6 : tie.Need-returns-6
+returns-6 c =
     let s = c .before .before .before .before .before .before .before .before .before .before .before .before .before in
     let w = c .before .before .before .before .before .before .before .before .before .before .before .before .shared-slice-known .given in
     let t = c .before .before .before .before .before .before .before .before .before .before .before .shared-slice-known2 .given in
@@ -92,15 +105,18 @@ choose-spec =
     scan-0-requires
     same-length
     returns
-    scan-1-requires
+    scan-0-plain-requires
     same-length-2
     returns-2
-    scan-1-plain-requires
+    scan-1-requires
     same-length-3
     returns-3
-    scan-2-requires
+    scan-1-plain-requires
     same-length-4
     returns-4
-    scan-requires
+    scan-2-requires
     same-length-5
-    returns-5)
+    returns-5
+    scan-requires
+    same-length-6
+    returns-6)

@@ -7,12 +7,12 @@ use native.Mathlib.Omega.{arith}
 use lib.Bits.{bitAnd}
 use lib.ListN.{drop, getD, length, length-drop, set, take}
 use lib.Seq.{drop-append-add, getD-drop, getD-set-other, getD-take, length-take-le, sets, take-set-le}
-use Rattle.mask.proofs.Laws.Each.{each-word}
 use Rattle.model.specs.Image.{join, section}
 use Rattle.model.specs.Models.Words.{andWords}
 use Rattle.model.proofs.Image.Address.{part-of-part}
 use Rattle.model.proofs.Image.Rows.{chunk-join, join-same}
 use Rattle.model.proofs.Words.Operations.{each-length}
+use Rattle.tape.proofs.Joins.{each-at}
 use Rattle.image.specs.Work.{bothPart, bothRow, letterRow, lettersPart, repeatRow, repeatsPart}
 use Rattle.image.proofs.Laws.Lengths.{letter-long, letters-long}
 use Rattle.image.proofs.Laws.Parts.{length-section}
@@ -46,7 +46,7 @@ module _ (W : ℕ) (words : List ℕ) (from : ℕ) (loops : List ℕ) (narrow : 
   pub both-word : (j : ℕ) → j < W → bitAnd (getD words (from + j) 0) (getD loops j 0) ≡ getD (bothRow W words from loops) j 0
   both-word j h =
       ap₂ bitAnd (sym (getD-take W (drop from words) j 0 h ∙ getD-drop from words j 0)) (sym (getD-take W loops j 0 h))
-      ∙ sym (each-word bitAnd (take W (drop from words)) (take W loops) j (omega (arith, first-long)) (omega (arith, second-long)))
+      ∙ each-at bitAnd (take W (drop from words)) (take W loops) j (first-long ∙ sym second-long) (omega (arith, first-long))
 
 pub both-kept : (W : ℕ) (l : List ℕ) (i : ℕ) (vs : List ℕ) (from : ℕ) (loops : List ℕ) → from + W ≤ i
     → bothRow W (sets l i vs) from loops ≡ bothRow W l from loops

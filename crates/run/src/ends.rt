@@ -131,8 +131,8 @@ fn find_in(image: &[u64], text: &[u8], places: &mut [u32]) -> u64
     )
 }
 
-// The ends of a text: the total, and the first that fit in what is lent, rising. A rule of at most 64 states runs on plain words. Words without a shape and texts of more than 65,535 bytes give 0
-// and change nothing.
+// The ends of a text: the total, and the first that fit in what is lent, rising. A rule of at most 64 states runs on plain words. Words without a
+// shape and texts of more than 65,535 bytes give 0 and change nothing.
 pub fn find(image: &[u64], text: &[u8], places: &mut [u32]) -> u64
     ensures computed { λ r. ⌜ Written (endsFound (now (image .entry)) (now (text .entry))) (now (places .entry)) r (now (places .exit)) ⌝ }
     ensures ends { λ r. ⌜ FindSays (now (image .entry)) (now (text .entry)) (now (places .entry)) r (now (places .exit)) ⌝ }

@@ -7,7 +7,7 @@ use Prim.Native.Nat.{ℕ, suc, _+_, _-_, _≤_, _<_}
 use native.Mathlib.Nat.{add-zero, le-refl}
 use native.Mathlib.Omega.{arith}
 use lib.Dec.{T, leb}
-use lib.ListN.{getD, length, take}
+use lib.ListN.{length, take}
 use lib.Seq.{sets}
 use Rattle.model.specs.Answers.{ImageOf}
 use Rattle.model.specs.Bits.{bit}

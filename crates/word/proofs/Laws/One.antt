@@ -5,9 +5,9 @@ use mathlib.Core.Logic.{_⊎_, inl, inr, _≢_}
 use mathlib.Core.Bool.{Bool, true, false, _&&_, and-false, cond}
 use mathlib.Core.List.{List, [], _∷_}
 use Prim.Native.Nat.{ℕ, zero, suc, _+_, _-_, _*_, _/_, _%_, _^_, _≤_, _<_}
-use native.Mathlib.Nat.{eq-or-lt-of-le, le-of-suc-le-suc}
+use native.Mathlib.Nat.{eq-or-lt-of-le}
 use native.Mathlib.Omega.{arith}
-use lib.Dec.{eqb, eqb-refl, leb, ltb, lt→ltb, ltb→lt}
+use lib.Dec.{eqb, leb, ltb, lt→ltb, ltb→lt}
 use lib.ListN.{getD, length, set, take}
 use lib.Seq.{getD-set-other, getD-set-same}
 use Rattle.model.specs.Image.{width}
@@ -17,7 +17,7 @@ use Rattle.model.specs.Models.Words.{wrapAdd, wrapSub}
 use Rattle.model.proofs.Laws.Bool.{is-not, is-true, le-false, le-true, unequal}
 use Rattle.model.proofs.Words.Run.{Bytes}
 use Rattle.word.specs.Ends.{endsWith, Written}
-use Rattle.word.specs.One.{chain, Chosen, endsOfOne, Entered, entryAt, NoChain, oneMasks, tableMasks, three, wordAt}
+use Rattle.word.specs.One.{chain, Chosen, endsOfOne, Entered, entryAt, NoChain, oneMasks, tableMasks, wordAt}
 use Rattle.word.specs.Shape.{shaped}
 use Rattle.word.proofs.Laws.Cut.{Cut, ends-cut}
 use Rattle.word.proofs.Laws.Shape.{Shape}

@@ -1,9 +1,9 @@
 -- `scan`: at each turn what was noted and what comes after is the whole list of ends (`Noted`); each loop goes on from where it begins (`Since`).
 use mathlib.Core.Path.{_≡_, refl, ap, _∙_}
 use mathlib.Core.List.{List, []}
-use Prim.Native.Nat.{ℕ, _+_, _-_, _≤_, _<_}
+use Prim.Native.Nat.{ℕ, _+_, _-_}
 use native.Mathlib.Omega.{arith}
-use lib.ListN.{getD, length, take}
+use lib.ListN.{length, take}
 use lib.Seq.{sets}
 use Rattle.model.specs.Models.Run.{passWords}
 use Rattle.word.specs.Ends.{endsFrom, endsWith}

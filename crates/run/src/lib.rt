@@ -6,4 +6,5 @@ pub mod passes;
 mod rows;
 mod shape;
 mod steps;
+mod table;
 mod widths;

@@ -1,12 +1,9 @@
 // The live states: before any byte, and after a byte from any states that are live.
-use crate::rows::gather_table;
-use crate::rows::less_ones;
-use crate::rows::propagate_table;
-use crate::rows::scatter_table;
 use crate::rows::start;
 use crate::shape::width;
 use crate::steps::moved;
-use crate::widths::pass_8;
+use crate::steps::pass;
+use crate::table::table;
 use mask::Mask;
 use word::shape::depth;
 use word::shape::has_shape;
@@ -19,34 +16,14 @@ ghost use Rattle.run.specs.Says.{BeginSays, StepSays};
 ghost use Rattle.word.specs.Shape.{shaped};
 ghost use Rattle.run.specs.Work.{beginWords, masksOf, nextWords};
 
-// Up and down with the tables of the image, on all eight words.
+// Up and down with the table of the image, on all eight words.
 fn pass_of(image: &[u64], live: Mask) -> Mask
     requires { ⌜ shaped (now image) ≡ true ⌝ }
     ensures { λ r. ⌜ take 8 (r .words) ≡ take 8 (passWords (masksOf (now (image .entry))) (depthWord (now (image .entry))) (live .words)) ⌝ }
 {
     let deep = depth(image);
-    let scatter_block = scatter_table(image, 0);
-    let scatter_source = scatter_table(image, 1);
-    let scatter_target = scatter_table(image, 2);
-    let gather_block = gather_table(image, 0);
-    let gather_source = gather_table(image, 1);
-    let gather_target = gather_table(image, 2);
-    let propagate_block = propagate_table(image, 0);
-    let propagate_below = less_ones(propagate_table(image, 1));
-    let propagate_target = propagate_table(image, 2);
-    pass_8(
-        live,
-        deep,
-        &scatter_block,
-        &scatter_source,
-        &scatter_target,
-        &gather_block,
-        &gather_source,
-        &gather_target,
-        &propagate_block,
-        &propagate_below,
-        &propagate_target,
-    )
+    let masks = table(image, width(image), deep);
+    pass(live, deep, 8, &masks)
 }
 
 // "The live states before any byte"; none where the words have no shape.

@@ -1,4 +1,4 @@
-// The passes with the tables of work lent: up through the depths with propagate and gather, then down with scatter and propagate, each depth once.
+// The passes with the table of work lent: up through the depths with propagate and gather, then down with scatter and propagate, each depth once.
 // Only the first n words of a mask count.
 use crate::passes::advance;
 use crate::passes::gather;
@@ -6,136 +6,106 @@ use crate::passes::propagate;
 use crate::passes::scatter;
 use crate::rows::row_at;
 use crate::rows::start;
+use crate::table::Table;
 use mask::Mask;
 ghost use mathlib.Core.Bool.{true};
 ghost use mathlib.Core.List.{[]};
 ghost use mathlib.Core.Path.{_≡_};
-ghost use Prim.Native.Nat.{_+_, _*_, _≤_, _<_};
+ghost use Prim.Native.Nat.{_+_, _*_, _≤_};
 ghost use lib.ListN.{getD, length, take};
-ghost use Rattle.model.specs.Models.Run.{fallWords, gatherWords, moveWords, propagateWords, riseWords, scatterWords};
-ghost use Rattle.run.specs.Work.{cutMasks, fallMasks, plusWords, riseMasks, rowAt, startWords};
+ghost use Rattle.model.specs.Models.Run.{fallWords, gatherWords, moveWords, passWords, propagateWords, riseWords, scatterWords};
+ghost use Rattle.run.specs.Work.{passMasks, plusWords, rowAt, startWords};
 
-// The masks of one kind, block, source or target, for depths 0 to 8.
-pub type Table = [[u64; 8]; 9];
-
-// Scatter, gather and propagate with the masks of depth k.
-fn scatter_at(live: Mask, k: usize, n: usize, block: &Table, source: &Table, target: &Table) -> Mask
-    requires { ⌜ k < 9 ⌝ }
-    ensures { λ r. ⌜ take n (r .words) ≡ scatterWords (take n (getD (now (block .entry)) k [])) (take n (getD (now (source .entry)) k []))
-        (take n (getD (now (target .entry)) k [])) (take n (live .words)) ⌝ }
+// Scatter, gather and propagate with the nine masks of depth k.
+fn scatter_at(live: Mask, k: usize, n: usize, table: &Table) -> Mask
+    requires { ⌜ k ≤ 8 ⌝ }
+    ensures { λ r. ⌜ take n (r .words) ≡ scatterWords (take n (getD (now (table .entry)) (9 * k) [])) (take n (getD (now (table .entry)) (9 * k + 1) []))
+        (take n (getD (now (table .entry)) (9 * k + 2) [])) (take n (live .words)) ⌝ }
 {
-    let b = block[k];
-    let s = source[k];
-    let t = target[k];
+    let block = table[9 * k];
+    let source = table[9 * k + 1];
+    let target = table[9 * k + 2];
     scatter(
         live,
-        Mask { words: b },
-        Mask { words: s },
-        Mask { words: t },
+        Mask { words: block },
+        Mask { words: source },
+        Mask { words: target },
         n,
     )
 }
 
-fn gather_at(live: Mask, k: usize, n: usize, block: &Table, source: &Table, target: &Table) -> Mask
-    requires { ⌜ k < 9 ⌝ }
-    ensures { λ r. ⌜ take n (r .words) ≡ gatherWords (take n (getD (now (block .entry)) k [])) (take n (getD (now (source .entry)) k []))
-        (take n (getD (now (target .entry)) k [])) (take n (live .words)) ⌝ }
+fn gather_at(live: Mask, k: usize, n: usize, table: &Table) -> Mask
+    requires { ⌜ k ≤ 8 ⌝ }
+    ensures { λ r. ⌜ take n (r .words) ≡ gatherWords (take n (getD (now (table .entry)) (9 * k + 3) [])) (take n (getD (now (table .entry)) (9 * k + 4) []))
+        (take n (getD (now (table .entry)) (9 * k + 5) [])) (take n (live .words)) ⌝ }
 {
-    let b = block[k];
-    let s = source[k];
-    let t = target[k];
+    let block = table[9 * k + 3];
+    let source = table[9 * k + 4];
+    let target = table[9 * k + 5];
     gather(
         live,
-        Mask { words: b },
-        Mask { words: s },
-        Mask { words: t },
+        Mask { words: block },
+        Mask { words: source },
+        Mask { words: target },
         n,
     )
 }
 
-fn propagate_at(
-    live: Mask,
-    k: usize,
-    n: usize,
-    block: &Table,
-    below: &Table,
-    target: &Table,
-) -> Mask
-    requires { ⌜ k < 9 ⌝ }
-    ensures { λ r. ⌜ take n (r .words) ≡ propagateWords (take n (getD (now (block .entry)) k [])) (take n (plusWords (getD (now (below .entry)) k []) true))
-        (take n (getD (now (target .entry)) k [])) (take n (live .words)) ⌝ }
+fn propagate_at(live: Mask, k: usize, n: usize, table: &Table) -> Mask
+    requires { ⌜ k ≤ 8 ⌝ }
+    ensures { λ r. ⌜ take n (r .words) ≡ propagateWords (take n (getD (now (table .entry)) (9 * k + 6) [])) (take n (plusWords (getD (now (table .entry)) (9 * k + 7) []) true))
+        (take n (getD (now (table .entry)) (9 * k + 8) [])) (take n (live .words)) ⌝ }
 {
-    let b = block[k];
-    let s = below[k];
-    let t = target[k];
+    let block = table[9 * k + 6];
+    let below = table[9 * k + 7];
+    let target = table[9 * k + 8];
     propagate(
         live,
-        Mask { words: b },
-        Mask { words: s },
-        Mask { words: t },
+        Mask { words: block },
+        Mask { words: below },
+        Mask { words: target },
         n,
     )
 }
 
 // Up from the deepest alternatives to the rule's own sequence: along a depth's chains before its ends go up one depth.
-pub fn rise(
-    live: Mask,
-    depth: usize,
-    n: usize,
-    gather_block: &Table,
-    gather_source: &Table,
-    gather_target: &Table,
-    propagate_block: &Table,
-    propagate_below: &Table,
-    propagate_target: &Table,
-) -> Mask
+pub fn rise(live: Mask, depth: usize, n: usize, table: &Table) -> Mask
     requires { ⌜ depth ≤ 8 ⌝ }
-    ensures { λ r. ⌜ take n (r .words) ≡ riseWords (cutMasks n (riseMasks (now («gather_block» .entry)) (now («gather_source» .entry)) (now («gather_target» .entry))
-        (now («propagate_block» .entry)) (now («propagate_below» .entry)) (now («propagate_target» .entry)))) depth (take n (live .words)) ⌝ }
+    ensures { λ r. ⌜ take n (r .words) ≡ riseWords (passMasks n (now (table .entry))) depth (take n (live .words)) ⌝ }
 {
     let mut r = live;
     let mut k = depth;
     while k > 0 {
-        let along = propagate_at(r, k, n, propagate_block, propagate_below, propagate_target);
+        let along = propagate_at(r, k, n, table);
+        r = gather_at(along, k, n, table);
         k -= 1;
-        // k % 16 is k, and keeps the compiler from stepping six addresses down through the loop
-        r = gather_at(along, k % 16, n, gather_block, gather_source, gather_target);
     }
-    propagate_at(r, 0, n, propagate_block, propagate_below, propagate_target)
+    propagate_at(r, 0, n, table)
 }
 
 // Down again, rising from depth 1 to d: inner alternatives start only once the outer ones have.
-pub fn fall(
-    live: Mask,
-    depth: usize,
-    n: usize,
-    scatter_block: &Table,
-    scatter_source: &Table,
-    scatter_target: &Table,
-    propagate_block: &Table,
-    propagate_below: &Table,
-    propagate_target: &Table,
-) -> Mask
+pub fn fall(live: Mask, depth: usize, n: usize, table: &Table) -> Mask
     requires { ⌜ depth ≤ 8 ⌝ }
-    ensures { λ r. ⌜ take n (r .words) ≡ fallWords (cutMasks n (fallMasks (now («scatter_block» .entry)) (now («scatter_source» .entry)) (now («scatter_target» .entry))
-        (now («propagate_block» .entry)) (now («propagate_below» .entry)) (now («propagate_target» .entry)))) depth 0 (take n (live .words)) ⌝ }
+    ensures { λ r. ⌜ take n (r .words) ≡ fallWords (passMasks n (now (table .entry))) depth 0 (take n (live .words)) ⌝ }
 {
     let mut r = live;
     let mut left = depth;
     while left > 0 {
         let k = depth - left;
-        let started = scatter_at(r, k, n, scatter_block, scatter_source, scatter_target);
-        r = propagate_at(
-            started,
-            k + 1,
-            n,
-            propagate_block,
-            propagate_below,
-            propagate_target,
-        );
+        let started = scatter_at(r, k + 1, n, table);
+        r = propagate_at(started, k + 1, n, table);
         left -= 1;
     }
     r
+}
+
+// Up and down: all that the live states reach by edges without a letter.
+pub fn pass(live: Mask, depth: usize, n: usize, table: &Table) -> Mask
+    requires { ⌜ depth ≤ 8 ⌝ }
+    ensures { λ r. ⌜ take n (r .words) ≡ passWords (passMasks n (now (table .entry))) depth (take n (live .words)) ⌝ }
+{
+    let up = rise(live, depth, n, table);
+    fall(up, depth, n, table)
 }
 
 // The live states moved by a byte, and state 0; the byte's masks are read where they lie.

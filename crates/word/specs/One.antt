@@ -33,11 +33,13 @@ endsOfOne ws text =
 
 -- ---- THE MASKS IN WORK: nine words to a depth k. First the scatter and the gather masks of the unions whose alternatives lie at depth k, then the
 -- propagate masks of depth k, the source less one
+abbrev pub ofNine : {A : Type 0} → ℕ → (scatter gather less propagate : A) → A
+ofNine j scatter gather less propagate = cond (ltb j 3) scatter (cond (ltb j 6) gather (cond (eqb j 7) less propagate))
+
 abbrev pub entryAt : List ℕ → (d k j : ℕ) → ℕ
 entryAt ws d k j =
-    cond (ltb j 3) (getD ws (516 + 3 * k + j) 0)
-    (cond (ltb j 6) (getD ws (514 + 3 * d + 3 * k + j) 0)
-    (cond (eqb j 7) (wrapSub (getD ws (515 + 6 * d + 3 * k + j) 0) 1) (getD ws (515 + 6 * d + 3 * k + j) 0)))
+    let high = getD ws (515 + 6 * d + 3 * k + j) 0 in
+    ofNine j (getD ws (516 + 3 * k + j) 0) (getD ws (514 + 3 * d + 3 * k + j) 0) (wrapSub high 1) high
 
 abbrev pub Entered : List ℕ → ℕ → List ℕ → Type 0
 Entered ws d table = (i : ℕ) → i < 9 * (d + 1) → getD table i 0 ≡ entryAt ws d (i / 9) (i % 9)

@@ -7,7 +7,7 @@ use Prim.Native.Nat.{ℕ, zero, suc, _+_, _-_, _*_, _≤_, _<_}
 use native.Mathlib.Nat.{mul-add, not-suc-le-zero}
 use native.Mathlib.Omega.{arith}
 use lib.Dec.{eqb·suc-zero}
-use lib.ListN.{drop, getD, replicate, take}
+use lib.ListN.{drop, replicate, take}
 use Rattle.model.specs.Answers.{ImageOf}
 use Rattle.model.specs.Bits.{bit}
 use Rattle.model.specs.Edges.{depth, states}
@@ -29,8 +29,7 @@ use Rattle.model.proofs.Words.Holds.{Holds, pad-holds}
 use Rattle.model.proofs.Words.ImageRun.{image-carry}
 use Rattle.model.proofs.Words.Run.{Carry}
 use Rattle.word.specs.Shape.{shaped}
-use Rattle.run.specs.Work.{gatherTable, masksOf, propagateTable, rowAt, scatterTable, startWords, tableAt}
-use Rattle.run.proofs.Laws.Rows.{table-row}
+use Rattle.run.specs.Work.{masksOf, rowAt, startWords}
 use Rattle.word.proofs.Laws.Shape.{Shape, shape-is}
 
 -- the mask of state 0: one word, and zeros above
@@ -69,21 +68,18 @@ module _ (t : Tree) where
         subst (λ (n : ℕ). Holds m n (rowAt A at W) f) eight
         (subst (λ (l : List ℕ). Holds m (W + (8 - W)) (l ++ replicate (8 - W) 0) f) e (pad-holds m W (8 - W) xs f H))
 
-    -- row k of a table that begins where the section S does
-    tabled : (S : List ℕ) (at n k j : ℕ) (f : ℕ → Bool) → S ≡ drop at A → k < n → j < 3
-        → Holds m W (chunk W j (chunk (3 * W) k S)) f → Holds m 8 (getD (tableAt A at W n j) k []) f
-    tabled S at n k j f e h l H =
-        subst (λ (r : List ℕ). Holds m 8 r f) (sym (table-row A at W j n k h))
-        (padded (chunk W j (chunk (3 * W) k S)) (at + W * (3 * k + j)) f (three-at W k j at S A l e) H)
+    -- mask j of the three of depth k, of a section S that begins at a place
+    placed : (S : List ℕ) (at k j : ℕ) (f : ℕ → Bool) → S ≡ drop at A → j < 3 → Holds m W (chunk W j (chunk (3 * W) k S)) f → Holds m 8 (rowAt A (at + W * (3 * k + j)) W) f
+    placed S at k j f e l H = padded (chunk W j (chunk (3 * W) k S)) (at + W * (3 * k + j)) f (three-at W k j at S A l e) H
 
-    scattered : (k j : ℕ) (f : ℕ → Bool) → k < d → j < 3 → Holds m W (chunk W j (chunk (3 * W) k (scatterIn A))) f → Holds m 8 (getD (scatterTable A j) k []) f
-    scattered k j f h l = tabled (scatterIn A) (scatterAt W) d k j f (scatter-at A) h l
+    scattered : (k j : ℕ) (f : ℕ → Bool) → j < 3 → Holds m W (chunk W j (chunk (3 * W) k (scatterIn A))) f → Holds m 8 (masksOf A .scatterMask k j) f
+    scattered k j f = placed (scatterIn A) (scatterAt W) k j f (scatter-at A)
 
-    gathered : (k j : ℕ) (f : ℕ → Bool) → k < d → j < 3 → Holds m W (chunk W j (chunk (3 * W) k (gatherIn A))) f → Holds m 8 (getD (gatherTable A j) k []) f
-    gathered k j f h l = tabled (gatherIn A) (gatherAt W d) d k j f (gather-at A) h l
+    gathered : (k j : ℕ) (f : ℕ → Bool) → j < 3 → Holds m W (chunk W j (chunk (3 * W) k (gatherIn A))) f → Holds m 8 (masksOf A .gatherMask k j) f
+    gathered k j f = placed (gatherIn A) (gatherAt W d) k j f (gather-at A)
 
-    propagated : (k j : ℕ) (f : ℕ → Bool) → k ≤ d → j < 3 → Holds m W (chunk W j (chunk (3 * W) k (propagateIn A))) f → Holds m 8 (getD (propagateTable A j) k []) f
-    propagated k j f h l = tabled (propagateIn A) (propagateAt W d) (d + 1) k j f (propagate-at A) (omega arith) l
+    propagated : (k j : ℕ) (f : ℕ → Bool) → j < 3 → Holds m W (chunk W j (chunk (3 * W) k (propagateIn A))) f → Holds m 8 (masksOf A .propagateMask k j) f
+    propagated k j f = placed (propagateIn A) (propagateAt W d) k j f (propagate-at A)
 
     arc-carry : Carry m 8 t (masksOf A)
     arc-carry =
@@ -94,15 +90,15 @@ module _ (t : Tree) where
           loops = λ b l. padded (chunk W b (repeatsIn A)) (6 + W * (256 + b)) (loopSet (arcs t 0 0) b)
               (chunk-at W b (6 + W * 256) (repeatsIn A) A (repeats-at A)
               ∙ ap (λ (n : ℕ). take W (drop n A)) (let e : 6 + W * 256 + W * b ≡ 6 + W * (256 + b) = omega (arith, mul-add W 256 b) in e)) (C .loops b l);
-          scatter-block = λ k l. scattered k 0 _ l (omega arith) (C .scatter-block k l);
-          scatter-source = λ k l. scattered k 1 _ l (omega arith) (C .scatter-source k l);
-          scatter-target = λ k l. scattered k 2 _ l (omega arith) (C .scatter-target k l);
-          gather-block = λ k l. gathered k 0 _ l (omega arith) (C .gather-block k l);
-          gather-source = λ k l. gathered k 1 _ l (omega arith) (C .gather-source k l);
-          gather-target = λ k l. gathered k 2 _ l (omega arith) (C .gather-target k l);
-          propagate-block = λ k l. propagated k 0 _ l (omega arith) (C .propagate-block k l);
-          propagate-source = λ k l. propagated k 1 _ l (omega arith) (C .propagate-source k l);
-          propagate-target = λ k l. propagated k 2 _ l (omega arith) (C .propagate-target k l);
+          scatter-block = λ k l. scattered k 0 _ (omega arith) (C .scatter-block k l);
+          scatter-source = λ k l. scattered k 1 _ (omega arith) (C .scatter-source k l);
+          scatter-target = λ k l. scattered k 2 _ (omega arith) (C .scatter-target k l);
+          gather-block = λ k l. gathered k 0 _ (omega arith) (C .gather-block k l);
+          gather-source = λ k l. gathered k 1 _ (omega arith) (C .gather-source k l);
+          gather-target = λ k l. gathered k 2 _ (omega arith) (C .gather-target k l);
+          propagate-block = λ k l. propagated k 0 _ (omega arith) (C .propagate-block k l);
+          propagate-source = λ k l. propagated k 1 _ (omega arith) (C .propagate-source k l);
+          propagate-target = λ k l. propagated k 2 _ (omega arith) (C .propagate-target k l);
           start = start-holds m (omega arith);
         }
 

@@ -203,12 +203,3 @@ plus-back (x ∷ xs) h X =
 
 pub plus-less : (xs : List ℕ) → length xs ≤ 8 → Fit xs → plusWords (lessOne xs) true ≡ xs
 plus-less xs h X = ap (λ (l : List ℕ). plusWords (subtractWords l startWords false) true) (take-all 8 xs h) ∙ plus-back xs h X
-
--- ---- the rows less one, one more
-pub lessened-more : (source r : List (List ℕ)) (k : ℕ) (v : List ℕ) → k < length r → ((x : ℕ) → x < k → getD r x [] ≡ lessOne (getD source x []))
-    → v ≡ lessOne (getD source k []) → (x : ℕ) → x < k + 1 → getD (set r k v) x [] ≡ lessOne (getD source x [])
-lessened-more source r k v l I e x h = go (eq-or-lt-of-le (let m : x ≤ k = omega arith in m))
-  where
-    go : (x ≡ k) ⊎ (x < k) → getD (set r k v) x [] ≡ lessOne (getD source x [])
-    go (inl q) = ap (λ (y : ℕ). getD (set r k v) y []) q ∙ getD-set-same r k v [] l ∙ e ∙ sym (ap (λ (y : ℕ). lessOne (getD source y [])) q)
-    go (inr q) = getD-set-other r k x v [] (λ y. let z : x ≡ k = y in absurd (omega arith)) ∙ I x q

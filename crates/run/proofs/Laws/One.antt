@@ -14,8 +14,7 @@ use Rattle.word.specs.Shape.{shaped, widthOf}
 use Rattle.word.proofs.Laws.Cut.{Cut, ends-cut}
 use Rattle.word.proofs.Laws.One.{found-one, one-long}
 use Rattle.word.proofs.Laws.Shape.{Shape, shape-of}
-use Rattle.run.specs.Work.{endsFound, masksOf, rowAt, tableAt}
-use Rattle.run.proofs.Laws.Rows.{table-row}
+use Rattle.run.specs.Work.{endsFound, masksOf, rowAt}
 use Rattle.run.proofs.Image.Ends.{found-whole}
 
 module _ (ws : List ℕ) (S : Shape ws) (few : stateWord ws ≤ 64) where
@@ -37,9 +36,6 @@ module _ (ws : List ℕ) (S : Shape ws) (few : stateWord ws ≤ 64) where
       ap (λ (w : ℕ). take 1 (rowAt ws (f w) w)) one ∙ ap (λ (j : ℕ). take 1 (rowAt ws j 1)) e
       ∙ ap (λ (l : List ℕ). take 1 (take 1 l ++ replicate 7 0)) (drop-cons ws i 0 h)
 
-  tabled : (f : ℕ → ℕ) (n k j i : ℕ) → k < n → f 1 + 1 * (3 * k + j) ≡ i → i < length ws → take 1 (getD (tableAt ws (f W) W n j) k []) ≡ wordAt ws i
-  tabled f n k j i h e l = ap (take 1) (table-row ws (f W) W j n k h) ∙ row (λ w. f w + w * (3 * k + j)) i e l
-
   long : length ws ≡ 524 + 9 * d
   long = one-long ws S few
 
@@ -47,29 +43,11 @@ module _ (ws : List ℕ) (S : Shape ws) (few : stateWord ws ≤ 64) where
   mask-cut = record {
     letters = λ b l. row (λ w. 5 + w * b) (5 + b) (omega arith) (omega (arith, long));
     loops = λ b l. row (λ w. 6 + w * (256 + b)) (262 + b) (omega arith) (omega (arith, long));
-    scatters = scatters;
-    gathers = gathers;
-    propagates = propagates;
+    scatters = λ k j h l. row (λ w. scatterAt w + w * (3 * k + j)) (519 + 3 * k + j) (omega arith) (omega (arith, long));
+    gathers = λ k j h l. row (λ w. gatherAt w d + w * (3 * k + j)) (520 + 3 * d + 3 * k + j) (omega arith) (omega (arith, long));
+    propagates = λ k j h l. row (λ w. propagateAt w d + w * (3 * k + j)) (521 + 6 * d + 3 * k + j) (omega arith) (omega (arith, long));
     start = refl;
   }
-    where
-      scatters : (k j : ℕ) → k < d → j < 3 → take 1 (M .scatterMask k j) ≡ oneMasks ws .scatterMask k j
-      scatters k zero h l = tabled scatterAt d k 0 (519 + 3 * k + 0) h (omega arith) (omega (arith, long))
-      scatters k (suc zero) h l = tabled scatterAt d k 1 (519 + 3 * k + 1) h (omega arith) (omega (arith, long))
-      scatters k (suc (suc zero)) h l = tabled scatterAt d k 2 (519 + 3 * k + 2) h (omega arith) (omega (arith, long))
-      scatters k (suc (suc (suc j))) h l = absurd (omega arith)
-
-      gathers : (k j : ℕ) → k < d → j < 3 → take 1 (M .gatherMask k j) ≡ oneMasks ws .gatherMask k j
-      gathers k zero h l = tabled (λ w. gatherAt w d) d k 0 (520 + 3 * d + 3 * k + 0) h (omega arith) (omega (arith, long))
-      gathers k (suc zero) h l = tabled (λ w. gatherAt w d) d k 1 (520 + 3 * d + 3 * k + 1) h (omega arith) (omega (arith, long))
-      gathers k (suc (suc zero)) h l = tabled (λ w. gatherAt w d) d k 2 (520 + 3 * d + 3 * k + 2) h (omega arith) (omega (arith, long))
-      gathers k (suc (suc (suc j))) h l = absurd (omega arith)
-
-      propagates : (k j : ℕ) → k ≤ d → j < 3 → take 1 (M .propagateMask k j) ≡ oneMasks ws .propagateMask k j
-      propagates k zero h l = tabled (λ w. propagateAt w d) (d + 1) k 0 (521 + 6 * d + 3 * k + 0) (omega arith) (omega arith) (omega (arith, long))
-      propagates k (suc zero) h l = tabled (λ w. propagateAt w d) (d + 1) k 1 (521 + 6 * d + 3 * k + 1) (omega arith) (omega arith) (omega (arith, long))
-      propagates k (suc (suc zero)) h l = tabled (λ w. propagateAt w d) (d + 1) k 2 (521 + 6 * d + 3 * k + 2) (omega arith) (omega arith) (omega (arith, long))
-      propagates k (suc (suc (suc j))) h l = absurd (omega arith)
 
 -- THE SAME ENDS
 pub one-same : (ws text : List ℕ) → shaped ws ≡ true → stateWord ws ≤ 64 → length text ≤ 65535 → Bytes text → endsOfOne ws text ≡ endsFound ws text

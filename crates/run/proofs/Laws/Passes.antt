@@ -1,57 +1,64 @@
--- ONE TURN OF THE LOOPS OVER THE DEPTHS, and that each half looks at its own masks alone.
+-- ONE TURN OF THE LOOPS OVER THE DEPTHS, with the nine masks of a depth; that the passes look at no letter; and one byte: the move, up and down.
 use mathlib.Core.Path.{_≡_, refl, ap, ap₂, _∙_}
 use mathlib.Core.List.{List, []}
-use Prim.Native.Nat.{ℕ, zero, suc, _+_, _-_, _≤_, _<_}
+use Prim.Native.Nat.{ℕ, zero, suc, _+_, _-_, _*_, _≤_, _<_}
 use native.Mathlib.Nat.{not-suc-le-zero}
 use native.Mathlib.Omega.{arith}
-use lib.ListN.{take}
-use Rattle.model.specs.Models.Run.{fallWords, gatherBy, Masks, passWords, propagateBy, riseWords, scatterBy}
-use Rattle.run.specs.Work.{cutMasks, fallMasks, Passes, passMasks, raisedOf, riseMasks, threeOf, Threes, workMasks}
+use lib.ListN.{getD, length, take}
+use Rattle.model.specs.Models.Run.{fallWords, gatherBy, gatherWords, Masks, moveBy, passWords, propagateBy, riseWords, scatterBy, scatterWords}
+use Rattle.run.specs.Work.{cutMasks, passMasks, ruleMasks, Stepped, workMasks}
 
-module _ (M : Masks) where
-  pub rise-one : (k : ℕ) → 0 < k → (live : List ℕ) → riseWords M (k - 1) (gatherBy M (k - 1) (propagateBy M k live)) ≡ riseWords M k live
-  rise-one zero h live = absurd (not-suc-le-zero h)
-  rise-one (suc k) h live =
+module _ (n : ℕ) (table : List (List ℕ)) where
+  abbrev M : Masks
+  M = passMasks n table
+
+  abbrev pub gatherRow : ℕ → List ℕ → List ℕ
+  gatherRow k = gatherWords (take n (getD table (9 * k + 3) [])) (take n (getD table (9 * k + 4) [])) (take n (getD table (9 * k + 5) []))
+
+  abbrev pub scatterRow : ℕ → List ℕ → List ℕ
+  scatterRow k = scatterWords (take n (getD table (9 * k) [])) (take n (getD table (9 * k + 1) [])) (take n (getD table (9 * k + 2) []))
+
+  pub rise-turn : (k : ℕ) → 0 < k → (live : List ℕ) → riseWords M (k - 1) (gatherRow k (propagateBy M k live)) ≡ riseWords M k live
+  rise-turn zero h live = absurd (not-suc-le-zero h)
+  rise-turn (suc k) h live =
       let e : suc k - 1 ≡ k = omega arith in
-      ap (λ (j : ℕ). riseWords M j (gatherBy M j (propagateBy M (suc k) live))) e
+      ap (λ (j : ℕ). riseWords M j (gatherRow (suc k) (propagateBy M (suc k) live))) e
 
-  -- with n depths of d left
-  pub fall-one : (d n : ℕ) → 0 < n → n ≤ d → (live : List ℕ)
-      → fallWords M (n - 1) (d - (n - 1)) (propagateBy M (d - n + 1) (scatterBy M (d - n) live)) ≡ fallWords M n (d - n) live
-  fall-one d zero h l live = absurd (not-suc-le-zero h)
-  fall-one d (suc n) h l live =
-      let e : suc n - 1 ≡ n = omega arith in
-      let f : d - (suc n - 1) ≡ suc (d - suc n) = omega arith in
-      let g : d - suc n + 1 ≡ suc (d - suc n) = omega arith in
-      ap₂ (λ (i j : ℕ). fallWords M i j (propagateBy M (d - suc n + 1) (scatterBy M (d - suc n) live))) e f
-      ∙ ap (λ (j : ℕ). fallWords M n (suc (d - suc n)) (propagateBy M j (scatterBy M (d - suc n) live))) g
+  -- with some of d depths left
+  pub fall-turn : (d left : ℕ) → 0 < left → left ≤ d → (live : List ℕ)
+      → fallWords M (left - 1) (d - (left - 1)) (propagateBy M (d - left + 1) (scatterRow (d - left + 1) live)) ≡ fallWords M left (d - left) live
+  fall-turn d zero h l live = absurd (not-suc-le-zero h)
+  fall-turn d (suc i) h l live =
+      let e : suc i - 1 ≡ i = omega arith in
+      let f : d - (suc i - 1) ≡ suc (d - suc i) = omega arith in
+      let g : d - suc i + 1 ≡ suc (d - suc i) = omega arith in
+      ap₂ (λ (a b : ℕ). fallWords M a b (propagateBy M (d - suc i + 1) (scatterRow (d - suc i + 1) live))) e f
+      ∙ ap (λ (k : ℕ). fallWords M i (suc (d - suc i)) (propagateBy M k (scatterRow k live))) g
 
--- the way up looks at no letter and no scatter mask, the way down at no letter and no gather mask
-module _ (n : ℕ) (ws ws′ : List ℕ) (W W′ : ℕ) where
-  rise-only : (s s′ g p : Threes) (k : ℕ) (live : List ℕ) → riseWords (cutMasks n (workMasks ws W s g p)) k live ≡ riseWords (cutMasks n (workMasks ws′ W′ s′ g p)) k live
-  rise-only s s′ g p zero live = refl
-  rise-only s s′ g p (suc k) live = let M = cutMasks n (workMasks ws W s g p) in rise-only s s′ g p k (gatherBy M k (propagateBy M (suc k) live))
+-- the passes look at no letter
+module _ (n : ℕ) (ws ws′ : List ℕ) (W W′ : ℕ) (table : List (List ℕ)) where
+  abbrev A : Masks
+  A = cutMasks n (workMasks ws W table)
 
-  fall-only : (s g g′ p : Threes) (i k : ℕ) (live : List ℕ) → fallWords (cutMasks n (workMasks ws W s g p)) i k live ≡ fallWords (cutMasks n (workMasks ws′ W′ s g′ p)) i k live
-  fall-only s g g′ p zero k live = refl
-  fall-only s g g′ p (suc i) k live = let M = cutMasks n (workMasks ws W s g p) in fall-only s g g′ p i (suc k) (propagateBy M (suc k) (scatterBy M k live))
+  abbrev B : Masks
+  B = cutMasks n (workMasks ws′ W′ table)
 
-  pub pass-only : (s g p : Threes) (d : ℕ) (live : List ℕ) → passWords (cutMasks n (workMasks ws W s g p)) d live ≡ passWords (cutMasks n (workMasks ws′ W′ s g p)) d live
-  pass-only s g p d live =
-      let M = cutMasks n (workMasks ws W s g p) in
-      fall-only s g g p d 0 (riseWords M d live) ∙ ap (fallWords (cutMasks n (workMasks ws′ W′ s g p)) d 0) (rise-only s s g p d live)
+  rise-letters : (k : ℕ) (live : List ℕ) → riseWords A k live ≡ riseWords B k live
+  rise-letters zero live = refl
+  rise-letters (suc k) live = rise-letters k (gatherBy A k (propagateBy A (suc k) live))
 
--- up and then down
-pub pass-both : (n d : ℕ) (sb ss st gb gs gt pb pl pt : List (List ℕ)) (live up r : List ℕ) → take n up ≡ riseWords (cutMasks n (riseMasks gb gs gt pb pl pt)) d (take n live)
-    → take n r ≡ fallWords (cutMasks n (fallMasks sb ss st pb pl pt)) d 0 (take n up) → Passes n sb ss st gb gs gt pb pl pt d live r
-pass-both n d sb ss st gb gs gt pb pl pt live up r e f =
-    let s = threeOf sb ss st in
-    let g = threeOf gb gs gt in
-    let p = raisedOf pb pl pt in
-    f ∙ fall-only n [] [] 0 0 s (λ k j. []) g p d 0 (take n up)
-    ∙ ap (fallWords (cutMasks n (passMasks s g p)) d 0) (e ∙ rise-only n [] [] 0 0 (λ k j. []) s g p d (take n live))
+  fall-letters : (i k : ℕ) (live : List ℕ) → fallWords A i k live ≡ fallWords B i k live
+  fall-letters zero k live = refl
+  fall-letters (suc i) k live = fall-letters i (suc k) (propagateBy A (suc k) (scatterBy A k live))
 
--- ---- three tables that are those of the words
-pub three-same : {b b′ s s′ t t′ : List (List ℕ)} → b ≡ b′ → s ≡ s′ → t ≡ t′ → threeOf b s t ≡ threeOf b′ s′ t′
-three-same {b} {b′} {s} {s′} {t} {t′} e f g =
-    ap (λ (x : List (List ℕ)). threeOf x s t) e ∙ ap (λ (x : List (List ℕ)). threeOf b′ x t) f ∙ ap (λ (x : List (List ℕ)). threeOf b′ s′ x) g
+  pub pass-letters : (d : ℕ) (live : List ℕ) → passWords A d live ≡ passWords B d live
+  pass-letters d live = fall-letters d 0 (riseWords A d live) ∙ ap (fallWords B d 0) (rise-letters d live)
+
+-- ONE BYTE
+pub step-made : (n : ℕ) (ws : List ℕ) (b d : ℕ) (table : List (List ℕ)) (live on up down : List ℕ) → take n on ≡ moveBy (ruleMasks ws n table) b (take n live)
+    → take n up ≡ riseWords (passMasks n table) d (take n on) → take n down ≡ fallWords (passMasks n table) d 0 (take n up) → length down ≡ 8
+    → Stepped n ws b d table live down
+step-made n ws b d table live on up down m r f e = record {
+  made = f ∙ ap (fallWords (passMasks n table) d 0) r ∙ pass-letters n [] ws 0 n table d (take n on) ∙ ap (passWords (ruleMasks ws n table) d) m;
+  eight = e;
+}

@@ -1,77 +1,32 @@
 -- THE TABLE OF WORK HOLDS THE IMAGE'S MASKS: the entries by their tests; the table's masks are those of the image, so they find the same ends; and
 -- so do the masks of eight words of a rule of one.
 use mathlib.Core.Path.{_≡_, refl, sym, ap, ap₂, _∙_, subst}
-use mathlib.Core.Logic.{_⊎_, inl, inr, _≢_}
+use mathlib.Core.Logic.{_⊎_, inl, inr}
 use mathlib.Core.Bool.{Bool, true, false, _&&_, and-false, cond}
 use mathlib.Core.List.{List, [], _∷_}
-use Prim.Native.Nat.{ℕ, zero, suc, _+_, _-_, _*_, _/_, _%_, _^_, _≤_, _<_}
+use Prim.Native.Nat.{ℕ, zero, suc, _+_, _-_, _*_, _%_, _^_, _≤_, _<_}
 use native.Mathlib.Nat.{eq-or-lt-of-le}
 use native.Mathlib.Omega.{arith}
-use lib.Dec.{eqb, leb, ltb, lt→ltb, ltb→lt}
-use lib.ListN.{getD, length, set, take}
-use lib.Seq.{getD-set-other, getD-set-same}
+use lib.Dec.{leb}
+use lib.ListN.{getD, length, take}
 use Rattle.model.specs.Image.{width}
 use Rattle.model.specs.Models.Apart.{depthWord, stateWord}
 use Rattle.model.specs.Models.Run.{Masks}
 use Rattle.model.specs.Models.Words.{wrapAdd, wrapSub}
-use Rattle.model.proofs.Laws.Bool.{is-not, is-true, le-false, le-true, unequal}
+use Rattle.model.proofs.Laws.Bool.{le-false, le-true}
 use Rattle.model.proofs.Words.Run.{Bytes}
 use Rattle.word.specs.Ends.{endsWith, Written}
 use Rattle.word.specs.One.{chain, Chosen, endsOfOne, Entered, entryAt, NoChain, oneMasks, tableMasks, wordAt}
 use Rattle.word.specs.Shape.{shaped}
 use Rattle.word.proofs.Laws.Cut.{Cut, ends-cut}
+use Rattle.word.proofs.Laws.Nine.{entered-at, nine-gather, nine-scatter}
 use Rattle.word.proofs.Laws.Shape.{Shape}
-
-below : (m n : ℕ) → m < n → ltb m n ≡ true
-below m n h = is-true (ltb m n) (lt→ltb m n h)
-
-not-below : (m n : ℕ) → n ≤ m → ltb m n ≡ false
-not-below m n h = is-not (ltb m n) (λ t. let l = ltb→lt m n t in absurd (omega arith))
-
--- ---- an entry by its tests
-module _ (ws : List ℕ) (d k j : ℕ) where
-  abbrev low : ℕ
-  low = getD ws (516 + 3 * k + j) 0
-
-  abbrev mid : ℕ
-  mid = getD ws (514 + 3 * d + 3 * k + j) 0
-
-  abbrev high : ℕ
-  high = getD ws (515 + 6 * d + 3 * k + j) 0
-
-  abbrev pick : Bool → Bool → Bool → ℕ
-  pick a b c = cond a low (cond b mid (cond c (wrapSub high 1) high))
-
-  pub entry-first : j < 3 → low ≡ entryAt ws d k j
-  entry-first h = sym (ap (λ (a : Bool). pick a (ltb j 6) (eqb j 7)) (below j 3 h))
-
-  pub entry-second : 3 ≤ j → j < 6 → mid ≡ entryAt ws d k j
-  entry-second h l = sym (ap₂ (λ (a b : Bool). pick a b (eqb j 7)) (not-below j 3 h) (below j 6 l))
-
-  entry-high : 6 ≤ j → cond (eqb j 7) (wrapSub high 1) high ≡ entryAt ws d k j
-  entry-high h = sym (ap₂ (λ (a b : Bool). pick a b (eqb j 7)) (not-below j 3 (omega arith)) (not-below j 6 h))
-
-  pub entry-less : 6 ≤ j → j ≡ 7 → wrapSub high 1 ≡ entryAt ws d k j
-  entry-less h e =
-      sym (ap (λ (c : Bool). cond c (wrapSub high 1) high) (ap (λ (i : ℕ). eqb i 7) e)) ∙ entry-high h
-
-  pub entry-last : 6 ≤ j → j ≢ 7 → high ≡ entryAt ws d k j
-  entry-last h e = sym (ap (λ (c : Bool). cond c (wrapSub high 1) high) (unequal j 7 e)) ∙ entry-high h
 
 pub less-one : {x s : ℕ} → s < 2 ^ 64 → (s + 1) % 2 ^ 64 ≡ x → s ≡ wrapSub x 1
 less-one h e = omega arith
 
 pub never : true ≡ false → ⊥
 never e = let z : _≡_ {A = ℕ} 0 1 = cc in omega arith
-
--- ---- the table entry by entry
-pub entered-more : (ws table : List ℕ) (d i v : ℕ) → i < length table → ((x : ℕ) → x < i → getD table x 0 ≡ entryAt ws d (x / 9) (x % 9)) → v ≡ entryAt ws d (i / 9) (i % 9)
-    → (x : ℕ) → x < i + 1 → getD (set table i v) x 0 ≡ entryAt ws d (x / 9) (x % 9)
-entered-more ws table d i v l I e x h = go (eq-or-lt-of-le (let k : x ≤ i = omega arith in k))
-  where
-    go : (x ≡ i) ⊎ (x < i) → getD (set table i v) x 0 ≡ entryAt ws d (x / 9) (x % 9)
-    go (inl q) = ap (λ (y : ℕ). getD (set table i v) y 0) q ∙ getD-set-same table i v 0 l ∙ e ∙ sym (ap (λ (y : ℕ). entryAt ws d (y / 9) (y % 9)) q)
-    go (inr q) = getD-set-other table i x v 0 (λ y. let z : x ≡ i = y in absurd (omega arith)) ∙ I x q
 
 -- the empty blocks, one more
 pub empty-more : (table : List ℕ) (k : ℕ) → ((x : ℕ) → x < k → getD table (9 * x + 6) 0 ≡ 0) → getD table (9 * k + 6) 0 ≡ 0 → (x : ℕ) → x ≤ k → getD table (9 * x + 6) 0 ≡ 0
@@ -85,20 +40,17 @@ empty-more table k I e x h = go (eq-or-lt-of-le h)
 module _ (ws table : List ℕ) (d : ℕ) (any : Bool) (deep : d ≡ depthWord ws) (I : Entered ws d table) (N : NoChain table d any)
     (fit : (i : ℕ) → getD ws i 0 < 2 ^ 64) where
   entry : (k j : ℕ) → k ≤ d → j < 9 → getD table (9 * k + j) 0 ≡ entryAt ws d k j
-  entry k j h l =
-      let e : (9 * k + j) / 9 ≡ k = omega arith in
-      let f : (9 * k + j) % 9 ≡ j = omega arith in
-      I (9 * k + j) (omega arith) ∙ ap₂ (entryAt ws d) e f
+  entry = entered-at 0 (entryAt ws d) table d I
 
   -- word j of depth k + 1, where the image has it
   scattered : (k j : ℕ) → k < d → j < 3 → getD table (9 * suc k + j) 0 ≡ getD ws (519 + 3 * k + j) 0
   scattered k j h l =
-      entry (suc k) j h (omega arith) ∙ sym (entry-first ws d (suc k) j l)
+      entry (suc k) j h (omega arith) ∙ sym (nine-scatter j _ _ _ _ l)
       ∙ (let e : 516 + 3 * suc k + j ≡ 519 + 3 * k + j = omega arith in ap (λ (i : ℕ). getD ws i 0) e)
 
   gathered : (k j : ℕ) → k < d → j < 3 → getD table (9 * suc k + (3 + j)) 0 ≡ getD ws (520 + 3 * depthWord ws + 3 * k + j) 0
   gathered k j h l =
-      entry (suc k) (3 + j) h (omega arith) ∙ sym (entry-second ws d (suc k) (3 + j) (omega arith) (omega arith))
+      entry (suc k) (3 + j) h (omega arith) ∙ sym (nine-gather (3 + j) _ _ _ _ (omega arith) (omega arith))
       ∙ (let e : 514 + 3 * d + 3 * suc k + (3 + j) ≡ 520 + 3 * depthWord ws + 3 * k + j = omega arith in ap (λ (i : ℕ). getD ws i 0) e)
 
   abbrev at : ℕ → ℕ → ℕ
@@ -108,18 +60,18 @@ module _ (ws table : List ℕ) (d : ℕ) (any : Bool) (deep : d ≡ depthWord ws
   place k j = omega arith
 
   block : (k : ℕ) → k ≤ d → getD table (9 * k + 6) 0 ≡ getD ws (at k 0) 0
-  block k h = entry k 6 h (omega arith) ∙ sym (entry-last ws d k 6 (omega arith) (λ e. absurd (omega arith))) ∙ ap (λ (i : ℕ). getD ws i 0) (place k 0)
+  block k h = entry k 6 h (omega arith) ∙ ap (λ (i : ℕ). getD ws i 0) (place k 0)
 
   source : (k : ℕ) → k ≤ d → wrapAdd (getD table (9 * k + 7) 0) 1 ≡ getD ws (at k 1) 0
   source k h =
-      ap (λ (x : ℕ). wrapAdd x 1) (entry k 7 h (omega arith) ∙ sym (entry-less ws d k 7 (omega arith) refl))
+      ap (λ (x : ℕ). wrapAdd x 1) (entry k 7 h (omega arith))
       ∙ back (getD ws (515 + 6 * d + 3 * k + 7) 0) (fit (515 + 6 * d + 3 * k + 7)) ∙ ap (λ (i : ℕ). getD ws i 0) (place k 1)
     where
       back : (x : ℕ) → x < 2 ^ 64 → wrapAdd (wrapSub x 1) 1 ≡ x
       back x l = omega arith
 
   target : (k : ℕ) → k ≤ d → getD table (9 * k + 8) 0 ≡ getD ws (at k 2) 0
-  target k h = entry k 8 h (omega arith) ∙ sym (entry-last ws d k 8 (omega arith) (λ e. absurd (omega arith))) ∙ ap (λ (i : ℕ). getD ws i 0) (place k 2)
+  target k h = entry k 8 h (omega arith) ∙ ap (λ (i : ℕ). getD ws i 0) (place k 2)
 
   -- without a chain the block was empty
   shown : (b : Bool) → any ≡ b → (k : ℕ) → k ≤ d → cond b (getD table (9 * k + 6) 0) 0 ≡ getD table (9 * k + 6) 0

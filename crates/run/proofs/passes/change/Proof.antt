@@ -3,7 +3,7 @@ use mathlib.Core.Bool.{true}
 use lib.ListN.{take}
 use Rattle.mask.proofs.Laws.Bits.{fit-row}
 use Rattle.run.proofs.Laws.Less.{complement-less, take-plus}
-use Rattle.run.proofs.Laws.Widths.{fit-take}
+use Rattle.run.proofs.Laws.Rows.{fit-take}
 use borrow.Author.Needs.{needs}
 use Rattle.run.proofs.passes.change.Statement.{statement}
 use Rattle.run.proofs.passes.change.Tie as tie

@@ -4,27 +4,30 @@ use native.Mathlib.Omega.{arith}
 use lib.ListN.{take}
 use Prim.Native.Nat.{ℕ, _+_, _-_, _≤_}
 use Rattle.model.specs.Models.Run.{fallWords, propagateBy}
-use Rattle.run.specs.Work.{cutMasks, fallMasks}
-use Rattle.run.proofs.Laws.Passes.{fall-one}
+use Rattle.run.specs.Work.{passMasks}
+use Rattle.run.proofs.Laws.Passes.{fall-turn}
 use borrow.Author.Needs.{needs}
 use Rattle.run.proofs.steps.fall.Statement.{statement}
 use Rattle.run.proofs.steps.fall.Tie as tie
 
 abbrev Inv-loop : tie.InvT-loop
-Inv-loop depth n sb ss st pb pl pt live left₀ r left =
-    (left ≤ depth) × (fallWords (cutMasks n (fallMasks sb ss st pb pl pt)) left (depth - left) (take n (r .words)) ≡ fallWords (cutMasks n (fallMasks sb ss st pb pl pt)) depth 0 (take n (live .words)))
+Inv-loop depth n table live left₀ r left =
+    (left ≤ depth) × (fallWords (passMasks n table) left (depth - left) (take n (r .words)) ≡ fallWords (passMasks n table) depth 0 (take n (live .words)))
 
 abbrev μ-loop : tie.MeasureT-loop
-μ-loop depth n sb ss st pb pl pt live left₀ r left = left
+μ-loop depth n table live left₀ r left = left
 
 loop-holds : tie.Need-loop-holds Inv-loop μ-loop
 loop-holds c =
     let a = c .args in
     let e : a .depth - a .depth ≡ 0 = omega arith in
-    (omega arith, ap (λ (k : ℕ). fallWords (cutMasks (a .n) (fallMasks (a .scatter-block .now) (a .scatter-source .now) (a .scatter-target .now) (a .propagate-block .now) (a .propagate-below .now) (a .propagate-target .now))) (a .depth) k (take (a .n) (a .live .words))) e)
+    (omega arith, ap (λ (k : ℕ). fallWords (passMasks (a .n) (a .table .now)) (a .depth) k (take (a .n) (a .live .words))) e)
 
 sub-k : tie.Need-sub-k Inv-loop μ-loop
 sub-k c = search needs
+
+add-scatter-at : tie.Need-add-scatter-at Inv-loop μ-loop
+add-scatter-at c = search needs
 
 scatter-at-requires : tie.Need-scatter-at-requires Inv-loop μ-loop
 scatter-at-requires c κs = search needs
@@ -45,19 +48,18 @@ loop-again : tie.Need-loop-again Inv-loop μ-loop
 loop-again c =
     let l = c .before .before .before .loop in
     let a = c .before .before .before .before .args in
-    let M = cutMasks (a .n) (fallMasks (a .scatter-block .now) (a .scatter-source .now) (a .scatter-target .now) (a .propagate-block .now) (a .propagate-below .now) (a .propagate-target .now)) in (
+    let M = passMasks (a .n) (a .table .now) in (
       omega arith,
       ap (fallWords M (l .left - 1) (a .depth - (l .left - 1))) (c .propagate-at .ensures ∙ ap (propagateBy M (a .depth - l .left + 1)) (c .before .scatter-at .ensures))
-          ∙ fall-one M (a .depth) (l .left) (c .before .before .loop-test .taken) (l .inv .0) (take (a .n) (l .r .words)) ∙ l .inv .1,
+          ∙ fall-turn (a .n) (a .table .now) (a .depth) (l .left) (c .before .before .loop-test .taken) (l .inv .0) (take (a .n) (l .r .words)) ∙ l .inv .1,
     )
 
 returns : tie.Need-returns Inv-loop μ-loop
 returns c =
     let l = c .before .loop in
     let a = c .before .before .args in
-    let M = cutMasks (a .n) (fallMasks (a .scatter-block .now) (a .scatter-source .now) (a .scatter-target .now) (a .propagate-block .now) (a .propagate-below .now) (a .propagate-target .now)) in
     let e : 0 ≡ l .left = omega arith in
-    ap (λ (n : ℕ). fallWords M n (a .depth - l .left) (take (a .n) (l .r .words))) e ∙ l .inv .1
+    ap (λ (i : ℕ). fallWords (passMasks (a .n) (a .table .now)) i (a .depth - l .left) (take (a .n) (l .r .words))) e ∙ l .inv .1
 
 pub fall-spec : {M : Type 1} → statement M
 fall-spec =
@@ -67,6 +69,7 @@ fall-spec =
     μ-loop
     loop-holds
     sub-k
+    add-scatter-at
     scatter-at-requires
     add-propagate-at
     propagate-at-requires

@@ -1,6 +1,7 @@
 -- `entry`: the tests on j are those of the model, and each word lies within the image.
 use mathlib.Core.Path.{_∙_}
-use Rattle.word.proofs.Laws.One.{entry-first, entry-last, entry-less, entry-second, less-one}
+use Rattle.word.proofs.Laws.Nine.{nine-gather, nine-less, nine-propagate, nine-scatter}
+use Rattle.word.proofs.Laws.One.{less-one}
 use borrow.Author.Needs.{needs}
 use Rattle.word.proofs.table.entry.Statement.{statement}
 use Rattle.word.proofs.table.entry.Tie as tie
@@ -21,7 +22,7 @@ shared-slice-read-result : tie.Need-shared-slice-read-result
 shared-slice-read-result c = search needs
 
 returns : tie.Need-returns
-returns c = let a = c .before .before .before .args in entry-first (a .image .now) (a .depth) (a .k) (a .j) (c .before .if1 .taken)
+returns c = let a = c .before .before .before .args in nine-scatter (a .j) _ _ _ _ (c .before .if1 .taken)
 
 mul-result-3 : tie.Need-mul-result-3
 mul-result-3 c = search needs
@@ -47,7 +48,7 @@ shared-slice-read-result-2 c = search needs
 returns-2 : tie.Need-returns-2
 returns-2 c =
     let a = c .before .before .before .before .args in
-    entry-second (a .image .now) (a .depth) (a .k) (a .j) (c .before .before .if1 .left) (c .before .if2 .taken)
+    nine-gather (a .j) _ _ _ _ (c .before .before .if1 .left) (c .before .if2 .taken)
 
 mul-word : tie.Need-mul-word
 mul-word c = search needs
@@ -77,12 +78,12 @@ returns-3 : tie.Need-returns-3
 returns-3 c =
     let a = c .before .before .before .before .before .before .args in
     let s = c .wrapping-sub-u64 in
-    less-one (s .ok) (s .ensures) ∙ entry-less (a .image .now) (a .depth) (a .k) (a .j) (c .before .before .before .if2 .left) (c .before .if3 .taken)
+    less-one (s .ok) (s .ensures) ∙ nine-less (a .j) _ _ _ _ (c .before .before .before .if2 .left) (c .before .if3 .taken)
 
 returns-4 : tie.Need-returns-4
 returns-4 c =
     let a = c .before .before .before .before .before .args in
-    entry-last (a .image .now) (a .depth) (a .k) (a .j) (c .before .before .if2 .left) (c .if3 .left)
+    nine-propagate (a .j) _ _ _ _ (c .before .before .if2 .left) (c .if3 .left)
 
 pub entry-spec : {M : Type 1} → statement M
 entry-spec =

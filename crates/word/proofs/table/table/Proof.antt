@@ -4,7 +4,7 @@ use native.Mathlib.Omega.{arith}
 use Prim.Native.Nat.{ℕ, _+_, _-_, _*_, _/_, _%_, _<_}
 use lib.ListN.{getD, length, length-set}
 use Rattle.word.specs.One.{entryAt}
-use Rattle.word.proofs.Laws.One.{entered-more}
+use Rattle.word.proofs.Laws.Nine.{entered-more}
 use borrow.Author.Needs.{needs}
 use Rattle.word.proofs.table.table.Statement.{statement}
 use Rattle.word.proofs.table.table.Tie as tie
@@ -45,7 +45,7 @@ loop-again c =
     let s = c .before .before .before .before in
     let a = s .args in
     let h : l .i < length (l .r) = omega (arith, l .inv .0, s .pre .1, c .before .loop-test .taken) in
-    (length-set (l .r) (l .i) (c .entry .result) ∙ l .inv .0, entered-more (a .image .now) (l .r) (a .depth) (l .i) (c .entry .result) h (l .inv .1) (c .entry .ensures))
+    (length-set (l .r) (l .i) (c .entry .result) ∙ l .inv .0, entered-more 0 (λ (x : ℕ). entryAt (a .image .now) (a .depth) (x / 9) (x % 9)) (l .r) (l .i) (c .entry .result) h (l .inv .1) (c .entry .ensures))
 
 returns : tie.Need-returns Inv-loop μ-loop
 returns c = λ i h. c .before .loop .inv .1 i (omega arith)

@@ -1,24 +1,19 @@
 -- THE MASKS OF WORK: as they lie in the words of an image, with words of zeros above, and nine to a depth in one table.
 use mathlib.Core.Path.{_≡_}
-use mathlib.Core.Bool.{Bool, true, false, _&&_, cond}
+use mathlib.Core.Bool.{true, _&&_, cond}
 use mathlib.Core.List.{List, [], _∷_, _++_}
-use Prim.Native.Nat.{ℕ, zero, suc, _+_, _-_, _*_, _/_, _%_, _^_, _≤_, _<_}
+use Prim.Native.Nat.{ℕ, zero, suc, _+_, _-_, _*_, _/_, _%_, _≤_, _<_}
 use lib.Dec.{eqb, leb, ltb}
 use lib.ListN.{drop, getD, length, replicate, take}
-use Rattle.model.specs.Bits.{digit}
 use Rattle.model.specs.Models.Apart.{depthWord, gatherAt, propagateAt, scatterAt, stateWord}
 use Rattle.model.specs.Models.Run.{Masks, passWords, stepWords}
-use Rattle.model.specs.Models.Words.{subtractWords, wrapAdd}
+use Rattle.passes.specs.Less.{lessOne, plusWords, startWords}
 use Rattle.word.specs.Ends.{endsWith}
 use Rattle.word.specs.Shape.{shaped, widthOf}
 
 -- "A mask is one record of eight 64-bit words in work, and in the image its first W words"
 abbrev pub rowAt : List ℕ → ℕ → ℕ → List ℕ
 rowAt ws at W = take W (drop at ws) ++ replicate (8 - W) 0
-
--- the mask of state 0
-abbrev pub startWords : List ℕ
-startWords = 1 ∷ replicate 7 0
 
 -- THE MASKS OF WORDS WITH A SHAPE, where they lie
 abbrev pub masksOf : List ℕ → Masks
@@ -33,14 +28,6 @@ masksOf ws =
       propagateMask = λ k j. rowAt ws (propagateAt W d + W * (3 * k + j)) W;
       startMask = startWords;
     }
-
--- one more than the number of words, and one less: a source is kept less one, as (source - 1) - from is the complement of from - source
-abbrev pub plusWords : List ℕ → Bool → List ℕ
-plusWords [] c = []
-plusWords (x ∷ xs) c = wrapAdd x (digit c) ∷ plusWords xs (c && eqb x (2 ^ 64 - 1))
-
-abbrev pub lessOne : List ℕ → List ℕ
-lessOne xs = subtractWords (take 8 xs) startWords false
 
 -- ---- THE TABLE: nine masks to a depth k. First the scatter and the gather masks of the unions whose alternatives lie at depth k, then the propagate
 -- masks of depth k, the source less one

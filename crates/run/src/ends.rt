@@ -1,10 +1,10 @@
 // The ends of a text: the places where the accepting state is live.
-use crate::rows::start;
 use crate::shape::width;
 use crate::steps::pass;
 use crate::table::Table;
 use crate::table::table;
 use crate::widths::step_by;
+use passes::start;
 use word::places::note;
 use word::shape::depth;
 use word::shape::has_shape;

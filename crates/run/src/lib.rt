@@ -2,7 +2,6 @@
 // states and the ends.
 pub mod ends;
 pub mod live;
-pub mod passes;
 mod rows;
 mod shape;
 mod steps;

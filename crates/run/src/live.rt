@@ -1,10 +1,10 @@
 // The live states: before any byte, and after a byte from any states that are live.
-use crate::rows::start;
 use crate::shape::width;
 use crate::steps::moved;
 use crate::steps::pass;
 use crate::table::table;
 use mask::Mask;
+use passes::start;
 use word::shape::depth;
 use word::shape::has_shape;
 ghost use mathlib.Core.Bool.{true};

@@ -1,9 +1,8 @@
 // A mask as it lies in an image, as eight words: "in the image its first W words", zeros above.
-use mask::Mask;
 ghost use mathlib.Core.Path.{_≡_};
 ghost use Prim.Native.Nat.{_+_, _≤_};
 ghost use lib.ListN.{length};
-ghost use Rattle.run.specs.Work.{rowAt, startWords};
+ghost use Rattle.run.specs.Work.{rowAt};
 
 pub fn row_at(image: &[u64], at: usize, width: usize) -> [u64; 8]
     requires { ⌜ (width ≤ 8) × (at + width ≤ length (now image)) ⌝ }
@@ -16,13 +15,4 @@ pub fn row_at(image: &[u64], at: usize, width: usize) -> [u64; 8]
         i += 1;
     }
     r
-}
-
-// The mask of state 0.
-pub fn start() -> Mask
-    ensures { λ r. ⌜ r .words ≡ startWords ⌝ }
-{
-    let mut words = [0u64; 8];
-    words[0] = 1;
-    Mask { words }
 }

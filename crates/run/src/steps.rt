@@ -1,20 +1,21 @@
 // The passes with the table of work lent: up through the depths with propagate and gather, then down with scatter and propagate, each depth once.
 // Only the first n words of a mask count.
-use crate::passes::advance;
-use crate::passes::gather;
-use crate::passes::propagate;
-use crate::passes::scatter;
 use crate::rows::row_at;
-use crate::rows::start;
 use crate::table::Table;
 use mask::Mask;
+use passes::advance;
+use passes::gather;
+use passes::propagate;
+use passes::scatter;
+use passes::start;
 ghost use mathlib.Core.Bool.{true};
 ghost use mathlib.Core.List.{[]};
 ghost use mathlib.Core.Path.{_≡_};
 ghost use Prim.Native.Nat.{_+_, _*_, _≤_};
 ghost use lib.ListN.{getD, length, take};
 ghost use Rattle.model.specs.Models.Run.{fallWords, gatherWords, moveWords, passWords, propagateWords, riseWords, scatterWords};
-ghost use Rattle.run.specs.Work.{passMasks, plusWords, rowAt, startWords};
+ghost use Rattle.passes.specs.Less.{plusWords, startWords};
+ghost use Rattle.run.specs.Work.{passMasks, rowAt};
 
 // Scatter, gather and propagate with the nine masks of depth k.
 fn scatter_at(live: Mask, k: usize, n: usize, table: &Table) -> Mask

@@ -1,22 +1,12 @@
 // The table of work: the masks of scatter, gather and propagate for each depth, from the image's words. Nine masks of a depth lie side by side, so
 // that one index steps through them all.
 use crate::rows::row_at;
-use crate::rows::start;
-use mask::Mask;
-use mask::sums::subtract;
+use passes::less_one;
 ghost use mathlib.Core.Path.{_≡_};
 ghost use Prim.Native.Nat.{_≤_, _<_};
-ghost use Rattle.run.specs.Work.{Entered, entryAt, lessOne, Tables};
+ghost use Rattle.run.specs.Work.{Entered, entryAt, Tables};
 
 pub type Table = [[u64; 8]; 81];
-
-// A row less one.
-fn less_one(row: [u64; 8]) -> [u64; 8]
-    ensures { λ r. ⌜ r ≡ lessOne row ⌝ }
-{
-    let less = subtract(Mask { words: row }, start(), 8);
-    less.words
-}
 
 // Mask j of the nine of depth k.
 fn entry(image: &[u64], width: usize, depth: usize, k: usize, j: usize) -> [u64; 8]

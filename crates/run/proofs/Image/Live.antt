@@ -24,7 +24,8 @@ use Rattle.model.proofs.Words.Holds.{Holds}
 use Rattle.model.proofs.Words.Passes.{passed}
 use Rattle.model.proofs.Words.Run.{passes-words, step-words}
 use Rattle.run.specs.Says.{BeginSays, StatesAre, StepSays}
-use Rattle.run.specs.Work.{beginWords, masksOf, nextWords, noWords, startWords}
+use Rattle.passes.specs.Less.{startWords}
+use Rattle.run.specs.Work.{beginWords, masksOf, nextWords, noWords}
 use Rattle.run.proofs.Image.Carry.{as-arcs, carried, image-shaped}
 
 -- a row that holds a set has exactly the states of what the set means

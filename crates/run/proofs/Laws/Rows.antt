@@ -6,6 +6,7 @@ use native.Mathlib.Omega.{arith}
 use lib.ListN.{drop, getD, length, length-append, length-drop, length-replicate, replicate, set, take}
 use lib.Seq.{getD-drop, length-take-le, set-at, take-suc}
 use Rattle.model.specs.Models.Words.{Fit}
+use Rattle.passes.proofs.Laws.Less.{fit-take}
 use Rattle.run.specs.Work.{rowAt}
 
 -- ---- a row made word by word: what was made so far is the row of fewer words
@@ -42,11 +43,6 @@ row-short ws at W h =
     omega (arith, length-append (take W (drop at ws)) (replicate (8 - W) 0), take-short W (drop at ws), length-replicate {A = ℕ} (8 - W) 0)
 
 -- ---- the words of an image fit in 64 bits, and so do those of its masks
-pub fit-take : (n : ℕ) (xs : List ℕ) → Fit xs → Fit (take n xs)
-fit-take zero xs F = tt
-fit-take (suc n) [] F = tt
-fit-take (suc n) (x ∷ xs) F = (F .0, fit-take n xs (F .1))
-
 fit-drop : (n : ℕ) (xs : List ℕ) → Fit xs → Fit (drop n xs)
 fit-drop zero xs F = F
 fit-drop (suc n) [] F = tt

@@ -15,12 +15,18 @@ use Rattle.model.specs.Models.Words.{borrowOut, Fit, notWords, subtractWords, w
 use Rattle.model.proofs.Laws.Bool.{is-not, is-true, le-or-lt, or-left, or-right, or-split, unequal}
 use Rattle.model.proofs.Words.Ripple.{digit-small}
 use Rattle.mask.proofs.Laws.Carries.{differenceWord}
-use Rattle.run.specs.Work.{lessOne, plusWords, startWords}
+use Rattle.passes.specs.Less.{lessOne, plusWords, startWords}
 
 pub take-plus : (n : ℕ) (xs : List ℕ) (c : Bool) → take n (plusWords xs c) ≡ plusWords (take n xs) c
 take-plus zero xs c = refl
 take-plus (suc n) [] c = refl
 take-plus (suc n) (x ∷ xs) c = ap (λ (l : List ℕ). wrapAdd x (digit c) ∷ l) (take-plus n xs (c && eqb x (2 ^ 64 - 1)))
+
+-- the first words of words that fit in 64 bits fit too
+pub fit-take : (n : ℕ) (xs : List ℕ) → Fit xs → Fit (take n xs)
+fit-take zero xs F = tt
+fit-take (suc n) [] F = tt
+fit-take (suc n) (x ∷ xs) F = (F .0, fit-take n xs (F .1))
 
 -- ---- a difference of words by whether it borrows
 borrows : (x y : ℕ) (b : Bool) → x < y + digit b → borrowOut x y b ≡ true

@@ -13,7 +13,7 @@ ghost use mathlib.Core.Bool.{false, true};
 ghost use lib.ListN.{take};
 ghost use Rattle.model.specs.Models.Run.{gatherWords, moveWords, propagateWords, scatterWords};
 ghost use Rattle.model.specs.Models.Words.{notWords, subtractWords, xorWords};
-ghost use Rattle.run.specs.Work.{plusWords};
+ghost use Rattle.passes.specs.Less.{lessOne, plusWords, startWords};
 
 // From each live union start to the starts of its alternatives: below the block's bit the difference sets all bits from the source on.
 pub fn scatter(live: Mask, block: Mask, source: Mask, target: Mask, n: usize) -> Mask
@@ -63,4 +63,21 @@ pub fn advance(live: Mask, letters: Mask, repeats: Mask, start: Mask, n: usize) 
     let stayed = and(live, repeats, n);
     let both = or(moved, stayed, n);
     or(both, start, n)
+}
+
+// The mask of state 0.
+pub fn start() -> Mask
+    ensures { λ r. ⌜ r .words ≡ startWords ⌝ }
+{
+    let mut words = [0u64; 8];
+    words[0] = 1;
+    Mask { words }
+}
+
+// A row less one: what propagate takes for a source.
+pub fn less_one(row: [u64; 8]) -> [u64; 8]
+    ensures { λ r. ⌜ r ≡ lessOne row ⌝ }
+{
+    let less = subtract(Mask { words: row }, start(), 8);
+    less.words
 }

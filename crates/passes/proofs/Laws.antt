@@ -1,0 +1,2 @@
+-- Less: a source may be kept less one.
+pub mod Less

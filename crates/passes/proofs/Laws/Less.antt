@@ -8,8 +8,8 @@ use Prim.Native.Nat.{ℕ, zero, suc, _+_, _-_, _^_, _≤_, _<_}
 use native.Mathlib.Nat.{eq-or-lt-of-le}
 use native.Mathlib.Omega.{arith}
 use lib.Dec.{T, eqb, ltb, lt→ltb, ltb→lt}
-use lib.ListN.{getD, length, replicate, set, take}
-use lib.Seq.{getD-set-other, getD-set-same, take-all}
+use lib.ListN.{length, replicate, take}
+use lib.Seq.{take-all}
 use Rattle.model.specs.Bits.{digit}
 use Rattle.model.specs.Models.Words.{borrowOut, Fit, notWords, subtractWords, wrapAdd, wrapSub}
 use Rattle.model.proofs.Laws.Bool.{is-not, is-true, le-or-lt, or-left, or-right, or-split, unequal}

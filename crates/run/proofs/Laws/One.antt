@@ -1,10 +1,10 @@
 -- A RULE OF ONE WORD: the first word of each of its masks of work is the image's own, so the run on plain words finds the same ends.
 use mathlib.Core.Path.{_≡_, refl, sym, ap, _∙_}
 use mathlib.Core.Bool.{true}
-use mathlib.Core.List.{List, [], _++_}
-use Prim.Native.Nat.{ℕ, zero, suc, _+_, _-_, _*_, _≤_, _<_}
+use mathlib.Core.List.{List, _++_}
+use Prim.Native.Nat.{ℕ, _+_, _-_, _*_, _≤_, _<_}
 use native.Mathlib.Omega.{arith}
-use lib.ListN.{getD, length, replicate, take}
+use lib.ListN.{length, replicate, take}
 use lib.Seq.{drop-cons}
 use Rattle.model.specs.Models.Apart.{depthWord, gatherAt, propagateAt, scatterAt, stateWord}
 use Rattle.model.specs.Models.Run.{Masks}

@@ -3,7 +3,6 @@ use mathlib.Core.Path.{_≡_, subst}
 use Prim.Native.Nat.{ℕ}
 use native.Mathlib.Omega.{arith}
 use Rattle.run.specs.Work.{Stepped, Steps}
-use borrow.Author.Needs.{needs}
 use Rattle.run.proofs.widths.step_by.Statement.{statement}
 use Rattle.run.proofs.widths.step_by.Tie as tie
 

@@ -7,7 +7,7 @@ use lib.Dec.{eqb, leb, ltb}
 use lib.ListN.{drop, getD, length, replicate, take}
 use Rattle.model.specs.Models.Apart.{depthWord, gatherAt, propagateAt, scatterAt, stateWord}
 use Rattle.model.specs.Models.Run.{Masks, passWords, stepWords}
-use Rattle.passes.specs.Less.{lessOne, plusWords, startWords}
+use Rattle.moves.specs.Less.{lessOne, plusWords, startWords}
 use Rattle.word.specs.Ends.{endsWith}
 use Rattle.word.specs.Shape.{shaped, widthOf}
 

@@ -4,7 +4,7 @@ use crate::steps::pass;
 use crate::table::Table;
 use crate::table::table;
 use crate::widths::step_by;
-use passes::start;
+use moves::start;
 use word::places::note;
 use word::shape::depth;
 use word::shape::has_shape;

@@ -4,7 +4,7 @@ use crate::steps::moved;
 use crate::steps::pass;
 use crate::table::table;
 use mask::Mask;
-use passes::start;
+use moves::start;
 use word::shape::depth;
 use word::shape::has_shape;
 ghost use mathlib.Core.Bool.{true};

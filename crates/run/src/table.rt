@@ -1,7 +1,7 @@
 // The table of work: the masks of scatter, gather and propagate for each depth, from the image's words. Nine masks of a depth lie side by side, so
 // that one index steps through them all.
 use crate::rows::row_at;
-use passes::less_one;
+use moves::less_one;
 ghost use mathlib.Core.Path.{_≡_};
 ghost use Prim.Native.Nat.{_≤_, _<_};
 ghost use Rattle.run.specs.Work.{Entered, entryAt, Tables};

@@ -29,7 +29,7 @@ use Rattle.model.proofs.Words.Holds.{Holds, pad-holds}
 use Rattle.model.proofs.Words.ImageRun.{image-carry}
 use Rattle.model.proofs.Words.Run.{Carry}
 use Rattle.word.specs.Shape.{shaped}
-use Rattle.passes.specs.Less.{startWords}
+use Rattle.moves.specs.Less.{startWords}
 use Rattle.run.specs.Work.{masksOf, rowAt}
 use Rattle.word.proofs.Laws.Shape.{Shape, shape-is}
 

@@ -24,7 +24,7 @@ use Rattle.model.proofs.Words.Holds.{Holds}
 use Rattle.model.proofs.Words.Passes.{passed}
 use Rattle.model.proofs.Words.Run.{passes-words, step-words}
 use Rattle.run.specs.Says.{BeginSays, StatesAre, StepSays}
-use Rattle.passes.specs.Less.{startWords}
+use Rattle.moves.specs.Less.{startWords}
 use Rattle.run.specs.Work.{beginWords, masksOf, nextWords, noWords}
 use Rattle.run.proofs.Image.Carry.{as-arcs, carried, image-shaped}
 

@@ -6,7 +6,7 @@ use native.Mathlib.Omega.{arith}
 use lib.ListN.{drop, getD, length, length-append, length-drop, length-replicate, replicate, set, take}
 use lib.Seq.{getD-drop, length-take-le, set-at, take-suc}
 use Rattle.model.specs.Models.Words.{Fit}
-use Rattle.passes.proofs.Laws.Less.{fit-take}
+use Rattle.moves.proofs.Laws.Less.{fit-take}
 use Rattle.run.specs.Work.{rowAt}
 
 -- ---- a row made word by word: what was made so far is the row of fewer words

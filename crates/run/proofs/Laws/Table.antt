@@ -17,9 +17,9 @@ use Rattle.word.specs.Shape.{widthOf}
 use Rattle.word.proofs.Laws.Cut.{Cut, ends-cut, pass-cut}
 use Rattle.word.proofs.Laws.Nine.{entered-at, nine-gather, nine-scatter}
 use Rattle.word.proofs.Laws.Shape.{gather-place, propagate-place, sections-of, Shape}
-use Rattle.passes.specs.Less.{plusWords}
+use Rattle.moves.specs.Less.{plusWords}
 use Rattle.run.specs.Work.{cutMasks, Entered, entryAt, masksOf, passMasks, rowAt, ruleMasks, Tables, workMasks}
-use Rattle.passes.proofs.Laws.Less.{plus-less}
+use Rattle.moves.proofs.Laws.Less.{plus-less}
 use Rattle.run.proofs.Laws.Passes.{pass-letters}
 use Rattle.run.proofs.Laws.Rows.{fit-at, row-short}
 

@@ -9,7 +9,7 @@ use lib.Seq.{take-all}
 use Rattle.model.specs.Models.Run.{fallWords, gatherBy, Masks, moveWords, passWords, propagateBy, riseWords, scatterBy}
 use Rattle.model.specs.Models.Words.{eachWord}
 use Rattle.word.proofs.Laws.Cut.{Cut, pass-cut}
-use Rattle.passes.specs.Less.{startWords}
+use Rattle.moves.specs.Less.{startWords}
 use Rattle.run.specs.Work.{cutMasks, rowAt}
 use Rattle.run.proofs.Laws.Rows.{row-short}
 

@@ -7,7 +7,7 @@ use lib.ListN.{length}
 use Rattle.mask.proofs.Laws.Bits.{fit-row}
 use Rattle.model.specs.Models.Apart.{depthWord}
 use Rattle.model.specs.Models.Run.{moveWords, passWords, stepWords}
-use Rattle.passes.specs.Less.{startWords}
+use Rattle.moves.specs.Less.{startWords}
 use Rattle.run.specs.Work.{masksOf, nextWords, noWords, rowAt}
 use Rattle.run.proofs.Image.Live.{step-says}
 use Rattle.word.proofs.Laws.Shape.{sections-of, shape-of}

@@ -2,7 +2,7 @@
 use mathlib.Core.Path.{ap, _∙_}
 use native.Mathlib.Omega.{arith}
 use Rattle.word.proofs.Laws.Nine.{nine-gather, nine-less, nine-propagate, nine-scatter}
-use Rattle.passes.specs.Less.{lessOne}
+use Rattle.moves.specs.Less.{lessOne}
 use Rattle.run.proofs.Laws.Table.{entry-lies}
 use borrow.Author.Needs.{needs}
 use Rattle.run.proofs.table.entry.Statement.{statement}

@@ -13,7 +13,7 @@ ghost use mathlib.Core.Bool.{false, true};
 ghost use lib.ListN.{take};
 ghost use Rattle.model.specs.Models.Run.{gatherWords, moveWords, propagateWords, scatterWords};
 ghost use Rattle.model.specs.Models.Words.{notWords, subtractWords, xorWords};
-ghost use Rattle.passes.specs.Less.{lessOne, plusWords, startWords};
+ghost use Rattle.moves.specs.Less.{lessOne, plusWords, startWords};
 
 // From each live union start to the starts of its alternatives: below the block's bit the difference sets all bits from the source on.
 pub fn scatter(live: Mask, block: Mask, source: Mask, target: Mask, n: usize) -> Mask

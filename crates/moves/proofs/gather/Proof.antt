@@ -1,7 +1,7 @@
 -- `gather` is what its steps give, put together.
 use borrow.Author.Needs.{needs}
-use Rattle.passes.proofs.gather.Statement.{statement}
-use Rattle.passes.proofs.gather.Tie as tie
+use Rattle.moves.proofs.gather.Statement.{statement}
+use Rattle.moves.proofs.gather.Tie as tie
 
 and-requires : tie.Need-and-requires
 and-requires c κs = search needs

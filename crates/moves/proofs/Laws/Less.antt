@@ -15,7 +15,7 @@ use Rattle.model.specs.Models.Words.{borrowOut, Fit, notWords, subtractWords, w
 use Rattle.model.proofs.Laws.Bool.{is-not, is-true, le-or-lt, or-left, or-right, or-split, unequal}
 use Rattle.model.proofs.Words.Ripple.{digit-small}
 use Rattle.mask.proofs.Laws.Carries.{differenceWord}
-use Rattle.passes.specs.Less.{lessOne, plusWords, startWords}
+use Rattle.moves.specs.Less.{lessOne, plusWords, startWords}
 
 pub take-plus : (n : ℕ) (xs : List ℕ) (c : Bool) → take n (plusWords xs c) ≡ plusWords (take n xs) c
 take-plus zero xs c = refl

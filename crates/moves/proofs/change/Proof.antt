@@ -2,10 +2,10 @@
 use mathlib.Core.Bool.{true}
 use lib.ListN.{take}
 use Rattle.mask.proofs.Laws.Bits.{fit-row}
-use Rattle.passes.proofs.Laws.Less.{complement-less, fit-take, take-plus}
+use Rattle.moves.proofs.Laws.Less.{complement-less, fit-take, take-plus}
 use borrow.Author.Needs.{needs}
-use Rattle.passes.proofs.change.Statement.{statement}
-use Rattle.passes.proofs.change.Tie as tie
+use Rattle.moves.proofs.change.Statement.{statement}
+use Rattle.moves.proofs.change.Tie as tie
 
 subtract-requires : tie.Need-subtract-requires
 subtract-requires c κs = search needs

@@ -9,8 +9,8 @@ use lib.Seq.{take-all}
 use mathlib.Core.Path.{_≡_}
 use Rattle.model.specs.Models.Words.{subtractWords}
 use borrow.Author.Needs.{needs}
-use Rattle.passes.proofs.less_one.Statement.{statement}
-use Rattle.passes.proofs.less_one.Tie as tie
+use Rattle.moves.proofs.less_one.Statement.{statement}
+use Rattle.moves.proofs.less_one.Tie as tie
 
 start-requires : tie.Need-start-requires
 start-requires c κs = search needs

@@ -1,7 +1,7 @@
 -- `advance` is what its steps give, put together.
 use borrow.Author.Needs.{needs}
-use Rattle.passes.proofs.advance.Statement.{statement}
-use Rattle.passes.proofs.advance.Tie as tie
+use Rattle.moves.proofs.advance.Statement.{statement}
+use Rattle.moves.proofs.advance.Tie as tie
 
 shift-requires : tie.Need-shift-requires
 shift-requires c κs = search needs

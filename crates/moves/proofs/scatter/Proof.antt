@@ -1,7 +1,7 @@
 -- `scatter` is what its steps give, put together.
 use borrow.Author.Needs.{needs}
-use Rattle.passes.proofs.scatter.Statement.{statement}
-use Rattle.passes.proofs.scatter.Tie as tie
+use Rattle.moves.proofs.scatter.Statement.{statement}
+use Rattle.moves.proofs.scatter.Tie as tie
 
 and-requires : tie.Need-and-requires
 and-requires c κs = search needs

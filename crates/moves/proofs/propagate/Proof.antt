@@ -1,7 +1,7 @@
 -- `propagate` is what its steps give, put together.
 use borrow.Author.Needs.{needs}
-use Rattle.passes.proofs.propagate.Statement.{statement}
-use Rattle.passes.proofs.propagate.Tie as tie
+use Rattle.moves.proofs.propagate.Statement.{statement}
+use Rattle.moves.proofs.propagate.Tie as tie
 
 and-requires : tie.Need-and-requires
 and-requires c κs = search needs

@@ -1,14 +1,16 @@
--- THE MASKS OF WORK: as they lie in the words of an image, with words of zeros above, and nine to a depth in one table.
+-- THE MASKS OF WORK: as they lie in the words of an image, with words of zeros above; by kinds; and the nine kinds side by side in one table.
 use mathlib.Core.Path.{_≡_}
+use mathlib.Core.Logic.{_≢_}
 use mathlib.Core.Bool.{true, _&&_, cond}
-use mathlib.Core.List.{List, [], _++_}
-use Prim.Native.Nat.{ℕ, zero, suc, _+_, _-_, _*_, _/_, _%_, _≤_, _<_}
-use lib.Dec.{eqb, leb, ltb}
+use mathlib.Core.List.{List, [], _∷_, _++_}
+use Prim.Native.Nat.{ℕ, zero, suc, _+_, _-_, _*_, _≤_, _<_}
+use lib.Dec.{leb}
 use lib.ListN.{drop, getD, length, replicate, take}
 use Rattle.model.specs.Models.Apart.{depthWord, gatherAt, propagateAt, scatterAt, stateWord}
 use Rattle.model.specs.Models.Run.{Masks, passWords, stepWords}
 use Rattle.moves.specs.Less.{lessOne, plusWords, startWords}
 use Rattle.word.specs.Ends.{endsWith}
+use Rattle.word.specs.One.{ofNine}
 use Rattle.word.specs.Shape.{shaped, widthOf}
 
 -- "A mask is one record of eight 64-bit words in work, and in the image its first W words"
@@ -29,16 +31,37 @@ masksOf ws =
       startMask = startWords;
     }
 
--- ---- THE TABLE: nine masks to a depth k. First the scatter and the gather masks of the unions whose alternatives lie at depth k, then the propagate
--- masks of depth k, the source less one
-abbrev pub entryAt : List ℕ → (W d k j : ℕ) → List ℕ
-entryAt ws W d k j =
-    cond (ltb j 3) (rowAt ws (7 + 509 * W + W * (3 * k + j)) W)
-    (cond (ltb j 6) (rowAt ws (8 + 506 * W + 3 * (W * d) + W * (3 * k + j)) W)
-    (cond (eqb j 7) (lessOne (rowAt ws (9 + 506 * W + 6 * (W * d) + W * (3 * k + j)) W)) (rowAt ws (9 + 506 * W + 6 * (W * d) + W * (3 * k + j)) W)))
+-- ---- MASKS BY KINDS: mask j of the three of each depth below n, from a section's first word on; rows of zeros above, nine in all
+abbrev pub rowsFrom : ℕ → ℕ → (ℕ → List ℕ) → List (List ℕ)
+rowsFrom zero k f = []
+rowsFrom (suc n) k f = f k ∷ rowsFrom n (suc k) f
+
+abbrev pub kindAt : List ℕ → (at W n j : ℕ) → List (List ℕ)
+kindAt ws at W n j = rowsFrom n 0 (λ k. rowAt ws (at + W * (3 * k + j)) W) ++ replicate (9 - n) (replicate 8 0)
+
+abbrev pub Lessened : (source below : List (List ℕ)) → Type 0
+Lessened source below = (k : ℕ) → k < 9 → getD below k [] ≡ lessOne (getD source k [])
+
+-- the mask of depth k of kind j: scatter's three, gather's three, propagate's three with the source less one
+abbrev pub kindRow : List ℕ → (W d j k : ℕ) → List ℕ
+kindRow ws W d j k =
+    let last = getD (kindAt ws (propagateAt W d) W (d + 1) (j - 6)) k [] in
+    ofNine j (getD (kindAt ws (scatterAt W) W d j) k []) (getD (kindAt ws (gatherAt W d) W d (j - 3)) k []) (lessOne last) last
+
+abbrev pub KindOf : List ℕ → (W d j : ℕ) → List (List ℕ) → Type 0
+KindOf ws W d j masks = (k : ℕ) → k < 9 → getD masks k [] ≡ kindRow ws W d j k
+
+-- ---- THE TABLE: the nine kinds side by side. What it is to put the first masks of one of them, and all
+pub record PutTo (count j : ℕ) (masks table new : List (List ℕ)) : Type 0 where
+  pub here : (k : ℕ) → k < count → getD new (9 * k + j) [] ≡ getD masks k []
+  pub there : (k i : ℕ) → i < 9 → i ≢ j → getD new (9 * k + i) [] ≡ getD table (9 * k + i) []
+  pub long : length new ≡ length table
+
+abbrev pub Put : (j : ℕ) (masks table new : List (List ℕ)) → Type 0
+Put = PutTo 9
 
 abbrev pub Entered : List ℕ → (W d : ℕ) → List (List ℕ) → Type 0
-Entered ws W d table = (i : ℕ) → i < 9 * (d + 1) → getD table i [] ≡ entryAt ws W d (i / 9) (i % 9)
+Entered ws W d table = (k j : ℕ) → k < 9 → j < 9 → getD table (9 * k + j) [] ≡ kindRow ws W d j k
 
 -- a depth's block, source and target
 abbrev pub three : (block source target : List ℕ) → ℕ → List ℕ
@@ -51,8 +74,8 @@ abbrev pub workMasks : List ℕ → ℕ → List (List ℕ) → Masks
 workMasks ws W table = record {
   letterMask = λ b. rowAt ws (5 + W * b) W;
   loopMask = λ b. rowAt ws (6 + W * (256 + b)) W;
-  scatterMask = λ k. three (getD table (9 * suc k) []) (getD table (9 * suc k + 1) []) (getD table (9 * suc k + 2) []);
-  gatherMask = λ k. three (getD table (9 * suc k + 3) []) (getD table (9 * suc k + 4) []) (getD table (9 * suc k + 5) []);
+  scatterMask = λ k. three (getD table (9 * k) []) (getD table (9 * k + 1) []) (getD table (9 * k + 2) []);
+  gatherMask = λ k. three (getD table (9 * k + 3) []) (getD table (9 * k + 4) []) (getD table (9 * k + 5) []);
   propagateMask = λ k. three (getD table (9 * k + 6) []) (plusWords (getD table (9 * k + 7) []) true) (getD table (9 * k + 8) []);
   startMask = startWords;
 }

@@ -78,8 +78,8 @@ pub fn rise(live: Mask, depth: usize, n: usize, table: &Table) -> Mask
     let mut k = depth;
     while k > 0 {
         let along = propagate_at(r, k, n, table);
-        r = gather_at(along, k, n, table);
         k -= 1;
+        r = gather_at(along, k, n, table);
     }
     propagate_at(r, 0, n, table)
 }
@@ -93,7 +93,7 @@ pub fn fall(live: Mask, depth: usize, n: usize, table: &Table) -> Mask
     let mut left = depth;
     while left > 0 {
         let k = depth - left;
-        let started = scatter_at(r, k + 1, n, table);
+        let started = scatter_at(r, k, n, table);
         r = propagate_at(started, k + 1, n, table);
         left -= 1;
     }

@@ -1,44 +1,102 @@
-// The table of work: the masks of scatter, gather and propagate for each depth, from the image's words. Nine masks of a depth lie side by side, so
-// that one index steps through them all.
+// The masks of work: from the image's words kind by kind, and then laid side by side, so that one index steps through all that a depth needs.
 use crate::rows::row_at;
 use moves::less_one;
 ghost use mathlib.Core.Path.{_≡_};
-ghost use Prim.Native.Nat.{_≤_, _<_};
-ghost use Rattle.run.specs.Work.{Entered, entryAt, Tables};
+ghost use Prim.Native.Nat.{_+_, _*_, _≤_, _<_};
+ghost use lib.ListN.{length};
+ghost use Rattle.run.specs.Work.{Entered, kindAt, KindOf, Lessened, Put, Tables};
 
+// The masks of a kind, block, source or target of a section, for depths 0 to 8.
+pub type Kind = [[u64; 8]; 9];
+
+// Nine kinds, nine masks to a depth.
 pub type Table = [[u64; 8]; 81];
 
-// Mask j of the nine of depth k.
-fn entry(image: &[u64], width: usize, depth: usize, k: usize, j: usize) -> [u64; 8]
-    requires { ⌜ Tables (now image) width depth × (k ≤ depth) × (j < 9) ⌝ }
-    ensures { λ r. ⌜ r ≡ entryAt (now (image .entry)) width depth k j ⌝ }
+// Mask `which` of the three of each depth below count, from a section's first word on.
+fn kind_at(image: &[u64], at: usize, width: usize, count: usize, which: usize) -> Kind
+    requires { ⌜ (width ≤ 8) × (count ≤ 9) × (which < 3) × (at + width * (3 * count) ≤ length (now image)) ⌝ }
+    ensures { λ r. ⌜ r ≡ kindAt (now (image .entry)) at width count which ⌝ }
 {
-    let within = width * (3 * k + j);
-    if j < 3 {
-        return row_at(image, 7 + 509 * width + within, width);
+    let none = [0u64; 8];
+    let mut r = [none; 9];
+    let mut k = 0;
+    while k < count {
+        let row = row_at(image, at + width * (3 * k + which), width);
+        r[k] = row;
+        k += 1;
     }
-    if j < 6 {
-        return row_at(image, 8 + 506 * width + 3 * (width * depth) + within, width);
-    }
-    let row = row_at(image, 9 + 506 * width + 6 * (width * depth) + within, width);
-    if j == 7 {
-        return less_one(row);
-    }
-    row
+    r
 }
 
-// The masks of depths 0 to d, zeros after.
+// Each mask less one.
+fn less_ones(source: Kind) -> Kind
+    ensures { λ r. ⌜ Lessened source r ⌝ }
+{
+    let mut r = source;
+    let mut k = 0;
+    while k < 9 {
+        let row = source[k];
+        let less = less_one(row);
+        r[k] = less;
+        k += 1;
+    }
+    r
+}
+
+// Kind j of the nine: scatter's three, gather's three, propagate's three with the source less one.
+fn kind(image: &[u64], width: usize, depth: usize, j: usize) -> Kind
+    requires { ⌜ Tables (now image) width depth × (j < 9) ⌝ }
+    ensures { λ r. ⌜ KindOf (now (image .entry)) width depth j r ⌝ }
+{
+    if j < 3 {
+        return kind_at(image, 7 + 512 * width, width, depth, j);
+    }
+    if j < 6 {
+        return kind_at(
+            image,
+            8 + 512 * width + 3 * (width * depth),
+            width,
+            depth,
+            j - 3,
+        );
+    }
+    let masks = kind_at(
+        image,
+        9 + 512 * width + 6 * (width * depth),
+        width,
+        depth + 1,
+        j - 6,
+    );
+    if j == 7 {
+        return less_ones(masks);
+    }
+    masks
+}
+
+// The masks of kind j into their places.
+fn put_kind(table: &mut Table, j: usize, masks: Kind)
+    requires { ⌜ (j < 9) × (length (now table) ≡ 81) ⌝ }
+    ensures { λ _. ⌜ Put j masks (now (table .entry)) (now (table .exit)) ⌝ }
+{
+    let mut k = 0;
+    while k < 9 {
+        let row = masks[k];
+        table[9 * k + j] = row;
+        k += 1;
+    }
+}
+
 pub fn table(image: &[u64], width: usize, depth: usize) -> Table
     requires { ⌜ Tables (now image) width depth ⌝ }
     ensures { λ r. ⌜ Entered (now (image .entry)) width depth r ⌝ }
 {
     let none = [0u64; 8];
     let mut r = [none; 81];
-    let mut i = 0;
-    while i < 9 * (depth + 1) {
-        let row = entry(image, width, depth, i / 9, i % 9);
-        r[i] = row;
-        i += 1;
+    let mut j = 0;
+    while j < 9 {
+        let masks = kind(image, width, depth, j);
+        put_kind(&mut r, j, masks);
+        j += 1;
     }
     r
 }

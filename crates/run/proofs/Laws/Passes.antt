@@ -1,39 +1,30 @@
--- ONE TURN OF THE LOOPS OVER THE DEPTHS, with the nine masks of a depth; that the passes look at no letter; and one byte: the move, up and down.
+-- ONE TURN OF THE LOOPS OVER THE DEPTHS; that the passes look at no letter; and one byte: the move, up and down.
 use mathlib.Core.Path.{_≡_, refl, ap, ap₂, _∙_}
 use mathlib.Core.List.{List, []}
-use Prim.Native.Nat.{ℕ, zero, suc, _+_, _-_, _*_, _≤_, _<_}
+use Prim.Native.Nat.{ℕ, zero, suc, _+_, _-_, _≤_, _<_}
 use native.Mathlib.Nat.{not-suc-le-zero}
 use native.Mathlib.Omega.{arith}
-use lib.ListN.{getD, length, take}
-use Rattle.model.specs.Models.Run.{fallWords, gatherBy, gatherWords, Masks, moveBy, passWords, propagateBy, riseWords, scatterBy, scatterWords}
+use lib.ListN.{length, take}
+use Rattle.model.specs.Models.Run.{fallWords, gatherBy, Masks, moveBy, passWords, propagateBy, riseWords, scatterBy}
 use Rattle.run.specs.Work.{cutMasks, passMasks, ruleMasks, Stepped, workMasks}
 
-module _ (n : ℕ) (table : List (List ℕ)) where
-  abbrev M : Masks
-  M = passMasks n table
-
-  abbrev pub gatherRow : ℕ → List ℕ → List ℕ
-  gatherRow k = gatherWords (take n (getD table (9 * k + 3) [])) (take n (getD table (9 * k + 4) [])) (take n (getD table (9 * k + 5) []))
-
-  abbrev pub scatterRow : ℕ → List ℕ → List ℕ
-  scatterRow k = scatterWords (take n (getD table (9 * k) [])) (take n (getD table (9 * k + 1) [])) (take n (getD table (9 * k + 2) []))
-
-  pub rise-turn : (k : ℕ) → 0 < k → (live : List ℕ) → riseWords M (k - 1) (gatherRow k (propagateBy M k live)) ≡ riseWords M k live
-  rise-turn zero h live = absurd (not-suc-le-zero h)
-  rise-turn (suc k) h live =
+module _ (M : Masks) where
+  pub rise-one : (k : ℕ) → 0 < k → (live : List ℕ) → riseWords M (k - 1) (gatherBy M (k - 1) (propagateBy M k live)) ≡ riseWords M k live
+  rise-one zero h live = absurd (not-suc-le-zero h)
+  rise-one (suc k) h live =
       let e : suc k - 1 ≡ k = omega arith in
-      ap (λ (j : ℕ). riseWords M j (gatherRow (suc k) (propagateBy M (suc k) live))) e
+      ap (λ (j : ℕ). riseWords M j (gatherBy M j (propagateBy M (suc k) live))) e
 
-  -- with some of d depths left
-  pub fall-turn : (d left : ℕ) → 0 < left → left ≤ d → (live : List ℕ)
-      → fallWords M (left - 1) (d - (left - 1)) (propagateBy M (d - left + 1) (scatterRow (d - left + 1) live)) ≡ fallWords M left (d - left) live
-  fall-turn d zero h l live = absurd (not-suc-le-zero h)
-  fall-turn d (suc i) h l live =
-      let e : suc i - 1 ≡ i = omega arith in
-      let f : d - (suc i - 1) ≡ suc (d - suc i) = omega arith in
-      let g : d - suc i + 1 ≡ suc (d - suc i) = omega arith in
-      ap₂ (λ (a b : ℕ). fallWords M a b (propagateBy M (d - suc i + 1) (scatterRow (d - suc i + 1) live))) e f
-      ∙ ap (λ (k : ℕ). fallWords M i (suc (d - suc i)) (propagateBy M k (scatterRow k live))) g
+  -- with n depths of d left
+  pub fall-one : (d n : ℕ) → 0 < n → n ≤ d → (live : List ℕ)
+      → fallWords M (n - 1) (d - (n - 1)) (propagateBy M (d - n + 1) (scatterBy M (d - n) live)) ≡ fallWords M n (d - n) live
+  fall-one d zero h l live = absurd (not-suc-le-zero h)
+  fall-one d (suc n) h l live =
+      let e : suc n - 1 ≡ n = omega arith in
+      let f : d - (suc n - 1) ≡ suc (d - suc n) = omega arith in
+      let g : d - suc n + 1 ≡ suc (d - suc n) = omega arith in
+      ap₂ (λ (i j : ℕ). fallWords M i j (propagateBy M (d - suc n + 1) (scatterBy M (d - suc n) live))) e f
+      ∙ ap (λ (j : ℕ). fallWords M n (suc (d - suc n)) (propagateBy M j (scatterBy M (d - suc n) live))) g
 
 -- the passes look at no letter
 module _ (n : ℕ) (ws ws′ : List ℕ) (W W′ : ℕ) (table : List (List ℕ)) where

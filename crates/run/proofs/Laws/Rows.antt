@@ -1,13 +1,16 @@
--- MASKS AS THEY LIE IN WORDS, with zeros above: a row made word by word; it has at most eight, and each fits in 64 bits.
-use mathlib.Core.Path.{_≡_, sym, ap, _∙_}
+-- MASKS AS THEY LIE IN WORDS, with zeros above, and by kinds: a row made word by word has at most eight, and each fits in 64 bits; the masks of a kind
+-- made row by row.
+use mathlib.Core.Path.{_≡_, refl, sym, ap, _∙_}
 use mathlib.Core.List.{List, [], _∷_, _++_, append-assoc}
-use Prim.Native.Nat.{ℕ, zero, suc, _+_, _-_, _≤_, _<_}
+use Prim.Native.Nat.{ℕ, zero, suc, _+_, _-_, _*_, _≤_, _<_}
+use native.Mathlib.Nat.{add-suc, add-zero, le-of-suc-le-suc, not-suc-le-zero, suc-add}
 use native.Mathlib.Omega.{arith}
 use lib.ListN.{drop, getD, length, length-append, length-drop, length-replicate, replicate, set, take}
 use lib.Seq.{getD-drop, length-take-le, set-at, take-suc}
 use Rattle.model.specs.Models.Words.{Fit}
+use Rattle.model.proofs.Image.Address.{part-fits}
 use Rattle.moves.proofs.Laws.Less.{fit-take}
-use Rattle.run.specs.Work.{rowAt}
+use Rattle.run.specs.Work.{kindAt, rowAt, rowsFrom}
 
 -- ---- a row made word by word: what was made so far is the row of fewer words
 pub row-more : (ws : List ℕ) (at i : ℕ) → i < 8 → at + i < length ws → set (rowAt ws at i) i (getD ws (at + i) 0) ≡ rowAt ws at (i + 1)
@@ -55,3 +58,51 @@ fit-pad (x ∷ xs) n F = (F .0, fit-pad xs n (F .1))
 
 pub fit-at : (ws : List ℕ) (at W : ℕ) → Fit ws → Fit (rowAt ws at W)
 fit-at ws at W F = fit-pad (take W (drop at ws)) (8 - W) (fit-take W (drop at ws) (fit-drop at ws F))
+
+-- ---- rows one after another
+rows-length : (n k : ℕ) (f : ℕ → List ℕ) → length (rowsFrom n k f) ≡ n
+rows-length zero k f = refl
+rows-length (suc n) k f = ap suc (rows-length n (suc k) f)
+
+rows-last : (n k : ℕ) (f : ℕ → List ℕ) → rowsFrom (suc n) k f ≡ rowsFrom n k f ++ (f (k + n) ∷ [])
+rows-last zero k f = ap (λ (i : ℕ). f i ∷ []) (sym (add-zero k))
+rows-last (suc n) k f =
+    ap (λ (l : List (List ℕ)). f k ∷ l)
+    (rows-last n (suc k) f ∙ ap (λ (i : ℕ). rowsFrom n (suc k) f ++ (f i ∷ [])) (suc-add k n ∙ sym (add-suc k n)))
+
+rows-at : (n a : ℕ) (f : ℕ → List ℕ) (r : List (List ℕ)) (k : ℕ) → k < n → getD (rowsFrom n a f ++ r) k [] ≡ f (a + k)
+rows-at zero a f r k h = absurd (not-suc-le-zero h)
+rows-at (suc n) a f r zero h = ap f (sym (add-zero a))
+rows-at (suc n) a f r (suc k) h = rows-at n (suc a) f r k (le-of-suc-le-suc h) ∙ ap f (suc-add a k ∙ sym (add-suc a k))
+
+-- ---- the masks of a kind: each, and one more
+module _ (ws : List ℕ) (at W j : ℕ) where
+  abbrev rowOf : ℕ → List ℕ
+  rowOf k = rowAt ws (at + W * (3 * k + j)) W
+
+  pub kind-row : (n k : ℕ) → k < n → getD (kindAt ws at W n j) k [] ≡ rowOf k
+  kind-row n k h = rows-at n 0 rowOf (replicate (9 - n) (replicate 8 0)) k h ∙ ap rowOf (let e : 0 + k ≡ k = omega arith in e)
+
+  pub kind-more : (n : ℕ) → n < 9 → set (kindAt ws at W n j) n (rowOf n) ≡ kindAt ws at W (n + 1) j
+  kind-more n h =
+      ap (λ (i : ℕ). set (rowsFrom n 0 rowOf ++ replicate i (replicate 8 0)) n (rowOf n)) left
+      ∙ set-at (rowsFrom n 0 rowOf) (replicate 8 0) rest (rowOf n) n (rows-length n 0 rowOf)
+      ∙ sym (append-assoc (rowsFrom n 0 rowOf) (rowOf n ∷ []) rest)
+      ∙ ap (λ (l : List (List ℕ)). l ++ rest) (ap (λ (i : ℕ). rowsFrom n 0 rowOf ++ (rowOf i ∷ [])) none ∙ sym (rows-last n 0 rowOf))
+      ∙ ap (λ (i : ℕ). rowsFrom i 0 rowOf ++ rest) one
+    where
+      rest : List (List ℕ)
+      rest = replicate (9 - (n + 1)) (replicate 8 0)
+
+      left : 9 - n ≡ suc (9 - (n + 1))
+      left = omega arith
+
+      none : n ≡ 0 + n
+      none = omega arith
+
+      one : suc n ≡ n + 1
+      one = omega arith
+
+-- ---- each lies within the section
+pub within-kind : (W n k j : ℕ) → k < n → j < 3 → W * (3 * k + j) + W ≤ W * (3 * n)
+within-kind W n k j h l = part-fits W {k = 3 * k + j} {n = 3 * n} (omega arith)

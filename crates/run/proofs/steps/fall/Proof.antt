@@ -5,7 +5,7 @@ use lib.ListN.{take}
 use Prim.Native.Nat.{ℕ, _+_, _-_, _≤_}
 use Rattle.model.specs.Models.Run.{fallWords, propagateBy}
 use Rattle.run.specs.Work.{passMasks}
-use Rattle.run.proofs.Laws.Passes.{fall-turn}
+use Rattle.run.proofs.Laws.Passes.{fall-one}
 use borrow.Author.Needs.{needs}
 use Rattle.run.proofs.steps.fall.Statement.{statement}
 use Rattle.run.proofs.steps.fall.Tie as tie
@@ -25,9 +25,6 @@ loop-holds c =
 
 sub-k : tie.Need-sub-k Inv-loop μ-loop
 sub-k c = search needs
-
-add-scatter-at : tie.Need-add-scatter-at Inv-loop μ-loop
-add-scatter-at c = search needs
 
 scatter-at-requires : tie.Need-scatter-at-requires Inv-loop μ-loop
 scatter-at-requires c κs = search needs
@@ -51,7 +48,7 @@ loop-again c =
     let M = passMasks (a .n) (a .table .now) in (
       omega arith,
       ap (fallWords M (l .left - 1) (a .depth - (l .left - 1))) (c .propagate-at .ensures ∙ ap (propagateBy M (a .depth - l .left + 1)) (c .before .scatter-at .ensures))
-          ∙ fall-turn (a .n) (a .table .now) (a .depth) (l .left) (c .before .before .loop-test .taken) (l .inv .0) (take (a .n) (l .r .words)) ∙ l .inv .1,
+          ∙ fall-one M (a .depth) (l .left) (c .before .before .loop-test .taken) (l .inv .0) (take (a .n) (l .r .words)) ∙ l .inv .1,
     )
 
 returns : tie.Need-returns Inv-loop μ-loop
@@ -69,7 +66,6 @@ fall-spec =
     μ-loop
     loop-holds
     sub-k
-    add-scatter-at
     scatter-at-requires
     add-propagate-at
     propagate-at-requires

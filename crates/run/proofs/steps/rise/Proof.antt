@@ -3,9 +3,9 @@ use mathlib.Core.Path.{_≡_, refl, ap, sym, _∙_}
 use native.Mathlib.Omega.{arith}
 use lib.ListN.{take}
 use Prim.Native.Nat.{ℕ, _-_, _≤_}
-use Rattle.model.specs.Models.Run.{riseWords}
+use Rattle.model.specs.Models.Run.{gatherBy, riseWords}
 use Rattle.run.specs.Work.{passMasks}
-use Rattle.run.proofs.Laws.Passes.{gatherRow, rise-turn}
+use Rattle.run.proofs.Laws.Passes.{rise-one}
 use borrow.Author.Needs.{needs}
 use Rattle.run.proofs.steps.rise.Statement.{statement}
 use Rattle.run.proofs.steps.rise.Tie as tie
@@ -23,11 +23,11 @@ loop-holds c = (omega arith, refl)
 propagate-at-requires : tie.Need-propagate-at-requires Inv-loop μ-loop
 propagate-at-requires c κs = search needs
 
-gather-at-requires : tie.Need-gather-at-requires Inv-loop μ-loop
-gather-at-requires c κs = search needs
-
 sub-k : tie.Need-sub-k Inv-loop μ-loop
 sub-k c = search needs
+
+gather-at-requires : tie.Need-gather-at-requires Inv-loop μ-loop
+gather-at-requires c κs = search needs
 
 loop-less : tie.Need-loop-less Inv-loop μ-loop
 loop-less c = search needs
@@ -38,8 +38,7 @@ loop-again c =
     let a = c .before .before .before .before .args in
     let M = passMasks (a .n) (a .table .now) in (
       omega arith,
-      ap (riseWords M (l .k - 1)) (c .gather-at .ensures ∙ ap (gatherRow (a .n) (a .table .now) (l .k)) (c .before .propagate-at .ensures))
-          ∙ rise-turn (a .n) (a .table .now) (l .k) (c .before .before .loop-test .taken) (take (a .n) (l .r .words)) ∙ l .inv .1,
+      ap (riseWords M (l .k - 1)) (c .gather-at .ensures ∙ ap (gatherBy M (l .k - 1)) (c .before .propagate-at .ensures)) ∙ rise-one M (l .k) (c .before .before .loop-test .taken) (take (a .n) (l .r .words)) ∙ l .inv .1,
     )
 
 propagate-at-requires-2 : tie.Need-propagate-at-requires-2 Inv-loop μ-loop
@@ -60,8 +59,8 @@ rise-spec =
     μ-loop
     loop-holds
     propagate-at-requires
-    gather-at-requires
     sub-k
+    gather-at-requires
     loop-less
     loop-again
     propagate-at-requires-2

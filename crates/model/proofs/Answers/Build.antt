@@ -14,7 +14,7 @@ use Rattle.model.specs.Edges.{depth, states}
 use Rattle.model.specs.Image.{image}
 use Rattle.model.specs.Answers.{Answer, BuildSays, built, done, no-room, not-a-rule, refused, rule-too-long, too-deep, too-many-states}
 use Rattle.model.specs.Models.Reader.{readRule}
-use Rattle.model.proofs.Laws.Bool.{le-false, le-or-lt, le-true}
+use Rattle.model.proofs.Laws.Bool.{le-or-lt, pick-gt, pick-le}
 use Rattle.model.proofs.Reading.Decides.{reads}
 
 -- ---- the answer, computed: checks 3 to 5 on a tree, check 2 on what was read, check 1 on the rule
@@ -31,10 +31,36 @@ readAnswer (some t) before = treeAnswer t before
 abbrev pub buildAnswer : List ℕ → List ℕ → Answer
 buildAnswer rule before = cond (leb (length rule) 1024) (readAnswer (readRule rule) before) (refused 1 before)
 
+-- ---- a check that fails, and one that passes
+module _ (t : Tree) (before : List ℕ) where
+  abbrev byRoom : Answer
+  byRoom = cond (leb (length (image t)) (length before)) (done (image t) before) (refused 5 before)
+
+  abbrev byDepth : Answer
+  byDepth = cond (leb (depth t) 8) byRoom (refused 4 before)
+
+  many : 512 < states t → treeAnswer t before ≡ refused 3 before
+  many m = pick-gt (states t) 512 byDepth (refused 3 before) m
+
+  deep : states t ≤ 512 → 8 < depth t → treeAnswer t before ≡ refused 4 before
+  deep m k = pick-le (states t) 512 byDepth (refused 3 before) m ∙ pick-gt (depth t) 8 byRoom (refused 4 before) k
+
+  near : states t ≤ 512 → depth t ≤ 8 → treeAnswer t before ≡ byRoom
+  near m k = pick-le (states t) 512 byDepth (refused 3 before) m ∙ pick-le (depth t) 8 byRoom (refused 4 before) k
+
+  wide : states t ≤ 512 → depth t ≤ 8 → length before < length (image t) → treeAnswer t before ≡ refused 5 before
+  wide m k r = near m k ∙ pick-gt (length (image t)) (length before) (done (image t) before) (refused 5 before) r
+
+  fits : states t ≤ 512 → depth t ≤ 8 → length (image t) ≤ length before → treeAnswer t before ≡ done (image t) before
+  fits m k r = near m k ∙ pick-le (length (image t)) (length before) (done (image t) before) (refused 5 before) r
+
 -- ---- what the table says is that answer
 module _ (rule before : List ℕ) where
   short : length rule ≤ 1024 → buildAnswer rule before ≡ readAnswer (readRule rule) before
-  short l = rw (le-true (length rule) 1024 l)
+  short l = pick-le (length rule) 1024 (readAnswer (readRule rule) before) (refused 1 before) l
+
+  long : 1024 < length rule → buildAnswer rule before ≡ refused 1 before
+  long l = pick-gt (length rule) 1024 (readAnswer (readRule rule) before) (refused 1 before) l
 
   read : (t : Tree) → length rule ≤ 1024 → IsRule rule t → buildAnswer rule before ≡ treeAnswer t before
   read t l d = short l ∙ ap (λ (o : Option Tree). readAnswer o before) (reads rule t .0 d)
@@ -47,12 +73,12 @@ module _ (rule before : List ℕ) where
       go (some t) e = absurd (f t (reads rule t .1 e))
 
   pub build-is : (a : Answer) → BuildSays rule before a → a ≡ buildAnswer rule before
-  build-is a (rule-too-long l e) = e ∙ sym (rw (le-false (length rule) 1024 l))
+  build-is a (rule-too-long l e) = e ∙ sym (long l)
   build-is a (not-a-rule l f e) = e ∙ sym (short l ∙ ap (λ (o : Option Tree). readAnswer o before) (unread f))
-  build-is a (too-many-states t l d m e) = e ∙ sym (read t l d ∙ rw (le-false (states t) 512 m))
-  build-is a (too-deep t l d m k e) = e ∙ sym (read t l d ∙ rw (le-true (states t) 512 m, le-false (depth t) 8 k))
-  build-is a (no-room t l d m k r e) = e ∙ sym (read t l d ∙ rw (le-true (states t) 512 m, le-true (depth t) 8 k, le-false (length (image t)) (length before) r))
-  build-is a (built t l d m k r e) = e ∙ sym (read t l d ∙ rw (le-true (states t) 512 m, le-true (depth t) 8 k, le-true (length (image t)) (length before) r))
+  build-is a (too-many-states t l d m e) = e ∙ sym (read t l d ∙ many t before m)
+  build-is a (too-deep t l d m k e) = e ∙ sym (read t l d ∙ deep t before m k)
+  build-is a (no-room t l d m k r e) = e ∙ sym (read t l d ∙ wide t before m k r)
+  build-is a (built t l d m k r e) = e ∙ sym (read t l d ∙ fits t before m k r)
 
   -- THE TABLE SAYS SOMETHING FOR EVERY INPUT
   pub build-total : BuildSays rule before (buildAnswer rule before)
@@ -63,16 +89,16 @@ module _ (rule before : List ℕ) where
 
       roomy : (t : Tree) → length rule ≤ 1024 → IsRule rule t → states t ≤ 512 → depth t ≤ 8
           → (length (image t) ≤ length before) ⊎ (length before < length (image t)) → Said
-      roomy t l d m k (inl r) = built t l d m k r (read t l d ∙ rw (le-true (states t) 512 m, le-true (depth t) 8 k, le-true (length (image t)) (length before) r))
-      roomy t l d m k (inr r) = no-room t l d m k r (read t l d ∙ rw (le-true (states t) 512 m, le-true (depth t) 8 k, le-false (length (image t)) (length before) r))
+      roomy t l d m k (inl r) = built t l d m k r (read t l d ∙ fits t before m k r)
+      roomy t l d m k (inr r) = no-room t l d m k r (read t l d ∙ wide t before m k r)
 
       shallow : (t : Tree) → length rule ≤ 1024 → IsRule rule t → states t ≤ 512 → (depth t ≤ 8) ⊎ (8 < depth t) → Said
       shallow t l d m (inl k) = roomy t l d m k (le-or-lt (length (image t)) (length before))
-      shallow t l d m (inr k) = too-deep t l d m k (read t l d ∙ rw (le-true (states t) 512 m, le-false (depth t) 8 k))
+      shallow t l d m (inr k) = too-deep t l d m k (read t l d ∙ deep t before m k)
 
       few : (t : Tree) → length rule ≤ 1024 → IsRule rule t → (states t ≤ 512) ⊎ (512 < states t) → Said
       few t l d (inl m) = shallow t l d m (le-or-lt (depth t) 8)
-      few t l d (inr m) = too-many-states t l d m (read t l d ∙ rw (le-false (states t) 512 m))
+      few t l d (inr m) = too-many-states t l d m (read t l d ∙ many t before m)
 
       known : length rule ≤ 1024 → (o : Option Tree) → readRule rule ≡ o → Said
       known l none e = not-a-rule l (λ t d. no-tree t (sym e ∙ reads rule t .0 d)) (short l ∙ ap (λ (o : Option Tree). readAnswer o before) e)
@@ -83,7 +109,7 @@ module _ (rule before : List ℕ) where
 
       go : (length rule ≤ 1024) ⊎ (1024 < length rule) → Said
       go (inl l) = known l (readRule rule) refl
-      go (inr l) = rule-too-long l (rw (le-false (length rule) 1024 l))
+      go (inr l) = rule-too-long l (long l)
 
 -- TWO ANSWERS THAT MEET BUILD'S TABLE FOR ONE INPUT ARE EQUAL
 pub build-one : (rule before : List ℕ) (a b : Answer) → BuildSays rule before a → BuildSays rule before b → a ≡ b

@@ -12,8 +12,8 @@ use lib.ListN.{length, length-append}
 use Rattle.model.specs.Lists.{within}
 use Rattle.model.specs.Bits.{bit}
 use Rattle.model.specs.Bytes.{byte, bytes, plain}
-use Rattle.model.specs.Grammar.{bare, beside, class, dot, escape, escaped, IsLetter, IsMember, IsMembers, IsSingle, itself, member, plain-byte, range, single}
-use Rattle.model.specs.Models.Reader.{bad, got, past, readLetter, readMember, readMembers, readSingle}
+use Rattle.model.specs.Grammar.{bare, beside, class, dot, escape, escaped, IsLetter, IsMember, IsMembers, IsSingle, itself, member, plain-byte, range, single, span}
+use Rattle.model.specs.Models.Reader.{bad, bind, case, got, past, Read, readLetter, readMember, readMembers, readSingle}
 use Rattle.model.proofs.Laws.Bool.{is-true, le-true}
 use Rattle.model.proofs.Reading.Answers.{begins, bind-sound, case-past-sound, cond-sound, equal-sound, map-sound, not-among, parted, past-other, Sound, stopped, took}
 use Rattle.model.proofs.Reading.Escapes.{complete-escape, escape-tail, Least, sound-escape}
@@ -64,10 +64,23 @@ sound-member l =
     took (u ++ (byte "-" ∷ v)) (cc (append-assoc u (byte "-" ∷ v) r″)) (range refl refl (b .1) (d .0) (b .0))))
     (took u e (single refl (d .0))))
 
+-- the reader, whatever a range comes to: `span` is a sum over 256 bytes, and nothing here asks which
+module _ (between : ℕ → ℕ → ℕ) where
+  abbrev readBetween : List ℕ → Read ℕ
+  readBetween l =
+      bind (readSingle 0 l) (λ lo r. case (past (byte "-") r) (λ x r′. bind (readSingle lo r′) (λ hi r″. got (between lo hi) r″)) (got (between lo lo) r))
+
+  between-single : {w : List ℕ} {c b : ℕ} → c ≡ between b b → IsSingle w b → (r : List ℕ) → past (byte "-") r ≡ bad r → readBetween (w ++ r) ≡ got c r
+  between-single q d r f = rw (complete-single 0 (omega arith) d r, f, q)
+
+  between-range : {w u v : List ℕ} {c lo hi : ℕ} → w ≡ u ++ (byte "-" ∷ v) → c ≡ between lo hi → lo ≤ hi → IsSingle u lo → IsSingle v hi
+      → (r : List ℕ) → readBetween (w ++ r) ≡ got c r
+  between-range {w} {u} {v} {lo = lo} p q k d b r =
+      rw (parted w u (byte "-" ∷ v) r p, complete-single 0 (omega arith) d (byte "-" ∷ (v ++ r)), complete-single lo k b r, q)
+
 complete-member : {w : List ℕ} {c : ℕ} → IsMember w c → (r : List ℕ) → past (byte "-") r ≡ bad r → readMember (w ++ r) ≡ got c r
-complete-member (single q d) r f = rw (complete-single 0 (omega arith) d r, f, q)
-complete-member (range {w} {u} {v} {lo} p q k d b) r f =
-    rw (parted w u (byte "-" ∷ v) r p, complete-single 0 (omega arith) d (byte "-" ∷ (v ++ r)), complete-single lo k b r, q)
+complete-member (single q d) r f = between-single span q d r f
+complete-member (range p q k d b) r f = between-range span p q k d b r
 
 member-inside : {w : List ℕ} {c : ℕ} → IsMember w c → T (inside w)
 member-inside (single q d) = single-inside d

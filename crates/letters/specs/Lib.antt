@@ -1,5 +1,3 @@
--- Answers: what the readers promise. The others: what they read, and the bytes of a class.
-pub mod Kinds
+-- Answers: what the readers promise. Classes: the bytes of a class, and what is read of it.
 pub mod Classes
-pub mod Repeats
 pub mod Answers

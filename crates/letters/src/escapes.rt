@@ -1,9 +1,9 @@
 // Escapes, after their `\`. A reader is told the least byte lo that will do, and stops where no byte of at least lo can come any more.
 use crate::Byte;
-use crate::byte_at;
-use crate::kinds::is_digit;
-use crate::kinds::is_escaped;
-use crate::kinds::is_hex;
+use kinds::byte_at;
+use kinds::is_digit;
+use kinds::is_escaped;
+use kinds::is_hex;
 ghost use mathlib.Core.Bool.{true};
 ghost use mathlib.Core.Path.{_≡_};
 ghost use Prim.Native.Nat.{_≤_};

@@ -1,15 +1,15 @@
 // Letters: plain bytes, escapes, `.` and classes.
 use crate::Byte;
 use crate::Letter;
-use crate::byte_at;
 use crate::classes::every;
 use crate::classes::none;
 use crate::classes::one;
 use crate::classes::or;
 use crate::classes::span;
 use crate::escapes::read_escape;
-use crate::kinds::is_bare;
-use crate::kinds::is_plain;
+use kinds::byte_at;
+use kinds::is_bare;
+use kinds::is_plain;
 ghost use Prim.Native.Nat.{_≤_};
 ghost use lib.ListN.{drop, length};
 ghost use Rattle.model.specs.Models.Reader.{readLetter, readMember, readSingle};

@@ -9,7 +9,7 @@ use Rattle.model.specs.Grammar.{bracket, repeated}
 use Rattle.model.specs.Models.Reader.{bind, got, past, Read, readSign}
 use Rattle.model.specs.Models.Tokens.{aClose, anOpen, Token, tokens}
 use Rattle.model.specs.Tree.{Alts, last, more, Seq}
-use Rattle.letters.specs.Answers.{Stopped, Took}
+use Rattle.kinds.specs.Places.{Stopped, Took}
 use Rattle.tape.specs.Rows.{rowWords, tokenWords}
 use Rattle.rule.specs.Tokens.{between, opened}
 use Rattle.rule.specs.declared.Alternatives.{Alternatives}

@@ -1,8 +1,8 @@
 // Tokens, written down as they are read: five words for each, its kind and its class. There is room for the 511 tokens between 512 states; what
 // lies past them is counted by the readers, and not written.
 use letters::Class;
-use letters::Repeat;
 use letters::none;
+use signs::Repeat;
 ghost use mathlib.Core.Path.{_≡_};
 ghost use mathlib.Core.List.{[], _∷_};
 ghost use Prim.Native.Nat.{_+_, _-_, _*_, _^_, _≤_, _<_};
@@ -11,9 +11,9 @@ ghost use lib.Seq.{sets};
 ghost use Rattle.model.specs.Grammar.{repeated};
 ghost use Rattle.model.specs.Image.{words};
 ghost use Rattle.model.specs.Models.Tokens.{anOpen, tokens as tokensOf};
-ghost use Rattle.letters.specs.Answers.{signOf};
+ghost use Rattle.signs.specs.Answers.{signOf};
 ghost use Rattle.letters.specs.Classes.{bytesOf, wordsOf};
-ghost use Rattle.letters.specs.Repeats.{Bounded};
+ghost use Rattle.signs.specs.Repeats.{Bounded};
 ghost use Rattle.tape.specs.Rows.{rowWords, tokenWords};
 ghost use Rattle.rule.specs.Tokens.{opened, timesWords};
 

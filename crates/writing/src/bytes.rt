@@ -1,5 +1,5 @@
 // Single bytes and runs of them.
-use letters::is_escaped;
+use kinds::is_escaped;
 ghost use mathlib.Core.Path.{_≡_};
 ghost use Prim.Native.Nat.{_+_, _^_, _<_};
 ghost use lib.ListN.{length, set};

@@ -9,7 +9,7 @@ use Rattle.model.specs.Lists.{within}
 use Rattle.model.specs.Bytes.{byte, digital, hexadecimal, signs}
 use Rattle.model.specs.Models.Reader.{bad, got, hexValue, readEscape, readHex, readHexes}
 use Rattle.model.proofs.Laws.Bool.{and-split, le-false, le-true, unequal}
-use Rattle.letters.proofs.Laws.Table.{each-below}
+use Rattle.kinds.proofs.Laws.Table.{each-below}
 
 -- ---- the value of a hex digit: one test of all bytes
 abbrev valued : ℕ → Bool

@@ -9,10 +9,11 @@ use lib.ListN.{drop, getD, length, length-drop}
 use Rattle.model.specs.Bytes.{byte}
 use Rattle.model.specs.Models.Reader.{bad, bind, case, got, past, Read, readMember, readMembers}
 use Rattle.model.proofs.Laws.Bool.{unequal}
-use Rattle.letters.specs.Answers.{Stopped, Took}
+use Rattle.kinds.specs.Places.{Stopped, Took}
 use Rattle.letters.specs.Classes.{afterBracket}
-use Rattle.letters.proofs.Laws.Places.{inside, stays, takes, took-as}
-use Rattle.letters.proofs.Laws.Progress.{further, member-falls}
+use Rattle.kinds.proofs.Laws.Places.{inside, stays, takes, took-as}
+use Rattle.kinds.proofs.Laws.Progress.{further}
+use Rattle.letters.proofs.Laws.Progress.{member-falls}
 
 -- one member d, with c for those before it: `]`, or more members
 abbrev afterMember : ℕ → ℕ → ℕ → List ℕ → Read ℕ

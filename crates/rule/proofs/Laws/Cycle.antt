@@ -14,18 +14,18 @@ use Rattle.model.specs.Models.Tokens.{aBar, aClose, anOpen, Token}
 use Rattle.model.specs.Tree.{Alts, end, glue, last, more, once, option, Seq}
 use Rattle.model.proofs.Laws.Bool.{is-true, unequal}
 use Rattle.model.proofs.Reading.Cycle.{alts, alts-is, item, item-falls, item-is, seq, seq-falls, seq-is}
-use Rattle.letters.specs.Answers.{Stopped, Took}
+use Rattle.kinds.specs.Places.{Stopped, Took}
 use Rattle.rule.specs.Parts.{AlternativesSay, bracketed, bracketWords, closed, Countable, PartSays, Sane, seqTokens, severalOf, Wrote}
-use Rattle.letters.specs.Repeats.{Bounded}
+use Rattle.signs.specs.Repeats.{Bounded}
 use Rattle.tape.specs.Rows.{rowWords, tokenWords}
 use Rattle.rule.specs.Tokens.{between, opened}
 use Rattle.rule.specs.declared.Alternatives.{Alternatives}
 use Rattle.rule.specs.declared.Alternatives.the-variants.{Bad as noAlternatives, One, Several}
 use Rattle.rule.specs.declared.Part.{Part}
 use Rattle.rule.specs.declared.Part.the-variants.{Bad as noPart, Got as aPart}
-use Rattle.letters.proofs.Laws.Binds.{bind-stops}
-use Rattle.letters.proofs.Laws.Places.{here, inside, stays}
-use Rattle.letters.proofs.Laws.Progress.{further}
+use Rattle.kinds.proofs.Laws.Binds.{bind-stops}
+use Rattle.kinds.proofs.Laws.Places.{here, inside, stays}
+use Rattle.kinds.proofs.Laws.Progress.{further}
 use Rattle.rule.proofs.Laws.Rows.{glue-tokens, union-tokens}
 use Rattle.rule.proofs.Laws.Written.{copies-length, opened-row, sets-row-append}
 

@@ -11,7 +11,7 @@ use Rattle.model.specs.Lists.{within}
 use Rattle.model.specs.Models.Reader.{readEscape, readHexes}
 use Rattle.letters.specs.Answers.{ByteSays}
 use Rattle.letters.proofs.Laws.Escapes.{escape-low, escape-number, escape-other, escape-sign}
-use Rattle.letters.proofs.Laws.Places.{goes, inside, passes, stops, takes}
+use Rattle.kinds.proofs.Laws.Places.{goes, inside, passes, stops, takes}
 use Rattle.letters.proofs.escapes.read_escape.Statement.{statement}
 use Rattle.letters.proofs.escapes.read_escape.Tie as tie
 

@@ -6,7 +6,7 @@ use borrow.Author.Tests.{not-false, not-true}
 use Rattle.model.specs.Bytes.{hexadecimal}
 use Rattle.model.specs.Models.Reader.{readHex}
 use Rattle.letters.proofs.Laws.Escapes.{hex-got, hex-low, hex-other}
-use Rattle.letters.proofs.Laws.Places.{passes, stops, takes}
+use Rattle.kinds.proofs.Laws.Places.{passes, stops, takes}
 use Rattle.letters.proofs.escapes.read_hex.Statement.{statement}
 use Rattle.letters.proofs.escapes.read_hex.Tie as tie
 

@@ -10,7 +10,7 @@ use Rattle.model.specs.Bytes.{hexadecimal}
 use Rattle.model.specs.Models.Reader.{readHex, readHexes}
 use Rattle.letters.specs.Answers.{ByteSays}
 use Rattle.letters.proofs.Laws.Escapes.{hexes-go, hexes-low, hexes-other}
-use Rattle.letters.proofs.Laws.Places.{goes, passes, stops}
+use Rattle.kinds.proofs.Laws.Places.{goes, passes, stops}
 use Rattle.letters.proofs.escapes.read_hexes.Statement.{statement}
 use Rattle.letters.proofs.escapes.read_hexes.Tie as tie
 

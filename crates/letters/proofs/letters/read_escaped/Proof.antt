@@ -2,7 +2,7 @@
 use Prim.Native.Nat.{ℕ, _^_}
 use borrow.Author.Needs.{needs}
 use Rattle.model.specs.Models.Reader.{got}
-use Rattle.letters.proofs.Laws.Binds.{bind-gives, bind-stops}
+use Rattle.kinds.proofs.Laws.Binds.{bind-gives, bind-stops}
 use Rattle.letters.proofs.letters.read_escaped.Statement.{statement}
 use Rattle.letters.proofs.letters.read_escaped.Tie as tie
 

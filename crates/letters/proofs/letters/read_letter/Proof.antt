@@ -7,7 +7,7 @@ use Rattle.model.specs.Models.Reader.{readLetter}
 use Rattle.letters.specs.Answers.{LetterSays}
 use Rattle.letters.specs.Classes.{afterBracket, afterEscape}
 use Rattle.letters.proofs.Laws.Letters.{letter-class, letter-dot, letter-escape, letter-other, letter-plain}
-use Rattle.letters.proofs.Laws.Places.{goes, over-stops, stops, takes, took-as}
+use Rattle.kinds.proofs.Laws.Places.{goes, over-stops, stops, takes, took-as}
 use Rattle.letters.proofs.letters.read_letter.Statement.{statement}
 use Rattle.letters.proofs.letters.read_letter.Tie as tie
 

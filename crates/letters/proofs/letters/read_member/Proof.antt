@@ -2,9 +2,10 @@
 use borrow.Author.Needs.{needs}
 use lib.ListN.{drop}
 use Rattle.model.specs.Models.Reader.{readSingle}
-use Rattle.letters.specs.Answers.{LetterSays, Took}
+use Rattle.letters.specs.Answers.{LetterSays}
+use Rattle.kinds.specs.Places.{Took}
 use Rattle.letters.specs.Classes.{afterLower}
-use Rattle.letters.proofs.Laws.Binds.{bind-goes, bind-stops}
+use Rattle.kinds.proofs.Laws.Binds.{bind-goes, bind-stops}
 use Rattle.letters.proofs.letters.read_member.Statement.{statement}
 use Rattle.letters.proofs.letters.read_member.Tie as tie
 

@@ -4,7 +4,7 @@ use native.Mathlib.Omega.{arith}
 use borrow.Author.Needs.{needs}
 use lib.ListN.{drop, length}
 use Rattle.model.specs.Models.Reader.{readMember}
-use Rattle.letters.specs.Answers.{Took}
+use Rattle.kinds.specs.Places.{Took}
 use Rattle.letters.specs.Classes.{bytesOf}
 use Rattle.letters.proofs.Laws.Members.{Members, members-closed, members-more, members-on, members-stop, no-members}
 use Rattle.letters.proofs.letters.read_members.Statement.{statement}

@@ -9,7 +9,7 @@ use Rattle.model.specs.Grammar.{bare}
 use Rattle.model.specs.Models.Reader.{readEscape, readSingle}
 use Rattle.letters.specs.Answers.{ByteSays}
 use Rattle.letters.proofs.Laws.Letters.{single-bare, single-escape, single-low, single-other}
-use Rattle.letters.proofs.Laws.Places.{goes, inside, passes, stops, takes}
+use Rattle.kinds.proofs.Laws.Places.{goes, inside, passes, stops, takes}
 use Rattle.letters.proofs.letters.read_single.Statement.{statement}
 use Rattle.letters.proofs.letters.read_single.Tie as tie
 

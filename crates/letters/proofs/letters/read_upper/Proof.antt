@@ -5,11 +5,11 @@ use native.Mathlib.Omega.{arith}
 use borrow.Author.Needs.{needs}
 use lib.ListN.{length}
 use Rattle.model.specs.Grammar.{span}
-use Rattle.letters.specs.Answers.{Stopped, Took}
+use Rattle.kinds.specs.Places.{Stopped, Took}
 use Rattle.letters.specs.Classes.{afterLower, afterMinus, bytesOf}
-use Rattle.letters.proofs.Laws.Binds.{bind-gives, bind-stops}
+use Rattle.kinds.proofs.Laws.Binds.{bind-gives, bind-stops}
 use Rattle.letters.proofs.Laws.Letters.{lower-alone, lower-range}
-use Rattle.letters.proofs.Laws.Places.{goes, inside, leaves, took-as}
+use Rattle.kinds.proofs.Laws.Places.{goes, inside, leaves, took-as}
 use Rattle.letters.proofs.letters.read_upper.Statement.{statement}
 use Rattle.letters.proofs.letters.read_upper.Tie as tie
 

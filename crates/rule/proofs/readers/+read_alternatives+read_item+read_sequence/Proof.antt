@@ -10,7 +10,7 @@ use Rattle.model.proofs.Reading.Cycle.{alts, item, seq}
 use Rattle.rule.specs.Parts.{AlternativesSay, PartSays}
 use Rattle.rule.specs.declared.Part.the-variants.{Got as aPart}
 use Rattle.rule.proofs.Laws.Cycle.{alternatives-end, alternatives-go, alternatives-stop, item-bracket, item-letter, item-on, says-sane, sequence-ends, sequence-goes, sequence-on, sequence-stops}
-use Rattle.letters.proofs.Laws.Places.{inside}
+use Rattle.kinds.proofs.Laws.Places.{inside}
 use borrow.Fn.Kinds.{In}
 use borrow.Fn.PlainCycle.{Measures, is, falls, and}
 use Rattle.rule.proofs.readers.read_alternatives.Reads as read-alternatives
@@ -22,7 +22,7 @@ use Rattle.rule.proofs.readers.+read_alternatives+read_item+read_sequen
 use Rattle.rule.proofs.readers.read_sequence.Reads as read-sequence
 use Rattle.rule.proofs.readers.read_sequence.Kinds as read-sequence-kinds
 use Rattle.rule.proofs.readers.+read_alternatives+read_item+read_sequence.Lts-read_sequence as read-sequence-lts
-use Rattle.letters.proofs.byte_at.Reads as byte-at-reads
+use Rattle.kinds.proofs.byte_at.Reads as byte-at-reads
 use Rattle.rule.proofs.readers.close_item.Reads as close-item-reads
 use Rattle.rule.proofs.readers.is_over.Reads as is-over-reads
 use Rattle.rule.proofs.readers.read_piece.Reads as read-piece-reads

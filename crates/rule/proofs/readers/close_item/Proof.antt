@@ -10,7 +10,7 @@ use Rattle.rule.specs.Parts.{AlternativesSay, bracketed, bracketWords, c
 use Rattle.rule.specs.declared.Alternatives.{Alternatives}
 use Rattle.rule.specs.declared.Part.{Part}
 use Rattle.rule.proofs.Laws.Cycle.{close-here, close-other, close-stops, countable, item-says, ItemSays}
-use Rattle.letters.proofs.Laws.Places.{inside}
+use Rattle.kinds.proofs.Laws.Places.{inside}
 use Rattle.rule.proofs.readers.close_item.Statement.{statement}
 use Rattle.rule.proofs.readers.close_item.Tie as tie
 

@@ -2,7 +2,7 @@
 use native.Mathlib.Omega.{arith}
 use borrow.Author.Needs.{needs}
 use Rattle.rule.specs.Parts.{afterLetter, PartSays}
-use Rattle.letters.proofs.Laws.Binds.{bind-goes, bind-stops}
+use Rattle.kinds.proofs.Laws.Binds.{bind-goes, bind-stops}
 use Rattle.letters.proofs.Laws.Progress.{letter-on}
 use Rattle.rule.proofs.readers.read_piece.Statement.{statement}
 use Rattle.rule.proofs.readers.read_piece.Tie as tie

@@ -4,11 +4,11 @@ use native.Mathlib.Omega.{arith}
 use borrow.Author.Needs.{needs}
 use Rattle.model.specs.Grammar.{repeated}
 use Rattle.model.specs.Models.Reader.{got}
-use Rattle.letters.specs.Answers.{signOf}
+use Rattle.signs.specs.Answers.{signOf}
 use Rattle.letters.specs.Classes.{bytesOf}
-use Rattle.letters.proofs.Laws.Binds.{bind-gives, bind-stops}
+use Rattle.kinds.proofs.Laws.Binds.{bind-gives, bind-stops}
 use Rattle.rule.proofs.Laws.Cycle.{repeated-few}
-use Rattle.letters.proofs.Laws.Progress.{sign-bounded, sign-on}
+use Rattle.signs.proofs.Laws.Progress.{sign-bounded, sign-on}
 use Rattle.rule.proofs.readers.read_repeated.Statement.{statement}
 use Rattle.rule.proofs.readers.read_repeated.Tie as tie
 

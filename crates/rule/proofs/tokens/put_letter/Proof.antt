@@ -11,12 +11,12 @@ use Rattle.model.specs.Models.Tokens.{tokens}
 use Rattle.model.specs.Models.Words.{Fit}
 use Rattle.model.specs.Tree.{end, once, option, plus, Repeat as Taken, star}
 use Rattle.model.proofs.Laws.Stores.{sets-append}
-use Rattle.letters.specs.Answers.{signOf}
+use Rattle.signs.specs.Answers.{signOf}
 use Rattle.letters.specs.Classes.{bytesOf, wordsOf}
-use Rattle.letters.specs.Repeats.{Bounded}
+use Rattle.signs.specs.Repeats.{Bounded}
 use Rattle.tape.specs.Rows.{repeatKind, rowWords}
 use Rattle.rule.specs.Tokens.{timesWords}
-use Rattle.letters.specs.declared.Repeat.{Repeat}
+use Rattle.signs.specs.declared.Repeat.{Repeat}
 use Rattle.rule.proofs.Laws.Written.{copies-length, letter-words, times-length, times-row}
 use Rattle.rule.proofs.tokens.put_letter.Statement.{statement}
 use Rattle.rule.proofs.tokens.put_letter.Tie as tie

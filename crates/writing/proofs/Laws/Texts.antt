@@ -24,3 +24,8 @@ module _ (l : List ℕ) (at : ℕ) where
 
   pub writes-as : {us vs r : List ℕ} {q : ℕ} → us ≡ vs → Writes l at us r q → Writes l at vs r q
   writes-as {r = r} {q = q} e f = subst (λ (w : List ℕ). Writes l at w r q) e f
+
+-- one byte more, up to the place q
+pub writes-next : (l : List ℕ) (at : ℕ) (us : List ℕ) (b q : ℕ) {m r : List ℕ} {p : ℕ} → Writes l at us m p → r ≡ set m p b → q ≡ p + 1
+    → Writes l at (us ++ (b ∷ [])) r q
+writes-next l at us b q {m} {r} {p} f e h = subst (Writes l at (us ++ (b ∷ [])) r) (sym h) (writes-then l at us (b ∷ []) f (writes-one m p b e))

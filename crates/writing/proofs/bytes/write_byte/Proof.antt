@@ -1,13 +1,16 @@
 -- `write_byte`: two tests choose between three texts, each of them stored byte by byte.
 use mathlib.Core.Path.{sym, ap, _∙_}
 use mathlib.Core.Logic.{⊎-elim, inl, inr}
-use mathlib.Core.List.{List}
-use Prim.Native.Nat.{ℕ, _+_}
-use native.Mathlib.Numerals.{add-one, add-three, add-two}
+use mathlib.Core.List.{[], _∷_}
+use Prim.Native.Nat.{_+_, _/_, _%_}
+use native.Mathlib.Omega.{arith}
 use borrow.Author.Needs.{needs}
 use borrow.Author.Tests.{leb-false, leb-true}
-use lib.ListN.{length}
+use lib.ListN.{set}
+use Rattle.model.specs.Bytes.{byte}
+use Rattle.model.specs.Writing.{hexDigit}
 use Rattle.writing.proofs.Laws.Bytes.{number-writing, plain-writing, sign-writing}
+use Rattle.writing.proofs.Laws.Texts.{writes-as, writes-next, writes-one}
 use Rattle.writing.proofs.bytes.write_byte.Statement.{statement}
 use Rattle.writing.proofs.bytes.write_byte.Tie as tie
 
@@ -33,8 +36,10 @@ returns : tie.Need-returns
 returns c =
     let t = c .before .before .before .before .before .before .before .before in
     let a = t .before .before .before .args in
-    let e = sign-writing (a .byte) (sym (t .before .is-escaped .ensures) ∙ t .if1 .taken) in
-    (ap (λ (w : List ℕ). a .at + length w) (sym e), rw e (cc (add-one (a .at))))
+    let l = a .out .now in
+    writes-as l (a .at) (sym (sign-writing (a .byte) (sym (t .before .is-escaped .ensures) ∙ t .if1 .taken)))
+    (writes-next l (a .at) (byte "\\" ∷ []) (a .byte) (a .at + 2) (writes-one l (a .at) (byte "\\") (c .before .before .before .before .before .before .put .ensures))
+    (c .before .before .put2 .ensures) (omega arith))
 
 put-requires-3 : tie.Need-put-requires-3
 put-requires-3 c κs = search needs
@@ -50,8 +55,9 @@ returns-2 c =
     let t = c .before .before .before .before in
     let s = t .before .before in
     let a = s .before .before .before .args in
+    let l = a .out .now in
     let e = plain-writing (a .byte) (sym (s .before .is-escaped .ensures) ∙ s .if1 .left) (t .before .if2 .taken) (leb-true _ _ (t .if3 .taken)) in
-    (ap (λ (w : List ℕ). a .at + length w) (sym e), rw e (cc))
+    writes-as l (a .at) (sym e) (writes-one l (a .at) (a .byte) (c .before .before .put3 .ensures))
 
 put-requires-4 : tie.Need-put-requires-4
 put-requires-4 c κs = search needs
@@ -88,13 +94,23 @@ same-length-3 c = search needs
 
 returns-3 : tie.Need-returns-3
 returns-3 c =
-    let n = c .before .before .before .before .before .before .before .before .before .before in
-    let t = n .before .before .before .before .before .before .before .before in
+    let fourth = c .before .before in
+    let third = fourth .before .before .before .before .before in
+    let second = third .before .before .before .before .before in
+    let first = second .before .before .before .before in
+    let t = first .before .before in
     let s = t .before in
     let a = s .before .before .before .args in
+    let l = a .out .now in
+    let h = hexDigit (a .byte / 16) in
     let beyond = ⊎-elim (λ w. inr (leb-false _ _ (w .1 .left))) (λ w. inl (w .left)) (t .if2 .came) in
     let e = number-writing (a .byte) (sym (s .before .is-escaped .ensures) ∙ s .if1 .left) beyond in
-    (ap (λ (w : List ℕ). a .at + length w) (sym e), rw e (cc (add-one (a .at), add-two (a .at), add-three (a .at))))
+    let one = writes-one l (a .at) (byte "\\") (first .put4 .ensures) in
+    let two = writes-next l (a .at) (byte "\\" ∷ []) (byte "x") (a .at + 2) one (second .put5 .ensures) (omega arith) in
+    let p = third .put6 .ensures ∙ ap (set (second .put5 .last .0) (a .at + 2)) (third .before .hex-digit .ensures) in
+    let three = writes-next l (a .at) (byte "\\" ∷ byte "x" ∷ []) h (a .at + 3) two p (omega arith) in
+    let q = fourth .put7 .ensures ∙ ap (set (third .put6 .last .0) (a .at + 3)) (fourth .before .hex-digit2 .ensures) in
+    writes-as l (a .at) (sym e) (writes-next l (a .at) (byte "\\" ∷ byte "x" ∷ h ∷ []) (hexDigit (a .byte % 16)) (a .at + 4) three q (omega arith))
 
 pub write-byte-spec : {M : Type 1} → statement M
 write-byte-spec =

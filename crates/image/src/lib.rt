@@ -1,7 +1,7 @@
 // The image, written: document 01, "The image". A tree comes as its tokens, five words for each, is laid out (crate tape), and goes
-// into the words lent, section after section. `shape` has the tape and the lengths, `letters` the masks of bytes, `sections` the writing.
+// into the words lent, section after section. `shape` has the tape and the lengths, `letter_masks` the masks of bytes, `sections` the writing.
 
-mod letters;
+mod letter_masks;
 mod sections;
 mod shape;
 

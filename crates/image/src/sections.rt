@@ -1,6 +1,6 @@
 // "Six sections in this order, each after its count of words."
-use crate::letters::put_letters;
-use crate::letters::put_repeats;
+use crate::letter_masks::put_letters;
+use crate::letter_masks::put_repeats;
 use tape::Tape;
 use tape::row_of;
 ghost use mathlib.Core.Path.{_≡_};

@@ -10,8 +10,8 @@ use lib.Seq.{sets, take-all}
 use Rattle.image.specs.Work.{bothRow}
 use Rattle.image.proofs.Laws.Loops.{both-long, both-word, word-before}
 use Rattle.image.proofs.Laws.Stores.{take-more}
-use Rattle.image.proofs.letters.put_both.Statement.{statement}
-use Rattle.image.proofs.letters.put_both.Tie as tie
+use Rattle.image.proofs.letter_masks.put_both.Statement.{statement}
+use Rattle.image.proofs.letter_masks.put_both.Tie as tie
 
 abbrev Inv-loop : tie.InvT-loop
 Inv-loop words₀ from at width loops j₀ words j =

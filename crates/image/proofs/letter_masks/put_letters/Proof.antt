@@ -9,8 +9,8 @@ use Rattle.model.specs.Image.{section}
 use Rattle.model.proofs.Image.Address.{part-fits}
 use Rattle.image.proofs.Laws.Parts.{Parts, parts-all, parts-long, parts-more, parts-none}
 use Rattle.image.proofs.Laws.States.{quarter-long, quarters}
-use Rattle.image.proofs.letters.put_letters.Statement.{statement}
-use Rattle.image.proofs.letters.put_letters.Tie as tie
+use Rattle.image.proofs.letter_masks.put_letters.Statement.{statement}
+use Rattle.image.proofs.letter_masks.put_letters.Tie as tie
 use Rattle.image.specs.Work.{quarterPart}
 
 abbrev Inv-loop : tie.InvT-loop

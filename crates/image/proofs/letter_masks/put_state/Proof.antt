@@ -13,8 +13,8 @@ use Rattle.model.specs.Bits.{bit}
 use Rattle.model.proofs.Image.Address.{part-fits}
 use Rattle.image.specs.Work.{withBit, withState}
 use Rattle.image.proofs.Laws.States.{has-bit, has-not, length-with}
-use Rattle.image.proofs.letters.put_state.Statement.{statement}
-use Rattle.image.proofs.letters.put_state.Tie as tie
+use Rattle.image.proofs.letter_masks.put_state.Statement.{statement}
+use Rattle.image.proofs.letter_masks.put_state.Tie as tie
 
 abbrev Inv-loop : tie.InvT-loop
 Inv-loop words₀ at width class state one b₀ words b =

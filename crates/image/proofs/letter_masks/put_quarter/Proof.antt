@@ -11,8 +11,8 @@ use lib.Seq.{sets}
 use Rattle.image.specs.Work.{quarterPart, withState}
 use Rattle.image.proofs.Laws.States.{no-state, no-token, quarter-long, token-more}
 use Rattle.image.proofs.Laws.Stores.{sets-over}
-use Rattle.image.proofs.letters.put_quarter.Statement.{statement}
-use Rattle.image.proofs.letters.put_quarter.Tie as tie
+use Rattle.image.proofs.letter_masks.put_quarter.Statement.{statement}
+use Rattle.image.proofs.letter_masks.put_quarter.Tie as tie
 
 abbrev Inv-loop : tie.InvT-loop
 Inv-loop words₀ at width tokens length′ q i₀ words i =

@@ -7,8 +7,8 @@ use borrow.Author.Needs.{needs}
 use lib.ListN.{getD-replicate, length, length-replicate, length-set, replicate, set, take}
 use lib.Seq.{sets, take-all}
 use Rattle.image.proofs.Laws.Stores.{take-more}
-use Rattle.image.proofs.letters.clear.Statement.{statement}
-use Rattle.image.proofs.letters.clear.Tie as tie
+use Rattle.image.proofs.letter_masks.clear.Statement.{statement}
+use Rattle.image.proofs.letter_masks.clear.Tie as tie
 
 abbrev Inv-loop : tie.InvT-loop
 Inv-loop words₀ at count j₀ words j = (j ≤ count) × (words ≡ sets words₀ at (take j (replicate count 0))) × (length words ≡ length words₀)

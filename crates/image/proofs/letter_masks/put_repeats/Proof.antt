@@ -12,8 +12,8 @@ use Rattle.model.proofs.Image.Rows.{join-same}
 use Rattle.model.proofs.Image.Address.{part-fits}
 use Rattle.image.proofs.Laws.Loops.{both-kept, both-long}
 use Rattle.image.proofs.Laws.Parts.{Parts, parts-all, parts-long, parts-more, parts-none}
-use Rattle.image.proofs.letters.put_repeats.Statement.{statement}
-use Rattle.image.proofs.letters.put_repeats.Tie as tie
+use Rattle.image.proofs.letter_masks.put_repeats.Statement.{statement}
+use Rattle.image.proofs.letter_masks.put_repeats.Tie as tie
 use Rattle.image.specs.Work.{bothRow}
 
 abbrev Inv-loop : tie.InvT-loop

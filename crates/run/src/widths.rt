@@ -1,5 +1,5 @@
 // One byte for each number of words: the number is handed down as a literal, and every loop over words becomes straight code. Which one is asked once
-// for each byte. The live states stay where they lie: only their first words are read and written.
+// for each byte. The live states are borrowed and not handed on, so that only the words that count are moved.
 use crate::steps::fall;
 use crate::steps::moved;
 use crate::steps::rise;

@@ -13,13 +13,13 @@ use Rattle.model.specs.Models.LayOut.{begin, check, step, valid}
 use Rattle.model.specs.Models.LayOut as model
 use Rattle.model.specs.Models.Tokens as tokens
 use Rattle.model.proofs.Image.LetterPlaces.{position-step}
-use Rattle.tape.specs.Scans.{isEnded, Known, Ready, Sane, scanOf}
+use Rattle.scan.specs.Scans.{isEnded, Known, Ready, Sane, scanOf}
 use Rattle.tape.specs.Tapes.{isTree, readKinds, tokensOf}
-use Rattle.tape.specs.Tokens.{readKind, tokenOf}
+use Rattle.scan.specs.Tokens.{readKind, tokenOf}
 use Rattle.tape.specs.declared.Tape.{Tape}
-use Rattle.tape.specs.declared.token.Token.{Token}
-use Rattle.tape.proofs.Sane.{sane-begin, sane-step}
-use Rattle.tape.proofs.Scans.{length-stack}
+use Rattle.scan.specs.declared.token.Token.{Token}
+use Rattle.scan.proofs.Sane.{sane-begin, sane-step}
+use Rattle.scan.proofs.Scans.{length-stack}
 
 abbrev pub tapeOf : List ℕ → ℕ → Tape
 tapeOf kinds n = record { kinds = kinds; length = n }

@@ -6,8 +6,6 @@ pub mod Painted
 pub mod FirstWords
 -- The code's tokens, scans and strokes are the model's.
 pub mod Tokens
-pub mod Scans
-pub mod Sane
 pub mod Strokes
 pub mod Within
 -- Masks in a row of words, and the tables that they are.

@@ -20,14 +20,14 @@ use Rattle.model.proofs.Laws.Bool.{and-split, is-not, is-true}
 use Rattle.model.proofs.Words.Holds.{Holds, set-holds}
 use Rattle.model.proofs.Words.Operations.{holds-and-l, holds-or, near-not}
 use Rattle.tape.specs.Joins.{Either, joinTables, joinWord, Only}
-use Rattle.tape.specs.Scans.{Sane}
+use Rattle.scan.specs.Scans.{Sane}
 use Rattle.tape.specs.Strokes.{strokeOf}
 use Rattle.tape.specs.Tables.{blank, paintAll, paintStroke, Table}
 use Rattle.tape.specs.Tapes.{isTree, propagateBlockTable, propagateSourceTable, propagateTargetTable, tableOf, tokensOf}
 use Rattle.tape.specs.declared.Tape.{Tape}
 use Rattle.tape.proofs.Joins.{joined-at}
 use Rattle.tape.proofs.Marks.{stroke-marks}
-use Rattle.tape.proofs.Sane.{sane-begin, sane-step}
+use Rattle.scan.proofs.Sane.{sane-begin, sane-step}
 use Rattle.tape.proofs.TableBits.{Adds, bitAt, blank-bit, blank-rows, Rows, stroke-adds}
 use Rattle.tape.proofs.Tokens.{read-length}
 use Rattle.tape.proofs.Within.{stroke-within}

@@ -6,13 +6,13 @@ use lib.ListN.{getD}
 use Rattle.model.specs.Models.LayOut.{begin, step, Which}
 use Rattle.model.specs.Models.LayOut as model
 use Rattle.model.specs.Models.Tokens as tokens
-use Rattle.tape.specs.Scans.{Known, scanOf}
+use Rattle.scan.specs.Scans.{Known, scanOf}
 use Rattle.tape.specs.Strokes.{strokeOf}
 use Rattle.tape.specs.Tables.{blank, paintAll, paintStroke, Table}
 use Rattle.tape.specs.Tapes.{tokensOf}
-use Rattle.tape.specs.Tokens.{readKind, tokenOf}
+use Rattle.scan.specs.Tokens.{readKind, tokenOf}
 use Rattle.tape.specs.declared.Tape.{Tape}
-use Rattle.tape.specs.declared.token.Token.{Token}
+use Rattle.scan.specs.declared.token.Token.{Token}
 use Rattle.tape.proofs.Along.{Along, from, from-cons, from-end}
 
 abbrev pub Painting : Tape → Known → ℕ → Which → Table → Type 0

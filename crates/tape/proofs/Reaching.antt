@@ -8,13 +8,13 @@ use Rattle.model.specs.Models.LayOut.{begin, reach, step}
 use Rattle.model.specs.Models.LayOut as model
 use Rattle.model.specs.Models.Tokens.{aBar, aClose, aLetter, anOpen}
 use Rattle.model.specs.Models.Tokens as tokens
-use Rattle.tape.specs.Scans.{Known, scanOf}
+use Rattle.scan.specs.Scans.{Known, scanOf}
 use Rattle.tape.specs.Tapes.{deeperBy, tokensOf}
-use Rattle.tape.specs.Tokens.{readKind, tokenOf}
+use Rattle.scan.specs.Tokens.{readKind, tokenOf}
 use Rattle.tape.specs.declared.Tape.{Tape}
-use Rattle.tape.specs.declared.token.Token.{Token}
+use Rattle.scan.specs.declared.token.Token.{Token}
 use Rattle.tape.proofs.Along.{Along, from, from-cons, from-end}
-use Rattle.tape.proofs.Scans.{length-stack}
+use Rattle.scan.proofs.Scans.{length-stack}
 
 abbrev pub Reaching : Tape → Known → ℕ → ℕ → Type 0
 Reaching t q i deepest = reach (tokensOf t) begin ≡ max deepest (reach (from t i) (scanOf q))

@@ -13,18 +13,18 @@ use Rattle.model.specs.Models.Tokens.{aBar, aClose, aLetter, anOpen}
 use Rattle.model.specs.Models.Tokens as tokens
 use Rattle.model.specs.Tree.{canLoop}
 use Rattle.tape.specs.Masks.{Blank, heldIn, Painted, Sized}
-use Rattle.tape.specs.Scans.{Innermost, isEnded, noFrame, ReadyAt, scanOf, StepSays, withFrames}
+use Rattle.scan.specs.Scans.{Innermost, isEnded, noFrame, ReadyAt, scanOf, StepSays, withFrames}
 use Rattle.tape.specs.Strokes.{barStrokeIn, closeStrokeIn, noStroke, oneState, strokeOf}
 use Rattle.tape.specs.Tables.{blank, paintAll}
 use Rattle.tape.specs.Tapes.{deeperBy, isTree, Kinds, ScanLays, shapeOf, tokensOf}
-use Rattle.tape.specs.Tokens.{readKind, tokenOf}
+use Rattle.scan.specs.Tokens.{readKind, tokenOf}
 use Rattle.tape.specs.declared.Shape.{Shape}
 use Rattle.tape.specs.declared.Shape.the-variants.{Other, Tree}
 use Rattle.tape.specs.declared.Tape.{Tape}
-use Rattle.tape.specs.declared.scan.Frame.{Frame}
-use Rattle.tape.specs.declared.scan.Next.{Next}
-use Rattle.tape.specs.declared.scan.Scan.{Scan}
-use Rattle.tape.specs.declared.token.Token.{Token}
+use Rattle.scan.specs.declared.Frame.{Frame}
+use Rattle.scan.specs.declared.Next.{Next}
+use Rattle.scan.specs.declared.Scan.{Scan}
+use Rattle.scan.specs.declared.token.Token.{Token}
 use Rattle.tape.proofs.Along.{Along, along-begin, along-depth, along-end, along-misfit, along-ready, along-step}
 use Rattle.tape.proofs.InWords.{held-after, sized-after}
 use Rattle.tape.proofs.Painting.{Painting, painting-begin, painting-end, painting-step}

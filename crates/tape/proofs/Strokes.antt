@@ -5,15 +5,15 @@ use Prim.Native.Nat.{ℕ, _-_, _<_}
 use Rattle.model.specs.Models.LayOut.{entering, gather-block, gather-source, gather-target, leaving, letter-place, loop-place, scatter-block, scatter-source, scatter-target, Which}
 use Rattle.model.specs.Models.LayOut as model
 use Rattle.tape.specs.Masks.{Painted, paintThree, paintTwo}
-use Rattle.tape.specs.Scans.{frameOf, Innermost, scanOf, withFrames}
+use Rattle.scan.specs.Scans.{frameOf, Innermost, scanOf, withFrames}
 use Rattle.tape.specs.Strokes.{barStroke, barStrokeIn, closeStroke, closeStrokeIn, letterStroke, noStroke, openStroke, Stroke, strokeOf}
-use Rattle.tape.specs.Tokens.{repeatOf, tokenOf}
-use Rattle.tape.specs.declared.scan.Frame.{Frame}
-use Rattle.tape.specs.declared.scan.Scan.{Scan}
-use Rattle.tape.specs.declared.token.Repeat.{Repeat}
-use Rattle.tape.specs.declared.token.Token.{Token}
-use Rattle.tape.specs.declared.token.Token.the-variants.{Bar, Close, Letter, Open}
-use Rattle.tape.proofs.Scans.{length-stack, stack-is, top-is}
+use Rattle.scan.specs.Tokens.{repeatOf, tokenOf}
+use Rattle.scan.specs.declared.Frame.{Frame}
+use Rattle.scan.specs.declared.Scan.{Scan}
+use Rattle.scan.specs.declared.token.Repeat.{Repeat}
+use Rattle.scan.specs.declared.token.Token.{Token}
+use Rattle.scan.specs.declared.token.Token.the-variants.{Bar, Close, Letter, Open}
+use Rattle.scan.proofs.Scans.{length-stack, stack-is, top-is}
 
 abbrev marked : Scan → List Frame → Token → Which → Stroke
 marked q fs y = strokeOf (tokenOf y) (scanOf (withFrames q fs))

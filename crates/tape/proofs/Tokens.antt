@@ -1,21 +1,10 @@
--- The numbers of a tape: each is read as one token, and what is past 5 as a close.
+-- A tape has as many tokens as numbers.
 use mathlib.Core.Path.{_≡_, refl, ap}
 use mathlib.Core.List.{List, [], _∷_}
-use Prim.Native.Nat.{ℕ, zero, suc}
+use Prim.Native.Nat.{ℕ, suc}
 use lib.ListN.{length}
 use Rattle.tape.specs.Tapes.{readKinds}
-use Rattle.tape.specs.Tokens.{readKind}
-use Rattle.tape.specs.declared.token.Token.the-variants.{Close}
 
 pub read-length : (ks : List ℕ) → length (readKinds ks) ≡ length ks
 read-length [] = refl
 read-length (k ∷ ks) = ap suc (read-length ks)
-
-pub read-close : (k : ℕ) → (k ≡ 0 → ⊥) → (k ≡ 1 → ⊥) → (k ≡ 2 → ⊥) → (k ≡ 3 → ⊥) → (k ≡ 4 → ⊥) → (k ≡ 5 → ⊥) → Close ≡ readKind k
-read-close zero a b c d e f = absurd (a refl)
-read-close (suc zero) a b c d e f = absurd (b refl)
-read-close (suc (suc zero)) a b c d e f = absurd (c refl)
-read-close (suc (suc (suc zero))) a b c d e f = absurd (d refl)
-read-close (suc (suc (suc (suc zero)))) a b c d e f = absurd (e refl)
-read-close (suc (suc (suc (suc (suc zero))))) a b c d e f = absurd (f refl)
-read-close (suc (suc (suc (suc (suc (suc k)))))) a b c d e f = refl

@@ -19,12 +19,12 @@ use Rattle.model.proofs.Laws.Bool.{and-split}
 use Rattle.model.proofs.Reading.Written as reading
 use Rattle.tape.specs.Says.{ShapeSays, TreeOnTape}
 use Rattle.tape.specs.Tapes.{bare, bares, isTree, readKinds, shapeOf, tokensOf}
-use Rattle.tape.specs.Tokens.{readKind, tokenOf}
+use Rattle.scan.specs.Tokens.{readKind, tokenOf}
 use Rattle.tape.specs.declared.Shape.{Shape}
 use Rattle.tape.specs.declared.Shape.the-variants.{Other, Tree}
 use Rattle.tape.specs.declared.Tape.{Tape}
-use Rattle.tape.specs.declared.token.Token as code
-use Rattle.tape.specs.declared.token.Token.the-variants.{Bar, Close, Letter, Open}
+use Rattle.scan.specs.declared.token.Token as code
+use Rattle.scan.specs.declared.token.Token.the-variants.{Bar, Close, Letter, Open}
 use Rattle.tape.proofs.Bare.{bares-length, bares-valid}
 use Rattle.tape.proofs.OfTree.{shape-is}
 use Rattle.tape.proofs.Tokens.{read-length}

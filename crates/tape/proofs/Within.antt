@@ -7,7 +7,7 @@ use lib.ListN.{length}
 use Rattle.model.specs.Tree.{canLoop, canSkip, Repeat}
 use Rattle.model.specs.Models.LayOut.{entering, Frame, gather-block, gather-source, gather-target, leaving, letter-place, loop-place, Scan, scatter-block, scatter-source, scatter-target, Which}
 use Rattle.model.specs.Models.Tokens.{aBar, aClose, aLetter, anOpen, Token}
-use Rattle.tape.specs.Scans.{Behind, Sane}
+use Rattle.scan.specs.Scans.{Behind, Sane}
 use Rattle.tape.specs.Strokes.{barStroke, barStrokeIn, closeStroke, closeStrokeIn, letterStroke, noStroke, oneState, openStroke, Stroke, strokeOf}
 
 abbrev pub Within : Stroke → Type 0

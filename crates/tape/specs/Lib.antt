@@ -1,6 +1,4 @@
--- Says: what the public functions promise. The others: what the code's tokens, scans and strokes stand for in the model, what is painted into a table and into lent words, and what a tape is.
-pub mod Tokens
-pub mod Scans
+-- Says: what the public functions promise. The others: what the code's strokes stand for in the model, what is painted into a table and into lent words, and what a tape is.
 pub mod Strokes
 pub mod Tables
 pub mod Masks

@@ -7,13 +7,13 @@ use lib.Bits.{bitOr}
 use lib.ListN.{drop, getD, length, replicate, set, take}
 use Rattle.model.specs.Models.LayOut.{entering, gather-block, gather-source, gather-target, leaving, letter-place, loop-place, scatter-block, scatter-source, scatter-target, Which}
 use Rattle.tape.specs.Joins.{Either, joinTables, Only}
-use Rattle.tape.specs.Scans.{Innermost, scanOf, withFrames}
+use Rattle.scan.specs.Scans.{Innermost, scanOf, withFrames}
 use Rattle.tape.specs.Strokes.{noStroke, Stroke, strokeOf}
 use Rattle.tape.specs.Tables.{blank, Table}
-use Rattle.tape.specs.Tokens.{tokenOf}
-use Rattle.tape.specs.declared.scan.Frame.{Frame}
-use Rattle.tape.specs.declared.scan.Scan.{Scan}
-use Rattle.tape.specs.declared.token.Token.{Token}
+use Rattle.scan.specs.Tokens.{tokenOf}
+use Rattle.scan.specs.declared.Frame.{Frame}
+use Rattle.scan.specs.declared.Scan.{Scan}
+use Rattle.scan.specs.declared.token.Token.{Token}
 
 -- row r
 abbrev pub rowIn : List ℕ → ℕ → List ℕ

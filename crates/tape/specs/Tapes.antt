@@ -12,7 +12,7 @@ use Rattle.model.specs.Models.Tokens as model
 use Rattle.tape.specs.Joins.{Either, joinTables, Only}
 use Rattle.tape.specs.Masks.{heldIn, Sized}
 use Rattle.tape.specs.Tables.{blank, paintAll, Table}
-use Rattle.tape.specs.Tokens.{readKind, tokenOf}
+use Rattle.scan.specs.Tokens.{readKind, tokenOf}
 use Rattle.tape.specs.declared.Shape.{Shape}
 use Rattle.tape.specs.declared.Shape.the-variants.{Other, Tree}
 use Rattle.tape.specs.declared.Tape.{Tape}

@@ -1,30 +1,28 @@
 // A tree as its tape, and lay out: from the tape to the masks of scatter, gather and propagate for each depth.
 //
 // A tree with m states is a row of m - 1 tokens, one between each two neighbouring states. One scan over them, from left to right, knows all that
-// the masks need: `token` has the tokens, `scan` what the scan knows before each, `stroke` the places that one token marks, `masks` the masks.
+// the masks need: the crate `scan` has the tokens and what is known before each, `stroke` the places that one token marks, `masks` the masks.
 
 mod masks;
-mod scan;
 mod stroke;
-mod token;
 
 use crate::masks::blank_all;
 use crate::masks::join_propagate;
-use crate::scan::begin_scan;
-use crate::scan::fits;
-use crate::scan::innermost;
-use crate::scan::is_ended;
-use crate::scan::no_frame;
-use crate::scan::step_over;
 use crate::stroke::mark_token;
-use crate::token::Token;
-use crate::token::read_kind;
+use scan::begin_scan;
+use scan::fits;
+use scan::innermost;
+use scan::is_ended;
+use scan::no_frame;
+use scan::step_over;
+use scan::token::Token;
+use scan::token::read_kind;
 ghost use mathlib.Core.Path.{_≡_};
 ghost use Prim.Native.Nat.{_<_, max};
 ghost use Rattle.tape.specs.Masks.{Blank, RowSays, Sized};
 ghost use Rattle.tape.specs.Says.{Laid, MasksSay, ShapeSays};
 ghost use Rattle.tape.specs.Tapes.{deeperBy, Kinds, ScanLays, shapeOf};
-ghost use Rattle.tape.specs.Tokens.{tokenOf};
+ghost use Rattle.scan.specs.Tokens.{tokenOf};
 
 // The first `length` of the kinds are a tree's tokens: 0 to 3 a letter, taken once, `?`, `*` or `+`; 4 an open, 5 a bar, 6 a close.
 pub struct Tape {

@@ -3,21 +3,21 @@ use crate::masks::bridge;
 use crate::masks::mark;
 use crate::masks::mark_if;
 use crate::masks::mark_run;
-use crate::scan::Frame;
-use crate::scan::Scan;
-use crate::scan::first_end_of;
-use crate::token::Repeat;
-use crate::token::Token;
-use crate::token::can_loop;
-use crate::token::can_skip;
+use scan::Frame;
+use scan::Scan;
+use scan::first_end_of;
+use scan::token::Repeat;
+use scan::token::Token;
+use scan::token::can_loop;
+use scan::token::can_skip;
 ghost use mathlib.Core.Path.{_≡_};
 ghost use Prim.Native.Nat.{_<_};
 ghost use lib.ListN.{length};
 ghost use Rattle.model.specs.Models.LayOut.{entering, gather-block, gather-source, gather-target, leaving, letter-place, loop-place, scatter-block, scatter-source, scatter-target};
 ghost use Rattle.tape.specs.Masks.{MarkSays, paintThree, paintTwo, Sized};
-ghost use Rattle.tape.specs.Scans.{frameOf, ReadyAt};
+ghost use Rattle.scan.specs.Scans.{frameOf, ReadyAt};
 ghost use Rattle.tape.specs.Strokes.{barStroke, closeStroke, letterStroke, noStroke, openStroke};
-ghost use Rattle.tape.specs.Tokens.{repeatOf};
+ghost use Rattle.scan.specs.Tokens.{repeatOf};
 
 // A letter from `position` at `depth`: `*` and `+` have a loop, `?` and `*` a propagate edge over it.
 fn mark_letter(

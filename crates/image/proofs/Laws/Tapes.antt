@@ -14,7 +14,7 @@ use Rattle.model.proofs.Image.Tokens.{length-tokens}
 use Rattle.tape.specs.Rows.{kindOf}
 use Rattle.tape.specs.Says.{TreeOnTape}
 use Rattle.tape.specs.Tapes.{bare, bares, readKinds, TapeOf, tokensOf}
-use Rattle.tape.specs.Tokens.{readKind, tokenOf}
+use Rattle.scan.specs.Tokens.{readKind, tokenOf}
 use Rattle.tape.specs.declared.Tape.{Tape}
 use Rattle.tape.proofs.Bare.{bares-reach}
 use Rattle.image.specs.Says.{TokensOf}

@@ -6,8 +6,8 @@ use borrow.Author.Needs.{needs}
 use Rattle.tape.proofs.deeper.Statement.{statement}
 use Rattle.tape.proofs.deeper.Tie as tie
 use Rattle.tape.specs.Tapes.{deeperBy}
-use Rattle.tape.specs.Tokens.{tokenOf}
-use Rattle.tape.specs.declared.token.Token.{Token}
+use Rattle.scan.specs.Tokens.{tokenOf}
+use Rattle.scan.specs.declared.token.Token.{Token}
 
 enum-told : tie.Need-enum-told
 enum-told c = search needs

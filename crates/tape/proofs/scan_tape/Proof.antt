@@ -90,17 +90,25 @@ deeper-requires : tie.Need-deeper-requires Inv-loop μ-loop
 deeper-requires c κs = omega (arith, scanning-depth (c .before .before .before .before .before .before .before .before .before .before .before .before .before .before .before .before .before .before .before .loop .inv))
 
 step-over-requires : tie.Need-step-over-requires Inv-loop μ-loop
-step-over-requires c κs =
-    let l = c .before .before .before .before .before .before .before .before .before .before .before .before .before .before .before .before .before .before .before .before .loop in
-    let h = c .before .before .before .before .before .before .before .before .before .before .before .before .before .before .before .before .before .before .before .loop-test .taken in
-    let I = top-here (l .scan) (l .frames) (c .before .before .before .before .before .before .before .before .before .before .before .before .before .before .before .before .before .innermost .ensures) in
-    scanning-ready (l .inv) h (c .before .before .before .before .before .before .before .before .before .before .before .before .before .before .before .before .before .before .read-kind .ensures) I (sym (c .before .before .before .before .before .before .before .before .before .before .before .before .before .before .before .fits2 .ensures (l .frames) I) ∙ not-false _ (c .before .before .before .before .before .before .before .before .before .before .before .before .before .before .if2 .left))
+step-over-requires c κs = search needs
 
 mul-frames : tie.Need-mul-frames Inv-loop μ-loop
-mul-frames c = omega (arith, c .before .step-over .ensures .inside)
+mul-frames c =
+    let b = c .before .before in
+    let l = b .before .before .before .before .before .before .before .before .before .before .before .before .before .before .before .before .before .before .before .before .loop in
+    let I = top-here (l .scan) (l .frames) (b .before .before .before .before .before .before .before .before .before .before .before .before .before .before .before .before .before .innermost .ensures) in
+    let R = scanning-ready (l .inv) (b .before .before .before .before .before .before .before .before .before .before .before .before .before .before .before .before .before .before .before .loop-test .taken) (b .before .before .before .before .before .before .before .before .before .before .before .before .before .before .before .before .before .before .read-kind .ensures) I
+    (sym (b .before .before .before .before .before .before .before .before .before .before .before .before .before .before .before .fits2 .ensures (l .frames) I) ∙ not-false _ (b .before .before .before .before .before .before .before .before .before .before .before .before .before .before .if2 .left)) in
+    omega (arith, c .before .step-over .ensures R .inside)
 
 array-set-from-frames : tie.Need-array-set-from-frames Inv-loop μ-loop
-array-set-from-frames c = c .before .step-over .ensures .inside
+array-set-from-frames c =
+    let b = c .before .before in
+    let l = b .before .before .before .before .before .before .before .before .before .before .before .before .before .before .before .before .before .before .before .before .loop in
+    let I = top-here (l .scan) (l .frames) (b .before .before .before .before .before .before .before .before .before .before .before .before .before .before .before .before .before .innermost .ensures) in
+    let R = scanning-ready (l .inv) (b .before .before .before .before .before .before .before .before .before .before .before .before .before .before .before .before .before .before .before .loop-test .taken) (b .before .before .before .before .before .before .before .before .before .before .before .before .before .before .before .before .before .before .read-kind .ensures) I
+    (sym (b .before .before .before .before .before .before .before .before .before .before .before .before .before .before .before .fits2 .ensures (l .frames) I) ∙ not-false _ (b .before .before .before .before .before .before .before .before .before .before .before .before .before .before .if2 .left)) in
+    c .before .step-over .ensures R .inside
 
 add-i : tie.Need-add-i Inv-loop μ-loop
 add-i c = omega (arith, c .before .before .before .before .before .before .before .before .before .before .before .before .before .before .before .before .before .before .before .before .before .before .before .loop .inv .along .short)
@@ -110,11 +118,13 @@ loop-less c = omega (arith, c .before .before .before .before .before .before .b
 
 loop-again : tie.Need-loop-again Inv-loop μ-loop
 loop-again c =
-    let l = c .before .before .before .before .before .before .before .before .before .before .before .before .before .before .before .before .before .before .before .before .before .before .before .loop in
-    let h = c .before .before .before .before .before .before .before .before .before .before .before .before .before .before .before .before .before .before .before .before .before .before .loop-test .taken in
-    let I = top-here (l .scan) (l .frames) (c .before .before .before .before .before .before .before .before .before .before .before .before .before .before .before .before .before .before .before .before .innermost .ensures) in
-    scanning-step (l .inv) h (c .before .before .before .before .before .before .before .before .before .before .before .before .before .before .before .before .before .before .before .before .before .read-kind .ensures) I (sym (c .before .before .before .before .before .before .before .before .before .before .before .before .before .before .before .before .before .before .fits2 .ensures (l .frames) I) ∙ not-false _ (c .before .before .before .before .before .before .before .before .before .before .before .before .before .before .before .before .before .if2 .left))
-    (c .before .before .step-over .ensures) (c .before .before .before .deeper .ensures) (c .before .before .before .before .before .before .before .before .before .before .before .before .mark-token .ensures (l .frames) I)
+    let b = c .before .before .before in
+    let l = b .before .before .before .before .before .before .before .before .before .before .before .before .before .before .before .before .before .before .before .before .loop in
+    let h = b .before .before .before .before .before .before .before .before .before .before .before .before .before .before .before .before .before .before .before .loop-test .taken in
+    let k = b .before .before .before .before .before .before .before .before .before .before .before .before .before .before .before .before .before .before .read-kind .ensures in
+    let I = top-here (l .scan) (l .frames) (b .before .before .before .before .before .before .before .before .before .before .before .before .before .before .before .before .before .innermost .ensures) in
+    let f = sym (b .before .before .before .before .before .before .before .before .before .before .before .before .before .before .before .fits2 .ensures (l .frames) I) ∙ not-false _ (b .before .before .before .before .before .before .before .before .before .before .before .before .before .before .if2 .left) in
+    scanning-step (l .inv) h k I f (c .before .before .step-over .ensures (scanning-ready (l .inv) h k I f)) (b .deeper .ensures) (b .before .before .before .before .before .before .before .before .before .mark-token .ensures (l .frames) I)
 
 is-ended-requires : tie.Need-is-ended-requires Inv-loop μ-loop
 is-ended-requires c κs = search needs

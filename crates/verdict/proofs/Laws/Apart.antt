@@ -15,7 +15,7 @@ use Rattle.model.proofs.Image.SameBits.{fit-drop, fit-take}
 use Rattle.model.proofs.Laws.Bits.{below-same}
 use Rattle.tape.specs.Rows.{kindOf, repeatKind}
 use Rattle.tape.specs.Tapes.{bare, bares, readKinds, tokensOf}
-use Rattle.tape.specs.Tokens as kinds
+use Rattle.scan.specs.Tokens as kinds
 use Rattle.tape.specs.declared.Tape.{Tape}
 use Rattle.image.proofs.Laws.Tapes.{read-kind}
 use Rattle.verdict.specs.Work.{ApartAs, enteredWords, kindAt, marksOf, orRows, wordsAt}

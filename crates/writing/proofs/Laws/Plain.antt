@@ -24,7 +24,7 @@ use Rattle.model.proofs.Image.WellFormed.{well-fine}
 use Rattle.model.proofs.Laws.Bool.{le-false, unequal}
 use Rattle.model.proofs.Reading.WellFormed.{rule-well}
 use Rattle.tape.specs.Tapes.{bare, bares, readKinds, TapeOf}
-use Rattle.tape.specs.Tokens.{readKind, tokenOf}
+use Rattle.scan.specs.Tokens.{readKind, tokenOf}
 use Rattle.tape.specs.declared.Tape.{Tape}
 use Rattle.writing.specs.Work.{classTo, rangeText, signText, tokenText}
 

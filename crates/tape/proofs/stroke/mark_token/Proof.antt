@@ -2,10 +2,10 @@
 use mathlib.Core.Path.{subst}
 use Prim.Native.Nat.{_<_}
 use native.Mathlib.Omega.{arith}
-use Rattle.tape.proofs.Scans.{ready-bar, ready-close, ready-depth, ready-top}
+use Rattle.scan.proofs.Scans.{ready-bar, ready-close, ready-depth, ready-top}
 use Rattle.tape.proofs.Strokes.{bar-painted, close-painted, letter-painted, open-painted}
-use Rattle.tape.specs.Scans.{withFrames}
-use Rattle.tape.specs.declared.scan.Frame.{Frame}
+use Rattle.scan.specs.Scans.{withFrames}
+use Rattle.scan.specs.declared.Frame.{Frame}
 use borrow.Author.Needs.{needs}
 use Rattle.tape.proofs.stroke.mark_token.Statement.{statement}
 use Rattle.tape.proofs.stroke.mark_token.Tie as tie

@@ -1,0 +1,50 @@
+-- `fits` asks what the model asks: the tests of the depth and of the innermost frame are tests of the stack.
+use mathlib.Core.Bool.{Bool, not, _&&_}
+use mathlib.Core.Path.{sym, ap, _∙_}
+use Prim.Native.Nat.{ℕ}
+use lib.Dec.{ltb}
+use Rattle.model.specs.Models.LayOut.{check}
+use Rattle.scan.proofs.Scans.{barred-is, inside-is, length-stack}
+use Rattle.scan.specs.Scans.{scanOf, withFrames}
+use Rattle.scan.specs.Tokens.{tokenOf}
+use Rattle.scan.specs.declared.token.Token.{Token}
+use borrow.Author.Needs.{needs}
+use Rattle.scan.proofs.fits.Statement.{statement}
+use Rattle.scan.proofs.fits.Tie as tie
+
+enum-told : tie.Need-enum-told
+enum-told c = search needs
+
+enum-told-2 : tie.Need-enum-told-2
+enum-told-2 c = search needs
+
+enum-told-3 : tie.Need-enum-told-3
+enum-told-3 c = search needs
+
+enum-told-4 : tie.Need-enum-told-4
+enum-told-4 c = search needs
+
+returns : tie.Need-returns
+returns c = λ fs I. sym (ap (λ (y : Token). check (tokenOf y) (scanOf (withFrames (c .before .before .args .scan) fs))) (c .enum-told .given .1))
+
+returns-2 : tie.Need-returns-2
+returns-2 c = λ fs I.
+    let q = c .before .before .args .scan in
+    sym (ap (λ (y : Token). check (tokenOf y) (scanOf (withFrames q fs))) (c .enum-told2 .given .1) ∙ ap (λ (n : ℕ). ltb n 8) (length-stack fs (q .depth)))
+
+returns-3 : tie.Need-returns-3
+returns-3 c = λ fs I.
+    let q = c .before .before .before .args .scan in
+    ap (λ (b : Bool). b && not (q .«no_item»)) (inside-is fs (q .depth))
+    ∙ sym (ap (λ (y : Token). check (tokenOf y) (scanOf (withFrames q fs))) (c .before .enum-told3 .given .1))
+
+returns-4 : tie.Need-returns-4
+returns-4 c = λ fs I.
+    let a = c .before .before .before .before .args in
+    ap (λ (b : Bool). b && not (a .scan .«no_item»)) (barred-is (a .scan) fs (a .frame) I)
+    ∙ sym (ap (λ (y : Token). check (tokenOf y) (scanOf (withFrames (a .scan) fs))) (c .before .before .enum-told4 .given .1))
+
+pub fits-spec : {M : Type 1} → statement M
+fits-spec =
+    tie.close
+    (tie.spec enum-told enum-told-2 enum-told-3 enum-told-4 returns returns-2 returns-3 returns-4)

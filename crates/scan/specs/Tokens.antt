@@ -1,0 +1,33 @@
+-- TOKENS OF A TAPE: what the code's tokens and numbers stand for in the model.
+use Prim.Native.Nat.{ℕ, zero, suc}
+use Rattle.model.specs.Models.Tokens.{aBar, aClose, aLetter, anOpen}
+use Rattle.model.specs.Models.Tokens as model
+use Rattle.model.specs.Tree.{once, option, plus, star}
+use Rattle.model.specs.Tree as tree
+use Rattle.scan.specs.declared.token.Repeat.{Repeat}
+use Rattle.scan.specs.declared.token.Repeat.the-variants.{Once, Option, Plus, Star}
+use Rattle.scan.specs.declared.token.Token.{Token}
+use Rattle.scan.specs.declared.token.Token.the-variants.{Bar, Close, Letter, Open}
+
+abbrev pub repeatOf : Repeat → tree.Repeat
+repeatOf Once = once
+repeatOf Option = option
+repeatOf Star = star
+repeatOf Plus = plus
+
+-- a tape has no classes: its letters have the class 0
+abbrev pub tokenOf : Token → model.Token
+tokenOf (Letter r) = aLetter 0 (repeatOf r)
+tokenOf Open = anOpen
+tokenOf Bar = aBar
+tokenOf Close = aClose
+
+-- 0 to 3 a letter, taken once, `?`, `*` or `+`; 4 an open, 5 a bar; all else is a close, which is written 6
+abbrev pub readKind : ℕ → Token
+readKind zero = Letter Once
+readKind (suc zero) = Letter Option
+readKind (suc (suc zero)) = Letter Star
+readKind (suc (suc (suc zero))) = Letter Plus
+readKind (suc (suc (suc (suc zero)))) = Open
+readKind (suc (suc (suc (suc (suc zero))))) = Bar
+readKind (suc (suc (suc (suc (suc (suc k)))))) = Close

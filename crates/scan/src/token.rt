@@ -1,0 +1,60 @@
+// Tokens, and the numbers that stand for them on a tape.
+ghost use mathlib.Core.Path.{_≡_};
+ghost use Rattle.model.specs.Tree.{canLoop, canSkip};
+ghost use Rattle.scan.specs.Tokens.{readKind, repeatOf};
+
+// How often a letter is taken: once, `?`, `*`, `+`.
+pub enum Repeat {
+    Once,
+    Option,
+    Star,
+    Plus,
+}
+
+// A letter leads from a state to the next, an open from a union's start to its first alternative's start, a bar from an alternative's end to the
+// next one's start, a close from the last alternative's end to the union's end. A letter's class is not on the tape.
+pub enum Token {
+    Letter(Repeat),
+    Open,
+    Bar,
+    Close,
+}
+
+// The token that a number on the tape stands for.
+pub fn read_kind(kind: u8) -> Token
+    ensures { λ r. ⌜ r ≡ readKind kind ⌝ }
+{
+    match kind {
+        0 => Token::Letter(Repeat::Once),
+        1 => Token::Letter(Repeat::Option),
+        2 => Token::Letter(Repeat::Star),
+        3 => Token::Letter(Repeat::Plus),
+        4 => Token::Open,
+        5 => Token::Bar,
+        _ => Token::Close,
+    }
+}
+
+// A letter that may be left out.
+pub fn can_skip(repeat: Repeat) -> bool
+    ensures { λ r. ⌜ r ≡ canSkip (repeatOf repeat) ⌝ }
+{
+    match repeat {
+        Repeat::Once => false,
+        Repeat::Option => true,
+        Repeat::Star => true,
+        Repeat::Plus => false,
+    }
+}
+
+// A letter that may be taken again.
+pub fn can_loop(repeat: Repeat) -> bool
+    ensures { λ r. ⌜ r ≡ canLoop (repeatOf repeat) ⌝ }
+{
+    match repeat {
+        Repeat::Once => false,
+        Repeat::Option => false,
+        Repeat::Star => true,
+        Repeat::Plus => true,
+    }
+}

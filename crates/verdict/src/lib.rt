@@ -1,16 +1,12 @@
 // Whether any words at all are the image of a tree within 512 states and depth 8 (document 01, number 6). The shape's own numbers are trusted for
-// nothing before they are checked (`header`); the tape is taken from the masks (`apart`), laid out, and what is laid out is compared with the words
-// (`compare`). What was compared is what is run: nothing is copied and then trusted.
+// nothing before they are checked; the tape is taken from the masks (the crate `apart` does both), laid out, and what is laid out is compared with
+// the words (`compare`). What was compared is what is run: nothing is copied and then trusted.
 
-mod apart;
 mod compare;
-mod header;
 
-use crate::apart::marks_of;
-use crate::apart::take_apart;
 use crate::compare::agrees;
-use crate::header::Header;
-use crate::header::read_header;
+use apart::Header;
+use apart::take_apart;
 use tape::Shape;
 use tape::Tape;
 use tape::lay_out;
@@ -46,12 +42,12 @@ fn refuse() -> Checked
 pub fn check(words: &[u64]) -> Checked
     ensures { λ r. ⌜ CheckSays (now (words .entry)) r ⌝ }
 {
-    let header = read_header(words);
-    let Header::Sound(states, width, depth) = header else {
+    let parts = take_apart(words);
+    let header = parts.header;
+    let Header::Sound(_, width, depth) = header else {
         return refuse();
     };
-    let marks = marks_of(words, width, depth);
-    let tape = take_apart(marks, states - 1);
+    let tape = parts.tape;
     let mut places = [0u64; 16];
     let mut scatter = [0u64; 216];
     let mut gather = [0u64; 216];
@@ -63,7 +59,7 @@ pub fn check(words: &[u64]) -> Checked
     if deepest != depth {
         return refuse();
     }
-    let letters = marks.letters;
+    let letters = parts.letters;
     if !agrees(
         words,
         width,

@@ -8,31 +8,19 @@ use lib.ListN.{getD, length, take}
 use Rattle.model.specs.Edges.{depth, states}
 use Rattle.model.specs.Models.LayOut.{begin, reach}
 use Rattle.model.specs.Models.Tokens.{aBar, aClose, aLetter, anOpen, Token, tokens}
-use Rattle.model.specs.Tree.{once, option, plus, Repeat, star, Tree}
+use Rattle.model.specs.Tree.{once, option, plus, star, Tree}
 use Rattle.model.proofs.Image.Depth.{reach-is}
 use Rattle.model.proofs.Image.Tokens.{length-tokens}
 use Rattle.tape.specs.Rows.{kindOf}
 use Rattle.tape.specs.Says.{TreeOnTape}
-use Rattle.tape.specs.Tapes.{bare, bares, readKinds, TapeOf, tokensOf}
+use Rattle.tape.specs.Tapes.{bares, readKinds, TapeOf, tokensOf}
 use Rattle.scan.specs.Tokens.{readKind, tokenOf}
 use Rattle.tape.specs.declared.Tape.{Tape}
 use Rattle.tape.proofs.Bare.{bares-reach}
+use Rattle.tape.proofs.Tokens.{read-kind}
 use Rattle.image.specs.Says.{TokensOf}
 use Rattle.image.specs.Work.{KindsAre}
 use Rattle.image.proofs.Laws.TokenWords.{kind-at}
-
--- ---- a token's kind is that of the token without its class
-read-letter : (r : Repeat) → tokenOf (readKind (kindOf (aLetter 0 r))) ≡ aLetter 0 r
-read-letter once = refl
-read-letter option = refl
-read-letter star = refl
-read-letter plus = refl
-
-pub read-kind : (y : Token) → tokenOf (readKind (kindOf y)) ≡ bare y
-read-kind (aLetter c r) = read-letter r
-read-kind anOpen = refl
-read-kind aBar = refl
-read-kind aClose = refl
 
 -- every kind is at most 6
 kind-small : (y : Token) → min (kindOf y) 6 ≡ kindOf y

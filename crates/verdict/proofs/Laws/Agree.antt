@@ -36,7 +36,8 @@ use Rattle.tape.proofs.Bare.{bares-lay, bares-length}
 use Rattle.tape.proofs.FirstWords.{first-words}
 use Rattle.tape.proofs.Painted.{propagate-block-is, propagate-source-is, propagate-target-is, row-is}
 use Rattle.image.specs.Work.{threeRows}
-use Rattle.verdict.specs.Work.{sameGather, samePropagate, sameRepeats, sameScatter, sameTables, wordsAt}
+use Rattle.apart.specs.Work.{wordsAt}
+use Rattle.verdict.specs.Work.{sameGather, samePropagate, sameRepeats, sameScatter, sameTables}
 use Rattle.model.proofs.Image.Address.{chunk-at, gather-at, part-fits, part-of-part, propagate-at, repeats-at, scatter-at}
 
 -- ---- a section and its parts

@@ -14,7 +14,7 @@ use Rattle.mask.proofs.Laws.Filled.{Filled, filled-all, filled-next, filled-non
 use Rattle.mask.proofs.Laws.Same.{same-false, same-true}
 use Rattle.model.proofs.Image.Address.{part-fits}
 use Rattle.image.proofs.Laws.Parts.{AllLong, length-section}
-use Rattle.verdict.specs.Work.{wordsAt}
+use Rattle.apart.specs.Work.{wordsAt}
 -- Repeats: the section of the repeats beside the letters at the loops' places. Tables: three masks for each depth.
 pub mod Repeats
 pub mod Tables

@@ -12,7 +12,6 @@ use lib.Seq.{getD-drop}
 use Rattle.model.specs.Answers.{ImageOf}
 use Rattle.model.specs.Bits.{bit}
 use Rattle.model.specs.Edges.{states}
-use Rattle.model.specs.Image.{width}
 use Rattle.model.specs.Models.Apart.{anyBelow, bitOf, depthWord, gatherAt, gatherIn, lettersIn, propagateAt, repeatsIn, scatterAt, scatterIn, stateWord, tape, tokenAt, widthWord}
 use Rattle.model.specs.Models.LayOut.{begin, letter-place, loop-place, reach, valid}
 use Rattle.model.specs.Models.Tokens.{parse, Token, tokens}
@@ -27,70 +26,13 @@ use Rattle.model.proofs.Image.WellFormed.{well-fine}
 use Rattle.model.proofs.Laws.Bool.{and-both, and-split, is-true}
 use Rattle.model.proofs.Reading.WellFormed.{rule-well}
 use Rattle.tape.specs.Tapes.{bares, isTree, shapeOf, tableOf, TapeOf, tokensOf}
-use Rattle.tape.specs.declared.Shape.{Shape}
 use Rattle.tape.specs.declared.Shape.the-variants.{Other, Tree}
 use Rattle.tape.specs.declared.Tape.{Tape}
 use Rattle.tape.proofs.Bare.{bares-reach, bares-valid}
-use Rattle.verdict.specs.Work.{headerFits, sameAll, sameGather, samePropagate, sameRepeats, sameScatter}
+use Rattle.apart.specs.Says.{Headed}
+use Rattle.verdict.specs.Work.{sameAll, sameGather, samePropagate, sameRepeats, sameScatter}
 use Rattle.model.proofs.Image.Address.{gather-at, repeats-at, scatter-at}
-use Rattle.verdict.proofs.Laws.Header.{counts-fit, counts-of, fits-of, header-fits}
 use Rattle.verdict.proofs.Laws.Agree.{gather-is, letters-is, propagate-is, repeats-is, scatter-is}
-
--- ---- the header
-pub record Headed (ws : List ℕ) : Type 0 where
-  pub shape-count : getD ws 0 0 ≡ 3
-  pub some : 2 ≤ stateWord ws
-  pub few : stateWord ws ≤ 512
-  pub width-word : widthWord ws ≡ width (stateWord ws)
-  pub shallow : depthWord ws ≤ 8
-  pub long : length ws ≡ 9 + widthWord ws * (515 + 9 * depthWord ws)
-  pub letters-count : getD ws 4 0 ≡ 256 * widthWord ws
-  pub repeats-count : getD ws (5 + 256 * widthWord ws) 0 ≡ 256 * widthWord ws
-  pub scatter-count : getD ws (6 + 512 * widthWord ws) 0 ≡ 3 * widthWord ws * depthWord ws
-  pub gather-count : getD ws (7 + 512 * widthWord ws + 3 * widthWord ws * depthWord ws) 0 ≡ 3 * widthWord ws * depthWord ws
-  pub propagate-count : getD ws (8 + 512 * widthWord ws + 6 * widthWord ws * depthWord ws) 0 ≡ 3 * widthWord ws * suc (depthWord ws)
-
-pub header-is : (ws : List ℕ) → T (headerFits ws) ↔ Headed ws
-header-is ws = (there, back)
-  where
-    there : T (headerFits ws) → Headed ws
-    there h =
-        let F = fits-of ws h in
-        let C = counts-of ws (widthWord ws) (depthWord ws) (F .counts) in
-        record {
-          shape-count = F .shape .three;
-          some = F .shape .some-states;
-          few = F .shape .few-states;
-          width-word = F .shape .wide;
-          shallow = F .shape .shallow;
-          long = F .long;
-          letters-count = C .letters;
-          repeats-count = C .repeats;
-          scatter-count = C .scatters;
-          gather-count = C .gathers;
-          propagate-count = C .propagates;
-        }
-
-    back : Headed ws → T (headerFits ws)
-    back H =
-        header-fits ws (record {
-          shape = record {
-            four = omega (arith, H .long);
-            three = H .shape-count;
-            some-states = H .some;
-            few-states = H .few;
-            wide = H .width-word;
-            shallow = H .shallow;
-          };
-          long = H .long;
-          counts = counts-fit ws (widthWord ws) (depthWord ws) (record {
-            letters = H .letters-count;
-            repeats = H .repeats-count;
-            scatters = H .scatter-count;
-            gathers = H .gather-count;
-            propagates = H .propagate-count;
-          });
-        })
 
 -- the count that follows n words of a section
 count-at : (S ws : List ℕ) (a n k : ℕ) → S ≡ drop a ws → a + n ≡ k → getD (drop n S) 0 0 ≡ getD ws k 0

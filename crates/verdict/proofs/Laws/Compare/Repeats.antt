@@ -11,7 +11,8 @@ use Rattle.model.specs.Models.Words.{andWords, eachWord}
 use Rattle.mask.proofs.Laws.Each.{each-word}
 use Rattle.model.proofs.Image.Address.{part-fits}
 use Rattle.image.proofs.Laws.Parts.{AllLong}
-use Rattle.verdict.specs.Work.{sameRepeats, wordsAt}
+use Rattle.apart.specs.Work.{wordsAt}
+use Rattle.verdict.specs.Work.{sameRepeats}
 use Rattle.verdict.proofs.Laws.Compare.{differ-here, length-there, same-all, same-more, same-none, SameTo, word-there}
 
 length-each : (op : ℕ → ℕ → ℕ) (xs ys : List ℕ) → length xs ≤ length ys → length (eachWord op xs ys) ≡ length xs

@@ -1,32 +1,17 @@
--- WHAT THE PARTS OF READ BACK WRITE: the first byte in or out of a class from a byte on, and the text of each token.
-use mathlib.Core.Path.{_≡_}
-use mathlib.Core.Bool.{true, false, cond}
+-- WHAT THE PARTS OF READ BACK WRITE: the text of each token, and of a row of them.
+use mathlib.Core.Bool.{cond}
 use mathlib.Core.List.{List, [], _++_}
-use Prim.Native.Nat.{ℕ, zero, suc, _+_, _*_, _≤_, _<_}
+use Prim.Native.Nat.{ℕ, zero, suc, _+_, _*_, _≤_}
 use lib.Dec.{eqb, leb, ltb}
 use lib.ListN.{getD, length}
 use lib.Seq.{sets}
-use Rattle.model.specs.Bits.{bit, mask}
+use Rattle.model.specs.Bits.{mask}
 use Rattle.model.specs.Bytes.{bytes}
 use Rattle.model.specs.Image.{join}
 use Rattle.model.specs.Models.Apart.{bitOf, lettersIn}
 use Rattle.model.specs.Writing.{classWriting}
 use Rattle.writing.specs.declared.Written.{Written}
 use Rattle.writing.specs.declared.Written.the-variants.{Done, NoRoom}
-
--- ---- classes
--- the first byte from b on that is in the class c, or that is not; 256 if there is none
-pub record FirstIn (c b r : ℕ) : Type 0 where
-  pub from : b ≤ r
-  pub upto : r ≤ 256
-  pub skipped : (x : ℕ) → b ≤ x → x < r → bit c x ≡ false
-  pub hit : r < 256 → bit c r ≡ true
-
-pub record FirstOut (c b r : ℕ) : Type 0 where
-  pub from : b ≤ r
-  pub upto : r ≤ 256
-  pub skipped : (x : ℕ) → b ≤ x → x < r → bit c x ≡ true
-  pub hit : r < 256 → bit c r ≡ false
 
 -- ---- tokens
 -- the bytes that lead to a state

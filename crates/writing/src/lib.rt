@@ -1,8 +1,6 @@
 // Read back: from an image to its tree's plain writing (document 01, "Plain writing"). The same functions first find how long the writing is, with no
 // room lent, and then write it: what would lie past the room is counted and not written.
 
-mod bytes;
-mod classes;
 mod letter;
 mod ranges;
 

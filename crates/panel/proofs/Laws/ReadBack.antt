@@ -12,10 +12,10 @@ use Rattle.model.specs.Writing.{classWriting, repeatWriting, writing}
 use Rattle.model.proofs.Answers.ReadBack.{read-back-one}
 use Rattle.model.proofs.Image.Tokens.{length-tokens}
 use Rattle.model.proofs.Image.TokenWriting.{tokens-writing, tokensWriting, tokenWriting}
+use Rattle.plain.proofs.Laws.Bounds.{class-short}
 use Rattle.writing.specs.Says.{writtenAnswer}
 use Rattle.writing.specs.declared.Written.{Written}
 use Rattle.writing.specs.declared.Written.the-variants.{Done, NoRoom, NotAnImage}
-use Rattle.writing.proofs.Laws.Bounds.{class-short}
 use Rattle.panel.specs.Says.{Gives}
 use Rattle.panel.proofs.Laws.Given.{count-is, number-is, one-given}
 

@@ -8,8 +8,8 @@ use native.Mathlib.Numerals.{add-one}
 use native.Mathlib.Omega.{arith}
 use lib.ListN.{getD, length, set}
 use Rattle.model.specs.Image.{join}
+use Rattle.plain.proofs.Laws.Texts.{Writes, writes-as, writes-none, writes-one, writes-then}
 use Rattle.writing.specs.Work.{tokenText}
-use Rattle.writing.proofs.Laws.Texts.{Writes, writes-as, writes-none, writes-one, writes-then}
 use Rattle.writing.proofs.Laws.Tokens.{open-text, token-short}
 
 join-split : (g : ℕ → List ℕ) (n k a : ℕ) → join (n + k) a g ≡ join n a g ++ join k (a + n) g

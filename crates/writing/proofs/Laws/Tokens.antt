@@ -8,8 +8,8 @@ use lib.Dec.{eqb, ltb}
 use lib.ListN.{length, length-append}
 use Rattle.model.specs.Writing.{classWriting}
 use Rattle.model.proofs.Laws.Bool.{cond-cases, le-false, le-true, unequal}
+use Rattle.plain.proofs.Laws.Bounds.{class-short}
 use Rattle.writing.specs.Work.{classTo, signText, tokenText}
-use Rattle.writing.proofs.Laws.Bounds.{class-short}
 
 -- ---- signs
 pub plus-sign : (kind : ℕ) → (kind ≡ 0 → ⊥) → (kind ≡ 1 → ⊥) → (kind ≡ 2 → ⊥) → signText kind ≡ 43 ∷ []

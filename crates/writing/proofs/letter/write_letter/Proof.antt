@@ -5,10 +5,10 @@ use native.Mathlib.Omega.{arith}
 use lib.ListN.{length}
 use Rattle.model.specs.Models.Words.{value}
 use Rattle.model.specs.Writing.{classWriting}
+use Rattle.plain.proofs.Laws.Bounds.{class-short}
+use Rattle.plain.proofs.Laws.Texts.{known, writes-as, writes-then}
 use Rattle.writing.specs.Work.{classTo, signText}
-use Rattle.writing.proofs.Laws.Bounds.{class-short}
 use Rattle.writing.proofs.Laws.Letters.{class-value}
-use Rattle.writing.proofs.Laws.Texts.{writes-as, writes-then}
 use Rattle.writing.proofs.letter.write_letter.Statement.{statement}
 use Rattle.writing.proofs.letter.write_letter.Tie as tie
 
@@ -19,13 +19,13 @@ class-to-requires : tie.Need-class-to-requires
 class-to-requires c κs = let p = c .before .before .pre in (p .0, p .1)
 
 write-class-requires : tie.Need-write-class-requires
-write-class-requires c κs = c .before .before .before .before .pre .3
+write-class-requires c κs = tt
 
 write-sign-requires : tie.Need-write-sign-requires
 write-sign-requires c κs =
     let p = c .before .before .before .before .before .before .before .before .pre in
     let class = c .before .before .before .before .before .class-to .result in
-    (p .2, after-class (value class) (p .3) (c .before .before .before .write-class .ensures .0))
+    (p .2, after-class (value class) (p .3) (c .before .before .before .write-class .ensures .0 (p .3)))
 
 same-length : tie.Need-same-length
 same-length c = c .before .out2 .given ∙ c .before .before .before .before .before .out .given
@@ -33,10 +33,12 @@ same-length c = c .before .out2 .given ∙ c .before .before .before .before .be
 returns : tie.Need-returns
 returns c =
     let o = c .before .before .before .before .before .before .before .before in
-    let a = o .before .before .before .args in
+    let s = o .before .before .before in
+    let a = s .args in
     let e = class-value (a .words .now) (a .width) (a .state) (o .class-to .result) (o .class-to .ensures) in
+    let w = known (s .pre .3) (c .before .before .before .before .before .before .write-class .ensures) in
     writes-then (a .out .now) (a .at) (classWriting (classTo (a .words .now) (a .width) (a .state))) (signText (a .kind))
-    (writes-as (a .out .now) (a .at) (ap classWriting e) (c .before .before .before .before .before .before .write-class .ensures))
+    (writes-as (a .out .now) (a .at) (ap classWriting e) w)
     (c .before .before .write-sign .ensures)
 
 pub write-letter-spec : {M : Type 1} → statement M

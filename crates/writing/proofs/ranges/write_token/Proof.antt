@@ -1,7 +1,7 @@
 -- By the kind: a letter, or the one byte of a bar or a close.
 use mathlib.Core.Path.{sym}
 use borrow.Author.Needs.{needs}
-use Rattle.writing.proofs.Laws.Texts.{writes-as, writes-one}
+use Rattle.plain.proofs.Laws.Texts.{writes-as, writes-one}
 use Rattle.writing.proofs.Laws.Tokens.{bar-text, close-text, letter-text}
 use Rattle.writing.proofs.ranges.write_token.Statement.{statement}
 use Rattle.writing.proofs.ranges.write_token.Tie as tie

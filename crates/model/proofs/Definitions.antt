@@ -5,7 +5,8 @@ pub mod Ends
 pub mod Live
 pub mod EndsList
 pub mod TreeEnds
--- The edges without a letter, and those that take a byte, are the ways along the arcs that the proofs go over.
+-- The edges without a letter, and those that take a byte, are the ways along the arcs that the proofs go over; all lead to the tree's states.
 pub mod Free
 pub mod Takes
+pub mod Below
 pub mod Along

@@ -2,6 +2,7 @@
 -- The folders after them prove what those rest on; Laws has what all of them cite.
 pub mod Definitions
 pub mod Answers
+pub mod Watch
 pub mod Examples
 pub mod Reading
 pub mod Language

@@ -4,6 +4,7 @@
 -- and all of them (`bits-are`); rows of words that hold sets, and the run on them (`step-words`, `run-words`), which uses Ends.
 pub mod Ripple
 pub mod Bits
+pub mod RowBits
 pub mod Put
 pub mod Runs
 pub mod Full

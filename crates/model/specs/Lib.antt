@@ -10,6 +10,8 @@ pub mod Live
 pub mod Ends
 pub mod Image
 pub mod Answers
+-- Change requests: the watch (Wish 1).
+pub mod Watch
 -- The worked examples, every one proved.
 pub mod Worked
 -- Models: what the code computes. The theorems in proofs/ tie each to the definitions above.

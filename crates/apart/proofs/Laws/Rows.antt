@@ -18,7 +18,8 @@ use Rattle.model.specs.Models.Words.{eachWord, Fit, value}
 use Rattle.model.proofs.Laws.Bits.{bit-zero}
 use Rattle.model.proofs.Laws.Bool.{le-or-lt}
 use Rattle.model.proofs.Words.Bits.{bit-and, bit-not, bit-or}
-use Rattle.mask.proofs.Laws.Bits.{none-bit, none-fit, row-bit}
+use Rattle.mask.proofs.Laws.Bits.{none-bit, none-fit}
+use Rattle.model.proofs.Words.RowBits.{row-bit}
 use Rattle.model.proofs.Words.Operations.{each-length}
 use Rattle.mask.proofs.Laws.Each.{each-word}
 use Rattle.tape.specs.Joins.{joinWord, Only}

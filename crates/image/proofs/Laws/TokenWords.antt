@@ -13,7 +13,7 @@ use Rattle.model.specs.Models.LayOut.{set}
 use Rattle.model.specs.Models.Tokens.{aBar, aClose, aLetter, anOpen, classOf, Token}
 use Rattle.model.proofs.Image.Classes.{AllFine, class-is, Fine, fine-at}
 use Rattle.model.proofs.Words.Holds.{set-holds}
-use Rattle.mask.proofs.Laws.Bits.{row-bit}
+use Rattle.model.proofs.Words.RowBits.{row-bit}
 use Rattle.tape.specs.Rows.{kindOf, rowWords, tokenWords}
 use Rattle.image.specs.Work.{inClass}
 

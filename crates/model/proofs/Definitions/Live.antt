@@ -24,6 +24,19 @@ reached-map : {R S : ℕ → ℕ → Type 0} {D E : ℕ → Type 0} → ((q r : 
 reached-map f g (itself h) = itself (g _ h)
 reached-map f g (onward {q} {r} c e) = onward (reached-map f g c) (f q r e)
 
+module _ (t : Tree) where
+  after-map : (b : ℕ) {D E : ℕ → Type 0} → ((q : ℕ) → D q → E q) → (q : ℕ) → After t b D q → After t b E q
+  after-map b {D} {E} f q = reached-map (λ x y e. e) go
+    where
+      go : (r : ℕ) → (r ≡ 0) ⊎ ((q : ℕ) × D q × Takes t b q r) → (r ≡ 0) ⊎ ((q : ℕ) × E q × Takes t b q r)
+      go r (inl e) = inl e
+      go r (inr m) = inr (m .0, f (m .0) (m .1), m .2)
+
+  -- and so do the live states
+  pub live-map : (text : List ℕ) {D E : ℕ → Type 0} → ((q : ℕ) → D q → E q) → (q : ℕ) → LiveFrom t D text q → LiveFrom t E text q
+  live-map [] f q h = f q h
+  live-map (b ∷ text) f q h = live-map text (after-map b f) q h
+
 module _ (t : Tree) (F : Full t) where
   abbrev Silent : ℕ → ℕ → Type 0
   Silent = AnyEdge (Propagates t) (Gathers t) (Scatters t)
@@ -71,28 +84,17 @@ module _ (t : Tree) (F : Full t) where
       back x (inl e) = subst (λ (y : ℕ). T (moved (arcs t 0 0) b D y)) (sym e) tt
       back x (inr m) = let a = takes-is t b (m .0) x .0 (m .2) in moved-in t F b D (a .0) (m .0) x (a .1) (a .2) (m .1)
 
-  after-map : (b : ℕ) {D E : ℕ → Type 0} → ((q : ℕ) → D q → E q) → (q : ℕ) → After t b D q → After t b E q
-  after-map b {D} {E} f q = reached-map (λ x y e. e) go
-    where
-      go : (r : ℕ) → (r ≡ 0) ⊎ ((q : ℕ) × D q × Takes t b q r) → (r ≡ 0) ⊎ ((q : ℕ) × E q × Takes t b q r)
-      go r (inl e) = inl e
-      go r (inr m) = inr (m .0, f (m .0) (m .1), m .2)
-
-  live-map : (text : List ℕ) {D E : ℕ → Type 0} → ((q : ℕ) → D q → E q) → (q : ℕ) → LiveFrom t D text q → LiveFrom t E text q
-  live-map [] f q h = f q h
-  live-map (b ∷ text) f q h = live-map text (after-map b f) q h
-
   -- after the bytes w, the last one first, and then those of a text
   live-on : (w text : List ℕ) (q : ℕ) → T (liveSet t F (feed w text) q) ↔ LiveFrom t (λ x. T (liveSet t F w x)) text q
   live-on w [] q = (λ h. h, λ h. h)
   live-on w (b ∷ text) q = (
-    λ h. live-map text (λ x. after-is b (liveSet t F w) x .0) q (live-on (b ∷ w) text q .0 h),
-    λ h. live-on (b ∷ w) text q .1 (live-map text (λ x. after-is b (liveSet t F w) x .1) q h),
+    λ h. live-map t text (λ x. after-is b (liveSet t F w) x .0) q (live-on (b ∷ w) text q .0 h),
+    λ h. live-on (b ∷ w) text q .1 (live-map t text (λ x. after-is b (liveSet t F w) x .1) q h),
   )
 
   -- AFTER A TEXT
   pub live-is : (text : List ℕ) (q : ℕ) → T (liveSet t F (feed [] text) q) ↔ Live t text q
   live-is text q = (
-    λ h. live-map text (λ x. before-is x .0) q (live-on [] text q .0 h),
-    λ h. live-on [] text q .1 (live-map text (λ x. before-is x .1) q h),
+    λ h. live-map t text (λ x. before-is x .0) q (live-on [] text q .0 h),
+    λ h. live-on [] text q .1 (live-map t text (λ x. before-is x .1) q h),
   )

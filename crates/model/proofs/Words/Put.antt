@@ -68,7 +68,7 @@ fit-set [] i v h l = tt
 fit-set (w ∷ ws) zero v h l = (l, h .1)
 fit-set (w ∷ ws) (suc i) v h l = (h .0, fit-set ws i v (h .1) l)
 
-fit-at : (ws : List ℕ) (i : ℕ) → Fit ws → getD ws i 0 < 2 ^ 64
+pub fit-at : (ws : List ℕ) (i : ℕ) → Fit ws → getD ws i 0 < 2 ^ 64
 fit-at [] i h = pow-pos 64
 fit-at (w ∷ ws) zero h = h .0
 fit-at (w ∷ ws) (suc i) h = fit-at ws i (h .1)

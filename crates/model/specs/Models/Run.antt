@@ -1,9 +1,10 @@
 -- THE RUN ON WORDS (document 01, "The image", last paragraph): "shift and letter mask for the move, then subtraction for scatter, addition for
 -- gather, subtraction for propagate".
-use mathlib.Core.Bool.{false}
-use mathlib.Core.List.{List, [], _∷_}
-use Prim.Native.Nat.{ℕ, zero, suc}
-use Rattle.model.specs.Models.Words.{addWords, andWords, notWords, orWords, shiftWords, subtractWords, xorWords}
+use mathlib.Core.Bool.{Bool, true, false}
+use mathlib.Core.List.{List, [], _∷_, _++_}
+use Prim.Native.Nat.{ℕ, zero, suc, _+_}
+use Rattle.model.specs.Bits.{bit}
+use Rattle.model.specs.Models.Words.{addWords, andWords, notWords, orWords, shiftWords, subtractWords, value, xorWords}
 
 -- ---- one pass over the live states, with its three masks
 abbrev pub scatterWords : (block source target live : List ℕ) → List ℕ
@@ -61,3 +62,26 @@ stepWords M d b live = passWords M d (moveBy M b live)
 abbrev pub runWords : Masks → ℕ → List ℕ → List ℕ
 runWords M d [] = passWords M d (M .startMask)
 runWords M d (b ∷ w) = stepWords M d b (runWords M d w)
+
+-- ---- A STRETCH, from any live words and any place: the words after it
+abbrev pub runFrom : Masks → ℕ → (live stretch : List ℕ) → List ℕ
+runFrom M d live [] = live
+runFrom M d live (b ∷ rest) = runFrom M d (stepWords M d b live) rest
+
+-- a place as a list, if it is an end
+abbrev pub noted : Bool → ℕ → List ℕ
+noted true p = p ∷ []
+noted false p = []
+
+-- and the ends after place p: those places after a byte of the stretch at which state `last` is live
+abbrev pub endsAfter : Masks → (d last p : ℕ) → (live stretch : List ℕ) → List ℕ
+endsAfter M d last p live [] = []
+endsAfter M d last p live (b ∷ rest) =
+    let next = stepWords M d b live in
+    noted (bit (value next) last) (p + 1) ++ endsAfter M d last (p + 1) next rest
+
+-- A WHOLE TEXT is a beginning, with place 0, and one stretch
+abbrev pub endsWith : Masks → (d last : ℕ) → List ℕ → List ℕ
+endsWith M d last text =
+    let first = passWords M d (M .startMask) in
+    noted (bit (value first) last) 0 ++ endsAfter M d last 0 first text

@@ -1,10 +1,10 @@
 -- MASKS AS ROWS OF 64-BIT WORDS, low word first, and the operations of the run over any number of words.
-use mathlib.Core.Bool.{Bool, _||_}
+use mathlib.Core.Bool.{Bool, _&&_, _||_}
 use mathlib.Core.List.{List, [], _∷_}
 use Prim.Native.Nat.{ℕ, _+_, _-_, _*_, _/_, _%_, _^_, _<_}
-use lib.Dec.{leb, ltb}
+use lib.Dec.{eqb, leb, ltb}
 use lib.Bits.{bitAnd, bitOr, bitXor}
-use lib.ListN.{getD, set}
+use lib.ListN.{getD, length, set}
 use Rattle.model.specs.Bits.{digit}
 
 -- the number that words make, how many bits it has, and that each of them is a word
@@ -23,6 +23,10 @@ Fit (w ∷ ws) = (w < 2 ^ 64) × Fit ws
 -- a row with bit i, which is bit i mod 64 of word i / 64; at or past the end nothing changes
 abbrev pub putBit : List ℕ → ℕ → List ℕ
 putBit ws i = set ws (i / 64) (bitOr (getD ws (i / 64) 0) (2 ^ (i % 64)))
+
+-- whether words are a mask of m states: as many as the last state asks, and no bit above it in its word
+abbrev pub isMask : ℕ → List ℕ → Bool
+isMask m ws = let last = m - 1 in eqb (length ws) (last / 64 + 1) && eqb (getD ws (last / 64) 0 / 2 ^ (last % 64) / 2) 0
 
 -- ---- word by word
 abbrev pub eachWord : (ℕ → ℕ → ℕ) → List ℕ → List ℕ → List ℕ

@@ -5,7 +5,7 @@ use mathlib.Core.List.{List, map}
 use Prim.Native.Nat.{ℕ, _*_, _≤_, _<_}
 use native.Mathlib.Omega.{arith}
 use lib.ListN.{length, length-map}
-use Rattle.model.specs.Answers.{done, ImageOf, no-room, NoImage, written}
+use Rattle.model.specs.Answers.{done, ImageOf, no-room, written}
 use Rattle.model.specs.Edges.{states}
 use Rattle.model.specs.Image.{width}
 use Rattle.model.specs.Models.Apart.{widthWord}
@@ -17,9 +17,7 @@ use Rattle.model.proofs.Laws.Stores.{sets-fit}
 use Rattle.tape.specs.Tapes.{TapeOf}
 use Rattle.tape.specs.declared.Tape.{Tape}
 use Rattle.image.proofs.Laws.Written.{length-image}
-use Rattle.verdict.specs.Says.{CheckSays, is-image, is-other}
-use Rattle.verdict.specs.declared.Checked.{Checked}
-use Rattle.verdict.specs.declared.Verdict.the-variants.{Image, Other}
+use Rattle.verdict.proofs.Laws.Found.{Found}
 use Rattle.writing.specs.Says.{WrittenSays}
 use Rattle.writing.specs.Work.{bytesAfter, Lettered, rangeText, writtenIf}
 use Rattle.writing.specs.declared.Written.{Written}
@@ -57,30 +55,6 @@ module _ (ws : List ℕ) (s : Tree) (I : ImageOf ws s) where
         (subst (λ (l : List ℕ). WrittenSays ws before (writtenIf (rangeText ws W (t .kinds) (t .length) 0) before) l) (sym a)
         (of-text ws s I before (rangeText ws W (t .kinds) (t .length) 0)
         (ap (λ (w : ℕ). rangeText ws w (t .kinds) (t .length) 0) (sym (ap widthWord (I .laid))) ∙ all-written ws s I t A room)))
-
--- from the check's verdict: an image, or not
-pub record Found (ws : List ℕ) (w : ℕ) (t : Tape) : Type 0 where
-  pub tree : Tree
-  pub image-of : ImageOf ws tree
-  pub width-is : w ≡ width (states tree)
-  pub tape-of : TapeOf tree t
-
-pub found : (ws : List ℕ) (r : Checked) {w : ℕ} → CheckSays ws r → r .verdict ≡ Image w → Found ws w (r .tape)
-found ws r {w} (is-image s I e A) g = record { tree = s; image-of = I; width-is = same (sym g ∙ e); tape-of = A }
-  where
-    same : Image w ≡ Image (width (states s)) → w ≡ width (states s)
-    same p = cc
-found ws r {w} (is-other n e) g = absurd (no (sym g ∙ e))
-  where
-    no : Image w ≡ Other → ⊥
-    no p = let z : _≡_ {A = ℕ} 0 1 = cc in omega arith
-
-pub not-found : (ws : List ℕ) (r : Checked) → CheckSays ws r → r .verdict ≡ Other → NoImage ws
-not-found ws r (is-image s I e A) g = absurd (no (sym g ∙ e))
-  where
-    no : Other ≡ Image (width (states s)) → ⊥
-    no p = let z : _≡_ {A = ℕ} 0 1 = cc in omega arith
-not-found ws r (is-other n e) g = n
 
 -- what `write` asks, and what it answers
 module _ {ws : List ℕ} {w : ℕ} {t : Tape} (F : Found ws w t) where

@@ -20,7 +20,8 @@ use Rattle.model.proofs.Image.SameBits.{fit-drop, fit-take}
 use Rattle.model.proofs.Laws.Bool.{is-true, unequal}
 use Rattle.model.proofs.Words.Bits.{mask-lt}
 use Rattle.model.proofs.Words.Holds.{Holds}
-use Rattle.mask.proofs.Laws.Bits.{none-bit, none-fit, one-shifted, read-bit, row-bit}
+use Rattle.mask.proofs.Laws.Bits.{none-bit, none-fit, one-shifted, read-bit}
+use Rattle.model.proofs.Words.RowBits.{row-bit}
 use Rattle.model.proofs.Words.Put.{put-bit, put-fit, put-length}
 use Rattle.writing.specs.Work.{classTo}
 

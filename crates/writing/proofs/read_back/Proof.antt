@@ -2,7 +2,8 @@
 use mathlib.Core.Path.{refl}
 use borrow.Author.Needs.{needs}
 use Rattle.model.specs.Answers.{not-an-image}
-use Rattle.writing.proofs.Laws.Answer.{asked, found, not-found, says-found}
+use Rattle.verdict.proofs.Laws.Found.{found, not-found}
+use Rattle.writing.proofs.Laws.Answer.{asked, says-found}
 use Rattle.writing.proofs.read_back.Statement.{statement}
 use Rattle.writing.proofs.read_back.Tie as tie
 

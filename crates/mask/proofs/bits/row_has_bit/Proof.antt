@@ -4,7 +4,8 @@ use Prim.Native.Nat.{_/_, _%_}
 use native.Mathlib.Omega.{arith}
 use borrow.Author.Needs.{needs}
 use lib.ListN.{getD}
-use Rattle.mask.proofs.Laws.Bits.{fit-row, read-bit, row-bit, row-past}
+use Rattle.mask.proofs.Laws.Bits.{fit-row, read-bit}
+use Rattle.model.proofs.Words.RowBits.{row-bit, row-past}
 use Rattle.mask.proofs.bits.row_has_bit.Statement.{statement}
 use Rattle.mask.proofs.bits.row_has_bit.Tie as tie
 

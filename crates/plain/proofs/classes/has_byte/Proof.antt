@@ -4,7 +4,8 @@ use Prim.Native.Nat.{_/_, _%_}
 use native.Mathlib.Omega.{arith}
 use borrow.Author.Needs.{needs}
 use lib.ListN.{getD}
-use Rattle.mask.proofs.Laws.Bits.{fit-row, read-bit, row-bit, row-past}
+use Rattle.mask.proofs.Laws.Bits.{fit-row, read-bit}
+use Rattle.model.proofs.Words.RowBits.{row-bit, row-past}
 use Rattle.plain.proofs.classes.has_byte.Statement.{statement}
 use Rattle.plain.proofs.classes.has_byte.Tie as tie
 

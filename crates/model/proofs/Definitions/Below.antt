@@ -1,0 +1,77 @@
+-- EVERY EDGE LEADS TO ONE OF THE TREE'S STATES, for the arcs of a sequence end at or below the state in which it ends.
+use Prim.Native.Nat.{ℕ, suc, _≤_, _<_}
+use mathlib.Core.Logic.{inl, inr}
+use native.Mathlib.Omega.{arith}
+use Rattle.model.specs.Lists.{_∈_, All}
+use Rattle.model.specs.Tree.{Alts, end, last, letter, more, Seq, Tree, union}
+use Rattle.model.specs.Edges.{altsEnd, seqEnd, startsOf, states, ways}
+use Rattle.model.specs.Live.{Free, Takes}
+use Rattle.model.proofs.Definitions.Free.{free-is}
+use Rattle.model.proofs.Definitions.Takes.{takes-is}
+use Rattle.model.proofs.Language.Arcs.{altsArcs, Arc, arcs, branch-whole, Byte, forkArc, letter-whole, Still}
+use Rattle.model.proofs.Language.Languages.{altsEnd-lt, seqEnd-le}
+use Rattle.model.proofs.Laws.Lists.{all-app, all-in, all-map}
+
+-- the alternatives of a union start at or below the last one's end
+starts-below : (a : Alts) (p r : ℕ) → r ∈ startsOf (ways a p) → r ≤ altsEnd a p
+starts-below (last s) p r (inl e) = omega (arith, seqEnd-le s (suc p))
+starts-below (last s) p r (inr h) = absurd h
+starts-below (more s a) p r (inl e) = omega (arith, seqEnd-le s (suc p), altsEnd-lt a (seqEnd s (suc p)))
+starts-below (more s a) p r (inr h) = starts-below a (seqEnd s (suc p)) r h
+
+-- the moves along an arc lead to a state or below it
+record To (top : ℕ) (e : Arc) : Type 0 where
+  pub still : (q r : ℕ) → Still (e .kind) (e .from) (e .to) q r → r ≤ top
+  pub byte : (b q r : ℕ) → Byte b (e .kind) (e .from) (e .to) q r → r ≤ top
+
+higher : {top other : ℕ} → top ≤ other → (e : Arc) → To top e → To other e
+higher l e I = record { still = λ q r m. omega (arith, I .still q r m); byte = λ b q r m. omega (arith, I .byte b q r m) }
+
+mutual
+  below : (s : Seq) (t k : ℕ) → All (To (seqEnd s t)) (arcs s t k)
+  below end t k = tt
+  below (letter c r s) t k =
+      let l = seqEnd-le s (suc t) in
+      letter-whole (To (seqEnd s (suc t))) c r s t k (record {
+        takes = record { still = λ q r m. absurd m; byte = λ b q r m. omega (arith, m .2) };
+        loops = λ x. record { still = λ q r m. absurd m; byte = λ b q r m. omega (arith, m .2) };
+        skips = λ x. record { still = λ q r m. omega (arith, m .1); byte = λ b q r m. absurd m };
+        rest = below s (suc t) k;
+      })
+  below (union a s) t k =
+      branch-whole (To z) a s t k (record {
+        skips = λ x. record { still = λ q r m. omega (arith, m .1, seqEnd-le s u); byte = λ b q r m. absurd m };
+        forks = record { still = fork; byte = λ b q r m. absurd m };
+        alts = all-map (To (altsEnd a t)) (To z) (higher (omega (arith, seqEnd-le s u))) (altsArcs a t k) (alts-below a t k);
+        rest = below s u k;
+      })
+    where
+      u : ℕ
+      u = suc (altsEnd a t)
+
+      z : ℕ
+      z = seqEnd s u
+
+      fork : (q r : ℕ) → Still (forkArc (ways a t)) t u q r → r ≤ z
+      fork q r (inl m) = omega (arith, starts-below a t r (m .1), seqEnd-le s u)
+      fork q r (inr m) = omega (arith, m .1, seqEnd-le s u)
+
+  alts-below : (a : Alts) (p k : ℕ) → All (To (altsEnd a p)) (altsArcs a p k)
+  alts-below (last s) p k = below s (suc p) (suc k)
+  alts-below (more s a) p k =
+      let z = seqEnd s (suc p) in
+      let e = altsEnd a z in
+      all-app (To e) (arcs s (suc p) (suc k)) (altsArcs a z k)
+      (all-map (To z) (To e) (higher (omega (arith, altsEnd-lt a z))) (arcs s (suc p) (suc k)) (below s (suc p) (suc k))) (alts-below a z k)
+
+module _ (t : Tree) where
+  within : (e : Arc) → e ∈ arcs t 0 0 → To (seqEnd t 0) e
+  within = all-in (To (seqEnd t 0)) (arcs t 0 0) (below t 0 0)
+
+  -- AN EDGE WITHOUT A LETTER
+  pub free-below : (q r : ℕ) → Free t q r → r < states t
+  free-below q r h = let a = free-is t q r .0 h in omega (arith, within (a .0) (a .1) .still q r (a .2))
+
+  -- ONE THAT TAKES A BYTE
+  pub takes-below : (b q r : ℕ) → Takes t b q r → r < states t
+  takes-below b q r h = let a = takes-is t b q r .0 h in omega (arith, within (a .0) (a .1) .byte b q r (a .2))

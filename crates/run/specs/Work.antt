@@ -7,9 +7,9 @@ use Prim.Native.Nat.{ℕ, zero, suc, _+_, _-_, _*_, _≤_, _<_}
 use lib.Dec.{leb}
 use lib.ListN.{drop, getD, length, replicate, take}
 use Rattle.model.specs.Models.Apart.{depthWord, gatherAt, propagateAt, scatterAt, stateWord}
-use Rattle.model.specs.Models.Run.{Masks, passWords, stepWords}
+use Rattle.model.specs.Models.Run.{endsWith, Masks, passWords, stepWords}
 use Rattle.moves.specs.Less.{lessOne, plusWords, startWords}
-use Rattle.word.specs.Ends.{endsWith}
+use Rattle.word.specs.Ends.{Limits}
 use Rattle.word.specs.One.{ofNine}
 use Rattle.word.specs.Shape.{shaped, widthOf}
 
@@ -130,8 +130,20 @@ pub record Steps (ws : List ℕ) (W d : ℕ) : Type 0 where
   pub long : 6 + 512 * W ≤ length ws
   pub shallow : d ≤ 8
 
--- of the loop over a text
+-- of the loop over a stretch
+pub record Overs (ws stretch : List ℕ) (place found W d last : ℕ) : Type 0 where
+  pub steps : Steps ws W d
+  pub limits : Limits place found stretch
+  pub within : last < 64 * W
+
+-- of a whole text
 pub record Scans (ws text : List ℕ) (W d last : ℕ) : Type 0 where
   pub steps : Steps ws W d
   pub small : length text ≤ 65535
   pub within : last < 64 * W
+
+-- of a stretch from the words of a mask: words with a shape, and as many words of the mask as it says
+pub record Goes (ws mask : List ℕ) (place : ℕ) (stretch : List ℕ) : Type 0 where
+  pub shape : shaped ws ≡ true
+  pub long : length mask ≡ widthOf ws
+  pub limits : Limits place 0 stretch

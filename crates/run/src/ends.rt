@@ -1,9 +1,12 @@
-// The ends of a text: the places where the accepting state is live.
+// The ends of a text and of a stretch: the places where the accepting state is live. A rule of at most 64 states runs on plain words.
+use crate::rows::row_at;
 use crate::shape::width;
 use crate::steps::pass;
+use crate::stretch::Ran;
+use crate::stretch::is_live;
+use crate::stretch::run_over;
 use crate::table::Table;
 use crate::table::table;
-use crate::widths::step_by;
 use moves::start;
 use word::places::note;
 use word::shape::depth;
@@ -11,33 +14,16 @@ use word::shape::has_shape;
 use word::shape::states;
 ghost use mathlib.Core.Bool.{true};
 ghost use mathlib.Core.Path.{_≡_};
-ghost use Prim.Native.Nat.{_-_, _/_, _≤_, _<_};
+ghost use Prim.Native.Nat.{_-_, _≤_, _<_};
 ghost use lib.ListN.{length};
-ghost use Rattle.model.specs.Bits.{bit};
 ghost use Rattle.model.specs.Models.Apart.{depthWord, stateWord};
-ghost use Rattle.model.specs.Models.Words.{value};
-ghost use Rattle.run.specs.Says.{FindSays};
-ghost use Rattle.word.specs.Ends.{endsWith, Written};
+ghost use Rattle.model.specs.Models.Run.{endsWith};
+ghost use Rattle.run.specs.Says.{FindSays, GoOnSays};
+ghost use Rattle.word.specs.Ends.{Written};
 ghost use Rattle.word.specs.Shape.{shaped};
-ghost use Rattle.run.specs.Work.{endsFound, masksOf, ruleMasks, Scans};
+ghost use Rattle.run.specs.Work.{endsFound, Goes, masksOf, ruleMasks, Scans};
 
-// Where the stretch of at most 256 bytes stops that begins at a place. Loops in a loop tell the compiler that what they call is worth unfolding.
-fn stretch(at: usize, length: usize) -> usize
-    requires { ⌜ at ≤ length ⌝ }
-    ensures { λ r. ⌜ (at ≤ r) × (r ≤ length) × (at < length → at < r) ⌝ }
-{
-    if length - at > 256 { at + 256 } else { length }
-}
-
-// Whether a state is live, looked up where the live states lie: a copy of eight words for each place would cost a tenth of a byte's time.
-fn is_live(live: &[u64], state: usize) -> bool
-    requires { ⌜ state / 64 < length (now live) ⌝ }
-    ensures { λ r. ⌜ r ≡ bit (value (now (live .entry))) state ⌝ }
-{
-    (live[state / 64] >> (state % 64)) & 1 == 1
-}
-
-// The ends of the text, with the table of work: one step for each byte, and the accepting state looked up at each place.
+// The ends of the text, with the table of work: a beginning, with place 0, and the text as one stretch.
 fn scan(
     image: &[u64],
     text: &[u8],
@@ -52,18 +38,21 @@ fn scan(
         (now (places .entry)) r (now (places .exit)) ⌝ }
 {
     let first = pass(start(), depth, 8, table);
-    let mut live = first.words;
-    let mut total = note(places, 0, 0, is_live(&live, last));
-    let mut p: usize = 0;
-    while p < text.len() {
-        let stop = stretch(p, text.len());
-        while p < stop {
-            step_by(&mut live, image, width, text[p], depth, table);
-            p += 1;
-            total = note(places, total, p as u32, is_live(&live, last));
-        }
-    }
-    total as u64
+    let live = first.words;
+    let total = note(places, 0, 0, is_live(&live, last));
+    let ran = run_over(
+        image,
+        text,
+        places,
+        0,
+        total,
+        width,
+        depth,
+        last,
+        live,
+        table,
+    );
+    ran.total
 }
 
 // The same with the table of words that have a shape.
@@ -79,8 +68,8 @@ fn find_in(image: &[u64], text: &[u8], places: &mut [u32]) -> u64
     scan(image, text, places, wide, deep, last, &masks)
 }
 
-// The ends of a text: the total, and the first that fit in what is lent, rising. A rule of at most 64 states runs on plain words. Words without a
-// shape and texts of more than 65,535 bytes give 0 and change nothing.
+// The ends of a text: the total, and the first that fit in what is lent, rising. Words without a shape and texts of more than 65,535 bytes give 0
+// and change nothing.
 pub fn find(image: &[u64], text: &[u8], places: &mut [u32]) -> u64
     ensures computed { λ r. ⌜ Written (endsFound (now (image .entry)) (now (text .entry))) (now (places .entry)) r (now (places .exit)) ⌝ }
     ensures ends { λ r. ⌜ FindSays (now (image .entry)) (now (text .entry)) (now (places .entry)) r (now (places .exit)) ⌝ }
@@ -94,4 +83,54 @@ pub fn find(image: &[u64], text: &[u8], places: &mut [u32]) -> u64
         }
     }
     0
+}
+
+// A stretch from the words of a mask and any place, of a rule of more than 64 states.
+fn go_on_words(image: &[u64], mask: &[u64], place: u64, stretch: &[u8], places: &mut [u32]) -> Ran
+    requires { ⌜ Goes (now image) (now mask) place (now stretch) × (64 < stateWord (now image)) ⌝ }
+    ensures { λ r. ⌜ GoOnSays (now (image .entry)) (now (mask .entry)) place (now (stretch .entry)) (now (places .entry)) (r .words) (r .total) (now (places .exit)) ⌝ }
+{
+    let wide = width(image);
+    let deep = depth(image);
+    let masks = table(image, wide, deep);
+    let last = states(image) - 1;
+    let first = row_at(mask, 0, wide);
+    run_over(
+        image,
+        stretch,
+        places,
+        place,
+        0,
+        wide,
+        deep,
+        last,
+        first,
+        &masks,
+    )
+}
+
+// The same of a rule of at most 64 states.
+fn go_on_word(image: &[u64], mask: &[u64], place: u64, stretch: &[u8], places: &mut [u32]) -> Ran
+    requires { ⌜ Goes (now image) (now mask) place (now stretch) × (stateWord (now image) ≤ 64) ⌝ }
+    ensures { λ r. ⌜ GoOnSays (now (image .entry)) (now (mask .entry)) place (now (stretch .entry)) (now (places .entry)) (r .words) (r .total) (now (places .exit)) ⌝ }
+{
+    let first = mask[0];
+    let ran = word::ends::go_on(image, first, place, stretch, places);
+    let mut words = [0u64; 8];
+    words[0] = ran.live;
+    Ran {
+        words,
+        total: ran.total,
+    }
+}
+
+// A stretch from the words of a mask and any place: the live states after it, the total of its ends, and the first that fit.
+pub fn go_on(image: &[u64], mask: &[u64], place: u64, stretch: &[u8], places: &mut [u32]) -> Ran
+    requires { ⌜ Goes (now image) (now mask) place (now stretch) ⌝ }
+    ensures { λ r. ⌜ GoOnSays (now (image .entry)) (now (mask .entry)) place (now (stretch .entry)) (now (places .entry)) (r .words) (r .total) (now (places .exit)) ⌝ }
+{
+    if states(image) <= 64 {
+        return go_on_word(image, mask, place, stretch, places);
+    }
+    go_on_words(image, mask, place, stretch, places)
 }

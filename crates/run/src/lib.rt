@@ -5,5 +5,6 @@ pub mod live;
 mod rows;
 mod shape;
 mod steps;
+pub mod stretch;
 mod table;
 mod widths;

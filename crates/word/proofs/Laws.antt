@@ -1,7 +1,9 @@
--- Shape: what the test of the shape says. Scan: the loop over a text. Passes: the four moves on one word, and one turn of the loops over the
--- depths. Cut: the run on fewer words finds the same ends. Nine: the entries of a table of work. One: the table holds the image's masks.
+-- Shape: what the test of the shape says. Bytes: those of a text. Stretch: the loop over a stretch, and a whole text as a beginning and one stretch.
+-- Passes: the four moves on one word, and one turn of the loops over the depths. Cut: the run on fewer words finds the same ends. Nine: the entries of a
+-- table of work. One: the table holds the image's masks.
 pub mod Shape
-pub mod Scan
+pub mod Bytes
+pub mod Stretch
 pub mod Passes
 pub mod Cut
 pub mod Nine

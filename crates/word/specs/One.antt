@@ -6,9 +6,9 @@ use Prim.Native.Nat.{ℕ, zero, suc, _+_, _-_, _*_, _/_, _%_, _≤_, _<_}
 use lib.Dec.{eqb, leb, ltb}
 use lib.ListN.{getD, length}
 use Rattle.model.specs.Models.Apart.{depthWord, stateWord}
-use Rattle.model.specs.Models.Run.{fallWords, Masks, passWords, propagateBy, riseWords}
+use Rattle.model.specs.Models.Run.{endsWith, fallWords, Masks, passWords, propagateBy, riseWords}
 use Rattle.model.specs.Models.Words.{wrapAdd, wrapSub}
-use Rattle.word.specs.Ends.{endsWith}
+use Rattle.word.specs.Ends.{Limits}
 use Rattle.word.specs.Shape.{shaped}
 
 -- word i as a row of one
@@ -88,9 +88,9 @@ abbrev pub Passed : (any : Bool) (block below target : ℕ) → List ℕ → (d 
 Passed any block below target table d live r = (ws : List ℕ) → r ∷ [] ≡ passWords (tableMasks ws any block below target table) d (live ∷ [])
 
 -- what the choice of a loop asks
-pub record Chosen (ws text : List ℕ) (last d : ℕ) (any : Bool) (table : List ℕ) : Type 0 where
+pub record Chosen (ws stretch : List ℕ) (place found last d : ℕ) (any : Bool) (table : List ℕ) : Type 0 where
   pub long : 518 ≤ length ws
-  pub small : length text ≤ 65535
+  pub limits : Limits place found stretch
   pub few : last < 64
   pub shallow : d ≤ 8
   pub deep : d ≡ depthWord ws

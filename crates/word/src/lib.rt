@@ -5,4 +5,5 @@ pub mod passes;
 pub mod places;
 pub mod shape;
 mod steps;
+pub mod stretch;
 mod table;

@@ -3,7 +3,7 @@ ghost use mathlib.Core.Path.{_≡_};
 ghost use Prim.Native.Nat.{_+_, _%_, _^_};
 ghost use lib.ListN.{length, set};
 ghost use lib.Seq.{sets};
-ghost use Rattle.word.specs.Ends.{noted};
+ghost use Rattle.model.specs.Models.Run.{noted};
 
 // A place stored, if what was lent reaches so far.
 fn put(places: &mut [u32], at: usize, place: u32)

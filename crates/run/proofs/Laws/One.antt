@@ -27,7 +27,7 @@ module _ (ws : List ℕ) (S : Shape ws) (few : stateWord ws ≤ 64) where
   abbrev M : Masks
   M = masksOf ws
 
-  one : W ≡ 1
+  pub one : W ≡ 1
   one = omega (arith, S .some-states)
 
   -- a row of which the place is known for one word
@@ -39,7 +39,7 @@ module _ (ws : List ℕ) (S : Shape ws) (few : stateWord ws ≤ 64) where
   long : length ws ≡ 524 + 9 * d
   long = one-long ws S few
 
-  mask-cut : Cut 1 d M (oneMasks ws)
+  pub mask-cut : Cut 1 d M (oneMasks ws)
   mask-cut = record {
     letters = λ b l. row (λ w. 5 + w * b) (5 + b) (omega arith) (omega (arith, long));
     loops = λ b l. row (λ w. 6 + w * (256 + b)) (262 + b) (omega arith) (omega (arith, long));

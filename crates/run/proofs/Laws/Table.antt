@@ -10,12 +10,11 @@ use borrow.Author.Count.{below-more}
 use lib.ListN.{getD, length, length-set, set, take}
 use lib.Seq.{getD-set-other, getD-set-same}
 use Rattle.model.specs.Models.Apart.{depthWord, gatherAt, propagateAt, scatterAt, stateWord}
-use Rattle.model.specs.Models.Run.{Masks, passWords}
+use Rattle.model.specs.Models.Run.{endsWith, Masks, passWords}
 use Rattle.model.specs.Models.Words.{Fit}
 use Rattle.model.proofs.Words.Run.{Bytes}
 use Rattle.moves.specs.Less.{lessOne, plusWords}
 use Rattle.moves.proofs.Laws.Less.{plus-less}
-use Rattle.word.specs.Ends.{endsWith}
 use Rattle.word.specs.Shape.{widthOf}
 use Rattle.word.proofs.Laws.Cut.{Cut, ends-cut, pass-cut}
 use Rattle.word.proofs.Laws.Nine.{nine-scatter}
@@ -53,7 +52,7 @@ module _ (ws : List ℕ) (fits : Fit ws) (S : Shape ws) (table : List (List ℕ)
   abbrev N : ℕ → Masks
   N n = cutMasks n (workMasks ws W table)
 
-  work-cut : (n : ℕ) → Cut n d (masksOf ws) (N n)
+  pub work-cut : (n : ℕ) → Cut n d (masksOf ws) (N n)
   work-cut n = record {
     letters = λ b l. refl;
     loops = λ b l. refl;

@@ -12,7 +12,7 @@ use Rattle.run.specs.Says.{FindSays}
 use Rattle.verdict.specs.Says.{CheckSays}
 use Rattle.verdict.specs.declared.Checked.{Checked}
 use Rattle.verdict.specs.declared.Verdict.the-variants.{Image, Other}
-use Rattle.writing.proofs.Laws.Answer.{found, not-found}
+use Rattle.verdict.proofs.Laws.Found.{found, not-found}
 
 module _ (words text before : List ℕ) {r : Checked} (C : CheckSays words r) where
   pub other : r .verdict ≡ Other → MatchSays words text before (refused 6 before)

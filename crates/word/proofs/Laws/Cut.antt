@@ -9,12 +9,11 @@ use native.Mathlib.Omega.{arith}
 use lib.ListN.{drop, take}
 use lib.Pow.{pow-add}
 use Rattle.model.specs.Bits.{bit}
-use Rattle.model.specs.Models.Run.{fallWords, gatherBy, gatherWords, Masks, moveBy, moveWords, passWords, propagateBy, propagateWords, riseWords, scatterBy, scatterWords, stepWords}
+use Rattle.model.specs.Models.Run.{endsAfter, endsWith, fallWords, gatherBy, gatherWords, Masks, moveBy, moveWords, noted, passWords, propagateBy, propagateWords, riseWords, runFrom, scatterBy, scatterWords, stepWords}
 use Rattle.model.specs.Models.Words.{addWords, andWords, notWords, orWords, shiftWords, subtractWords, value, xorWords}
-use Rattle.mask.proofs.Laws.Bits.{low-bit}
+use Rattle.model.proofs.Words.RowBits.{low-bit}
 use Rattle.mask.proofs.Laws.Take.{take-each, take-not, take-ripple, take-shift}
 use Rattle.model.proofs.Words.Run.{Bytes}
-use Rattle.word.specs.Ends.{endsFrom, endsWith, noted}
 
 -- ---- the four moves
 take-scatter : (n : ℕ) (b s t live : List ℕ) → take n (scatterWords b s t live) ≡ scatterWords (take n b) (take n s) (take n t) (take n live)
@@ -117,14 +116,21 @@ module _ (n d : ℕ) (M N : Masks) (C : Cut n d M N) where
   stepped : (b : ℕ) → b < 256 → (live : List ℕ) → take n (stepWords M d b live) ≡ stepWords N d b (take n live)
   stepped b h live = pass-cut (moveBy M b live) ∙ ap (passWords N d) (moved b h live)
 
-  -- THE SAME ENDS
-  ends-from : (last : ℕ) → last < 64 * n → (p : ℕ) (live rest : List ℕ) → Bytes rest → endsFrom M d last p live rest ≡ endsFrom N d last p (take n live) rest
-  ends-from last l p live [] B = ap (λ (b : Bool). noted b p) (take-bit n live last l)
-  ends-from last l p live (b ∷ rest) B =
-      ap₂ (λ (h : Bool) (ps : List ℕ). noted h p ++ ps) (take-bit n live last l)
-      (ends-from last l (suc p) (stepWords M d b live) rest (B .1) ∙ ap (λ (w : List ℕ). endsFrom N d last (suc p) w rest) (stepped b (B .0) live))
+  -- THE SAME ENDS AND THE SAME WORDS, after a stretch and of a whole text
+  pub after-cut : (last : ℕ) → last < 64 * n → (p : ℕ) (live rest : List ℕ) → Bytes rest → endsAfter M d last p live rest ≡ endsAfter N d last p (take n live) rest
+  after-cut last l p live [] B = refl
+  after-cut last l p live (b ∷ rest) B =
+      let e = stepped b (B .0) live in
+      ap₂ (λ (h : Bool) (ps : List ℕ). noted h (p + 1) ++ ps) (take-bit n (stepWords M d b live) last l ∙ ap (λ (w : List ℕ). bit (value w) last) e)
+      (after-cut last l (p + 1) (stepWords M d b live) rest (B .1) ∙ ap (λ (w : List ℕ). endsAfter N d last (p + 1) w rest) e)
+
+  pub run-cut : (live rest : List ℕ) → Bytes rest → take n (runFrom M d live rest) ≡ runFrom N d (take n live) rest
+  run-cut live [] B = refl
+  run-cut live (b ∷ rest) B = run-cut (stepWords M d b live) rest (B .1) ∙ ap (λ (w : List ℕ). runFrom N d w rest) (stepped b (B .0) live)
 
   pub ends-cut : (last : ℕ) → last < 64 * n → (text : List ℕ) → Bytes text → endsWith M d last text ≡ endsWith N d last text
   ends-cut last l text B =
-      ends-from last l 0 (passWords M d (M .startMask)) text B
-      ∙ ap (λ (w : List ℕ). endsFrom N d last 0 w text) (pass-cut (M .startMask) ∙ ap (passWords N d) (C .start))
+      let first = passWords M d (M .startMask) in
+      let e = pass-cut (M .startMask) ∙ ap (passWords N d) (C .start) in
+      ap₂ (λ (h : Bool) (ps : List ℕ). noted h 0 ++ ps) (take-bit n first last l ∙ ap (λ (w : List ℕ). bit (value w) last) e)
+      (after-cut last l 0 first text B ∙ ap (λ (w : List ℕ). endsAfter N d last 0 w text) e)

@@ -1,6 +1,6 @@
 -- THE TABLE OF WORK HOLDS THE IMAGE'S MASKS: the entries by their tests; the table's masks are those of the image, so they find the same ends; and
 -- so do the masks of eight words of a rule of one.
-use mathlib.Core.Path.{_≡_, refl, sym, ap, ap₂, _∙_, subst}
+use mathlib.Core.Path.{_≡_, refl, sym, ap, ap₂, _∙_}
 use mathlib.Core.Logic.{_⊎_, inl, inr}
 use mathlib.Core.Bool.{Bool, true, false, _&&_, and-false, cond}
 use mathlib.Core.List.{List, [], _∷_}
@@ -9,18 +9,19 @@ use native.Mathlib.Nat.{eq-or-lt-of-le}
 use native.Mathlib.Omega.{arith}
 use lib.Dec.{leb}
 use lib.ListN.{getD, length, take}
+use lib.Seq.{sets}
 use Rattle.model.specs.Image.{width}
 use Rattle.model.specs.Models.Apart.{depthWord, stateWord}
-use Rattle.model.specs.Models.Run.{Masks}
+use Rattle.model.specs.Models.Run.{endsAfter, endsWith, Masks, passWords, runFrom}
 use Rattle.model.specs.Models.Words.{wrapAdd, wrapSub}
 use Rattle.model.proofs.Laws.Bool.{le-false, le-true}
 use Rattle.model.proofs.Words.Run.{Bytes}
-use Rattle.word.specs.Ends.{endsWith, Written}
+use Rattle.word.specs.Ends.{Limits, RanOver}
 use Rattle.word.specs.One.{chain, Chosen, endsOfOne, Entered, entryAt, NoChain, oneMasks, tableMasks, wordAt}
 use Rattle.word.specs.Shape.{shaped}
-use Rattle.word.proofs.Laws.Cut.{Cut, ends-cut}
+use Rattle.word.proofs.Laws.Cut.{after-cut, Cut, pass-cut, run-cut}
 use Rattle.word.proofs.Laws.Nine.{entered-at, nine-gather, nine-scatter}
-use Rattle.word.proofs.Laws.Shape.{Shape}
+use Rattle.word.proofs.Laws.Shape.{Shape, shape-of}
 
 pub less-one : {x s : ℕ} → s < 2 ^ 64 → (s + 1) % 2 ^ 64 ≡ x → s ≡ wrapSub x 1
 less-one h e = omega arith
@@ -118,8 +119,23 @@ module _ (ws table : List ℕ) (d : ℕ) (any : Bool) (deep : d ≡ depthWord ws
       propagates (suc k) (suc zero) h l = chained (suc k) 1 h l
       propagates (suc k) (suc (suc j)) h l = chained (suc k) (suc (suc j)) h l
 
-  pub one-ends : (last : ℕ) → last < 64 → (text : List ℕ) → Bytes text → endsWith T d last text ≡ endsWith (oneMasks ws) d last text
-  one-ends last l text B = ends-cut 1 d T (oneMasks ws) one-cut last (omega arith) text B
+  -- the first words, and the run over a stretch with the depth as a literal or not
+  pub one-first : {first : ℕ} → first ∷ [] ≡ passWords T d (1 ∷ []) → first ∷ [] ≡ passWords (oneMasks ws) d (1 ∷ [])
+  one-first e = ap (take 1) e ∙ pass-cut 1 d T (oneMasks ws) one-cut (1 ∷ [])
+
+  pub one-over : (n : ℕ) → d ≡ n → {last : ℕ} → last < 64 → {stretch : List ℕ} → Bytes stretch → {place found first r total : ℕ} {before after : List ℕ}
+      → RanOver T 1 n last place found stretch (first ∷ []) before (r ∷ []) total after
+      → RanOver (oneMasks ws) 1 d last place found stretch (first ∷ []) before (r ∷ []) total after
+  one-over n q {last} l {stretch} B {place} {found} {first} {r} {total} {before} {after} G = record {
+    counted = G .counted ∙ ap (λ (ps : List ℕ). found + length ps) e;
+    stored = G .stored ∙ ap (sets before found) e;
+    runs = ap (take 1) (G .runs ∙ ap (λ (i : ℕ). runFrom T i (first ∷ []) stretch) (sym q)) ∙ run-cut 1 d T (oneMasks ws) one-cut (first ∷ []) stretch B;
+  }
+    where
+      e : endsAfter T n last place (first ∷ []) stretch ≡ endsAfter (oneMasks ws) d last place (first ∷ []) stretch
+      e =
+          ap (λ (i : ℕ). endsAfter T i last place (first ∷ []) stretch) (sym q)
+          ∙ after-cut 1 d T (oneMasks ws) one-cut last (omega arith) place (first ∷ []) stretch B
 
 -- ---- the list found, by the three tests
 module _ (ws text : List ℕ) where
@@ -143,18 +159,30 @@ module _ (ws text : List ℕ) where
       sym (ap (found (shaped ws) (leb (stateWord ws) 64)) (le-false (length text) 65535 h)
       ∙ ap (λ (b : Bool). cond b (found true true true) []) (and-false (shaped ws && leb (stateWord ws) 64)))
 
--- ---- the choice of a loop: each writes the ends of the image's masks, with the depth and the presence of chains as literals or not
-pub chosen : {ws text : List ℕ} {last d : ℕ} {any : Bool} {table : List ℕ} → Chosen ws text last d any table → ((i : ℕ) → getD ws i 0 < 2 ^ 64) → Bytes text
-    → (flag : Bool) → NoChain table d flag → (n : ℕ) → d ≡ n → {before after : List ℕ} {total : ℕ}
-    → Written (endsWith (tableMasks ws flag (getD table 6 0) (getD table 7 0) (getD table 8 0) table) n last text) before total after
-    → Written (endsWith (oneMasks ws) d last text) before total after
-chosen {ws} {text} {last} {d} {any} {table} C fit B flag N n e {before} {after} {total} w =
-    let T = tableMasks ws flag (getD table 6 0) (getD table 7 0) (getD table 8 0) table in
-    subst (λ (ps : List ℕ). Written ps before total after)
-    (ap (λ (i : ℕ). endsWith T i last text) (sym e) ∙ one-ends ws table d flag (C .deep) (C .entered) N fit last (C .few) text B) w
+-- ---- the choice of a loop: each runs as the image's masks do, with the depth and the presence of chains as literals or not
+pub chosen : {ws stretch : List ℕ} {place found last d : ℕ} {any : Bool} {table : List ℕ} → Chosen ws stretch place found last d any table → ((i : ℕ) → getD ws i 0 < 2 ^ 64) → Bytes stretch
+    → (flag : Bool) → NoChain table d flag → (n : ℕ) → d ≡ n → {first r total : ℕ} {before after : List ℕ}
+    → RanOver (tableMasks ws flag (getD table 6 0) (getD table 7 0) (getD table 8 0) table) 1 n last place found stretch (first ∷ []) before (r ∷ []) total after
+    → RanOver (oneMasks ws) 1 d last place found stretch (first ∷ []) before (r ∷ []) total after
+chosen {ws} {d = d} {table = table} C fit B flag N n e = one-over ws table d flag (C .deep) (C .entered) N fit n e (C .few) B
 
 -- words with a shape of one word to a mask are 524 and nine for each depth
 pub one-long : (ws : List ℕ) → Shape ws → stateWord ws ≤ 64 → length ws ≡ 524 + 9 * depthWord ws
 one-long ws S h =
     let e : width (stateWord ws) ≡ 1 = omega (arith, S .some-states) in
     S .long ∙ ap (λ (w : ℕ). 9 + w * (515 + 9 * depthWord ws)) e ∙ (let q : 9 + 1 * (515 + 9 * depthWord ws) ≡ 524 + 9 * depthWord ws = omega arith in q)
+
+-- words with a shape of at most 64 states, with what code has read of it and the table that it has made, have what the choice of a loop asks
+pub may-choose : {ws : List ℕ} → shaped ws ≡ true → stateWord ws ≤ 64 → {d count : ℕ} → d ≡ depthWord ws → count ≡ stateWord ws → {any : Bool} {table : List ℕ} → Entered ws d table
+    → NoChain table d any → {place found : ℕ} {stretch : List ℕ} → Limits place found stretch → Chosen ws stretch place found (count - 1) d any table
+may-choose {ws} e h ed em E N L =
+    let S = shape-of ws e in
+    record {
+      long = omega (arith, one-long ws S h);
+      limits = L;
+      few = omega (arith, em, h, S .some-states);
+      shallow = omega (arith, ed, S .shallow);
+      deep = ed;
+      entered = E;
+      none = N;
+    }

@@ -5,7 +5,7 @@ use Prim.Native.Nat.{ℕ}
 use native.Mathlib.Omega.{arith}
 use Rattle.mask.proofs.Laws.Bits.{fit-row}
 use Rattle.word.specs.Ends.{Written}
-use Rattle.word.proofs.Laws.Scan.{all-bytes}
+use Rattle.word.proofs.Laws.Bytes.{all-bytes}
 use Rattle.word.proofs.Laws.Shape.{sections-of, shape-of}
 use Rattle.run.proofs.Laws.Table.{entered-of, work-ends}
 use borrow.Author.Needs.{needs}

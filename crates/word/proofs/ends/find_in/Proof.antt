@@ -1,12 +1,14 @@
--- `find_in`: words with a shape of one word to a mask hold the sections that the table takes.
+-- `find_in`: the table's masks are the image's, so the first word is theirs, and with it the whole text is a beginning and one stretch (`begun`).
 use mathlib.Core.Path.{ap₂, subst}
-use mathlib.Core.List.{List}
+use mathlib.Core.List.{List, [], _∷_}
 use Prim.Native.Nat.{ℕ, _-_}
 use native.Mathlib.Omega.{arith}
-use Rattle.word.specs.Ends.{endsWith, Written}
+use Rattle.model.specs.Models.Run.{endsWith}
+use Rattle.word.specs.Ends.{Written}
 use Rattle.word.specs.One.{oneMasks}
-use Rattle.word.proofs.Laws.One.{one-long}
+use Rattle.word.proofs.Laws.One.{may-choose, one-first, one-long}
 use Rattle.word.proofs.Laws.Shape.{shape-of}
+use Rattle.word.proofs.Laws.Stretch.{begun, noted-few}
 use borrow.Author.Needs.{needs}
 use Rattle.word.proofs.ends.find_in.Statement.{statement}
 use Rattle.word.proofs.ends.find_in.Tie as tie
@@ -28,35 +30,67 @@ table-requires c κs =
 
 any-chain-requires : tie.Need-any-chain-requires
 any-chain-requires c κs =
-    let s = c .before .before .before .before .before .before .before in
-    omega (arith, c .before .before .before .depth .ensures, shape-of (s .args .image .now) (s .pre .0) .shallow)
+    let d = c .before .before .before in
+    let s = d .before .before .before .before in
+    omega (arith, d .depth .ensures, shape-of (s .args .image .now) (s .pre .0) .shallow)
 
-choose-requires : tie.Need-choose-requires
-choose-requires c κs =
-    let s = c .before .before .before .before .before .before .before .before .before .before in
-    let S = shape-of (s .args .image .now) (s .pre .0) in
-    let d = c .before .before .before .before .before .before .depth .ensures in
-    record {
-      long = omega (arith, one-long (s .args .image .now) S (s .pre .1));
-      small = s .pre .2;
-      few = omega (arith, c .before .before .before .before .before .states .ensures, s .pre .1, S .some-states);
-      shallow = omega (arith, d, S .shallow);
-      deep = d;
-      entered = c .before .before .before .before .table .ensures;
-      none = c .before .before .any-chain .ensures;
-    }
+array-read-pass : tie.Need-array-read-pass
+array-read-pass c = search needs
+
+array-read-pass-2 : tie.Need-array-read-pass-2
+array-read-pass-2 c = search needs
+
+array-read-pass-3 : tie.Need-array-read-pass-3
+array-read-pass-3 c = search needs
+
+pass-requires : tie.Need-pass-requires
+pass-requires c κs =
+    let d = c .before .before .before .before .before in
+    let s = d .before .before .before .before in
+    omega (arith, d .depth .ensures, shape-of (s .args .image .now) (s .pre .0) .shallow)
+
+is-live-requires : tie.Need-is-live-requires
+is-live-requires c κs =
+    let m = c .before .before .before .before .before .before in
+    let s = m .before .before .before .before .before in
+    omega (arith, m .states .ensures, s .pre .1, shape-of (s .args .image .now) (s .pre .0) .some-states)
+
+note-requires : tie.Need-note-requires
+note-requires c κs = search needs
+
+run-over-requires : tie.Need-run-over-requires
+run-over-requires c κs =
+    let n = c .before .before .before .before in
+    let y = n .before .before .before .before .before in
+    let b = y .before .before in
+    let m = b .before in
+    let d = m .before in
+    let s = d .before .before .before .before in
+    may-choose (s .pre .0) (s .pre .1) (d .depth .ensures) (m .states .ensures) (b .table .ensures) (y .any-chain .ensures)
+    (record { small = s .pre .2; near = omega (arith, s .pre .2); few = omega (arith, n .note .ensures .0, noted-few (n .before .is-live .result) 0) })
 
 same-length : tie.Need-same-length
 same-length c = search needs
 
 returns : tie.Need-returns
 returns c =
-    let r = c .before .before .choose in
-    let s = c .before .before .before .before .before .before .before .before .before .before .before .before .before in
+    let r = c .before .before .run-over in
+    let n = c .before .before .before .before .before .before .before in
+    let h = n .before in
+    let q = h .before .before in
+    let y = q .before .before in
+    let b = y .before .before in
+    let m = b .before in
+    let d = m .before in
+    let s = d .before .before .before .before in
     let a = s .args in
-    subst (λ (ps : List ℕ). Written ps (a .places .now) (r .result) (r .last .1 .1 .0))
-    (ap₂ (λ (d m : ℕ). endsWith (oneMasks (a .image .now)) d (m - 1) (a .text .now)) (c .before .before .before .before .before .before .before .before .before .depth .ensures)
-    (c .before .before .before .before .before .before .before .before .states .ensures)) (r .ensures)
+    let ws = a .image .now in
+    let deep = d .depth .result in
+    subst (λ (ps : List ℕ). Written ps (a .places .now) (r .result .total) (r .last .1 .1 .0))
+    (ap₂ (λ (i k : ℕ). endsWith (oneMasks ws) i (k - 1) (a .text .now)) (d .depth .ensures) (m .states .ensures))
+    (begun (oneMasks ws) 1 deep (m .states .result - 1) (a .text .now) (q .pass .result ∷ []) (a .places .now)
+    (one-first ws (b .table .result) deep (y .any-chain .result) (d .depth .ensures) (b .table .ensures) (y .any-chain .ensures) (λ i. d .before .before .before .shared-slice-known .given i .fits)
+    (q .pass .ensures ws)) (h .is-live .result) (h .is-live .ensures) (n .note .ensures .0) (n .note .ensures .1) (r .ensures))
 
 pub find-in-spec : {M : Type 1} → statement M
 find-in-spec =
@@ -67,6 +101,12 @@ find-in-spec =
     sub-last
     table-requires
     any-chain-requires
-    choose-requires
+    array-read-pass
+    array-read-pass-2
+    array-read-pass-3
+    pass-requires
+    is-live-requires
+    note-requires
+    run-over-requires
     same-length
     returns)

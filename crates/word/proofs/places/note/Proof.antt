@@ -5,7 +5,7 @@ use Prim.Native.Nat.{_+_, _%_, _^_}
 use native.Mathlib.Omega.{arith}
 use lib.ListN.{length}
 use lib.Seq.{sets}
-use Rattle.word.specs.Ends.{noted}
+use Rattle.model.specs.Models.Run.{noted}
 use borrow.Author.Needs.{needs}
 use Rattle.word.proofs.places.note.Statement.{statement}
 use Rattle.word.proofs.places.note.Tie as tie

@@ -5,8 +5,8 @@ use native.Mathlib.Omega.{arith}
 use Rattle.model.specs.Bits.{bit}
 use Rattle.mask.proofs.Laws.Bits.{read-bit}
 use borrow.Author.Needs.{needs}
-use Rattle.word.proofs.ends.is_live.Statement.{statement}
-use Rattle.word.proofs.ends.is_live.Tie as tie
+use Rattle.word.proofs.stretch.is_live.Statement.{statement}
+use Rattle.word.proofs.stretch.is_live.Tie as tie
 
 shr-result : tie.Need-shr-result
 shr-result c = search needs

@@ -1,12 +1,12 @@
--- `choose`: each loop writes the ends of the image's masks (`chosen`).
+-- `run_over`: each loop runs as the image's masks do (`chosen`).
 use mathlib.Core.Path.{refl}
 use mathlib.Core.Bool.{true, false}
 use native.Mathlib.Omega.{arith}
 use Rattle.word.proofs.Laws.One.{chosen, never}
-use Rattle.word.proofs.Laws.Scan.{all-bytes}
+use Rattle.word.proofs.Laws.Bytes.{all-bytes}
 use borrow.Author.Needs.{needs}
-use Rattle.word.proofs.ends.choose.Statement.{statement}
-use Rattle.word.proofs.ends.choose.Tie as tie
+use Rattle.word.proofs.stretch.run_over.Statement.{statement}
+use Rattle.word.proofs.stretch.run_over.Tie as tie
 
 element-copy-out-block : tie.Need-element-copy-out-block
 element-copy-out-block c = search needs
@@ -17,8 +17,8 @@ element-copy-out-below c = search needs
 element-copy-out-target : tie.Need-element-copy-out-target
 element-copy-out-target c = search needs
 
-scan-0-requires : tie.Need-scan-0-requires
-scan-0-requires c κs = search needs
+over-0-requires : tie.Need-over-0-requires
+over-0-requires c κs = search needs
 
 same-length : tie.Need-same-length
 same-length c = search needs
@@ -28,10 +28,10 @@ returns c =
     let s = c .before .before .before .before .before .before .before .before .before .before .before .before in
     let w = c .before .before .before .before .before .before .before .before .before .before .before .shared-slice-known .given in
     let t = c .before .before .before .before .before .before .before .before .before .before .shared-slice-known2 .given in
-    chosen (s .pre) (λ i. w i .fits) (all-bytes (s .args .text .now) (λ i. omega (arith, t i))) (true) (λ e. absurd (never e)) 0 (c .before .before .before .before .before .if1 .taken) (c .before .before .scan-0 .ensures)
+    chosen (s .pre) (λ i. w i .fits) (all-bytes (s .args .stretch .now) (λ i. omega (arith, t i))) (true) (λ e. absurd (never e)) 0 (c .before .before .before .before .before .if1 .taken) (c .before .before .over-0 .ensures)
 
-scan-0-plain-requires : tie.Need-scan-0-plain-requires
-scan-0-plain-requires c κs = search needs
+over-0-plain-requires : tie.Need-over-0-plain-requires
+over-0-plain-requires c κs = search needs
 
 same-length-2 : tie.Need-same-length-2
 same-length-2 c = search needs
@@ -41,10 +41,10 @@ returns-2 c =
     let s = c .before .before .before .before .before .before .before .before .before .before .before .before in
     let w = c .before .before .before .before .before .before .before .before .before .before .before .shared-slice-known .given in
     let t = c .before .before .before .before .before .before .before .before .before .before .shared-slice-known2 .given in
-    chosen (s .pre) (λ i. w i .fits) (all-bytes (s .args .text .now) (λ i. omega (arith, t i))) (false) (λ e. s .pre .none (c .before .before .before .before .if2 .left)) 0 (c .before .before .before .before .before .if1 .taken) (c .before .before .scan-0-plain .ensures)
+    chosen (s .pre) (λ i. w i .fits) (all-bytes (s .args .stretch .now) (λ i. omega (arith, t i))) (false) (λ e. s .pre .none (c .before .before .before .before .if2 .left)) 0 (c .before .before .before .before .before .if1 .taken) (c .before .before .over-0-plain .ensures)
 
-scan-1-requires : tie.Need-scan-1-requires
-scan-1-requires c κs = search needs
+over-1-requires : tie.Need-over-1-requires
+over-1-requires c κs = search needs
 
 same-length-3 : tie.Need-same-length-3
 same-length-3 c = search needs
@@ -54,10 +54,10 @@ returns-3 c =
     let s = c .before .before .before .before .before .before .before .before .before .before .before .before .before in
     let w = c .before .before .before .before .before .before .before .before .before .before .before .before .shared-slice-known .given in
     let t = c .before .before .before .before .before .before .before .before .before .before .before .shared-slice-known2 .given in
-    chosen (s .pre) (λ i. w i .fits) (all-bytes (s .args .text .now) (λ i. omega (arith, t i))) (true) (λ e. absurd (never e)) 1 (c .before .before .before .before .before .if3 .taken) (c .before .before .scan-1 .ensures)
+    chosen (s .pre) (λ i. w i .fits) (all-bytes (s .args .stretch .now) (λ i. omega (arith, t i))) (true) (λ e. absurd (never e)) 1 (c .before .before .before .before .before .if3 .taken) (c .before .before .over-1 .ensures)
 
-scan-1-plain-requires : tie.Need-scan-1-plain-requires
-scan-1-plain-requires c κs = search needs
+over-1-plain-requires : tie.Need-over-1-plain-requires
+over-1-plain-requires c κs = search needs
 
 same-length-4 : tie.Need-same-length-4
 same-length-4 c = search needs
@@ -67,10 +67,10 @@ returns-4 c =
     let s = c .before .before .before .before .before .before .before .before .before .before .before .before .before in
     let w = c .before .before .before .before .before .before .before .before .before .before .before .before .shared-slice-known .given in
     let t = c .before .before .before .before .before .before .before .before .before .before .before .shared-slice-known2 .given in
-    chosen (s .pre) (λ i. w i .fits) (all-bytes (s .args .text .now) (λ i. omega (arith, t i))) (false) (λ e. s .pre .none (c .before .before .before .before .if4 .left)) 1 (c .before .before .before .before .before .if3 .taken) (c .before .before .scan-1-plain .ensures)
+    chosen (s .pre) (λ i. w i .fits) (all-bytes (s .args .stretch .now) (λ i. omega (arith, t i))) (false) (λ e. s .pre .none (c .before .before .before .before .if4 .left)) 1 (c .before .before .before .before .before .if3 .taken) (c .before .before .over-1-plain .ensures)
 
-scan-2-requires : tie.Need-scan-2-requires
-scan-2-requires c κs = search needs
+over-2-requires : tie.Need-over-2-requires
+over-2-requires c κs = search needs
 
 same-length-5 : tie.Need-same-length-5
 same-length-5 c = search needs
@@ -80,10 +80,10 @@ returns-5 c =
     let s = c .before .before .before .before .before .before .before .before .before .before .before .before .before in
     let w = c .before .before .before .before .before .before .before .before .before .before .before .before .shared-slice-known .given in
     let t = c .before .before .before .before .before .before .before .before .before .before .before .shared-slice-known2 .given in
-    chosen (s .pre) (λ i. w i .fits) (all-bytes (s .args .text .now) (λ i. omega (arith, t i))) (true) (λ e. absurd (never e)) 2 (c .before .before .before .before .if5 .taken) (c .before .before .scan-2 .ensures)
+    chosen (s .pre) (λ i. w i .fits) (all-bytes (s .args .stretch .now) (λ i. omega (arith, t i))) (true) (λ e. absurd (never e)) 2 (c .before .before .before .before .if5 .taken) (c .before .before .over-2 .ensures)
 
-scan-requires : tie.Need-scan-requires
-scan-requires c κs = search needs
+over-requires : tie.Need-over-requires
+over-requires c κs = search needs
 
 same-length-6 : tie.Need-same-length-6
 same-length-6 c = search needs
@@ -93,30 +93,30 @@ returns-6 c =
     let s = c .before .before .before .before .before .before .before .before .before .before .before .before .before in
     let w = c .before .before .before .before .before .before .before .before .before .before .before .before .shared-slice-known .given in
     let t = c .before .before .before .before .before .before .before .before .before .before .before .shared-slice-known2 .given in
-    chosen (s .pre) (λ i. w i .fits) (all-bytes (s .args .text .now) (λ i. omega (arith, t i))) (s .args .any) (s .pre .none) (s .args .depth) (refl) (c .before .before .scan .ensures)
+    chosen (s .pre) (λ i. w i .fits) (all-bytes (s .args .stretch .now) (λ i. omega (arith, t i))) (s .args .any) (s .pre .none) (s .args .depth) (refl) (c .before .before .over .ensures)
 
-pub choose-spec : {M : Type 1} → statement M
-choose-spec =
+pub run-over-spec : {M : Type 1} → statement M
+run-over-spec =
     tie.close
     (tie.spec
     element-copy-out-block
     element-copy-out-below
     element-copy-out-target
-    scan-0-requires
+    over-0-requires
     same-length
     returns
-    scan-0-plain-requires
+    over-0-plain-requires
     same-length-2
     returns-2
-    scan-1-requires
+    over-1-requires
     same-length-3
     returns-3
-    scan-1-plain-requires
+    over-1-plain-requires
     same-length-4
     returns-4
-    scan-2-requires
+    over-2-requires
     same-length-5
     returns-5
-    scan-requires
+    over-requires
     same-length-6
     returns-6)

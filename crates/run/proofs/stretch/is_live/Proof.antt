@@ -2,10 +2,11 @@
 use mathlib.Core.Path.{sym, _∙_}
 use Prim.Native.Nat.{_/_, _%_}
 use lib.ListN.{getD}
-use Rattle.mask.proofs.Laws.Bits.{fit-row, read-bit, row-bit}
+use Rattle.mask.proofs.Laws.Bits.{fit-row, read-bit}
+use Rattle.model.proofs.Words.RowBits.{row-bit}
 use borrow.Author.Needs.{needs}
-use Rattle.run.proofs.ends.is_live.Statement.{statement}
-use Rattle.run.proofs.ends.is_live.Tie as tie
+use Rattle.run.proofs.stretch.is_live.Statement.{statement}
+use Rattle.run.proofs.stretch.is_live.Tie as tie
 
 mul-result : tie.Need-mul-result
 mul-result c = search needs

@@ -1,0 +1,144 @@
+-- THE ROWS OF THE TWO TABLES, from what the check says of the image, the test of the mask and the run.
+use mathlib.Core.Path.{_≡_, refl, sym, ap, ap₂, _∙_, subst}
+use mathlib.Core.Logic.{_↔_}
+use mathlib.Core.Bool.{Bool, true, false, not}
+use mathlib.Core.List.{List}
+use Prim.Native.Nat.{ℕ, _+_, _-_, _%_, _^_, _≤_, _<_}
+use native.Mathlib.Nat.{le-refl}
+use native.Mathlib.Omega.{arith}
+use lib.Dec.{T}
+use lib.ListN.{length, take}
+use lib.Seq.{sets}
+use Rattle.model.specs.Answers.{ImageOf}
+use Rattle.model.specs.Bits.{bit}
+use Rattle.model.specs.Edges.{accepting, states}
+use Rattle.model.specs.Image.{width}
+use Rattle.model.specs.Live.{Before}
+use Rattle.model.specs.Models.Apart.{stateWord}
+use Rattle.model.specs.Models.Run.{noted}
+use Rattle.model.specs.Models.Words.{Fit, isMask, value}
+use Rattle.model.specs.Tree.{Tree}
+use Rattle.model.specs.Watch.{BeginSays, begun, goes-on, IsMask, not-a-mask, not-an-image, stays, stepped, StepSays, stretch-too-long, text-too-long, Watch}
+use Rattle.model.proofs.Laws.Stores.{sets-fit}
+use Rattle.model.proofs.Watch.Ends.{ends-zero}
+use Rattle.model.proofs.Watch.Masks.{mask-test}
+use Rattle.run.specs.Says as run
+use Rattle.run.specs.Work.{Goes}
+use Rattle.run.proofs.Image.Carry.{as-arcs, image-shaped}
+use Rattle.run.proofs.Image.Stretch.{states-mask}
+use Rattle.verdict.specs.Says.{CheckSays}
+use Rattle.verdict.specs.declared.Checked.{Checked}
+use Rattle.verdict.specs.declared.Verdict.the-variants.{Image, Other}
+use Rattle.verdict.proofs.Laws.Found.{Found, found, not-found}
+use Rattle.word.specs.Shape.{widthOf}
+use Rattle.word.proofs.Laws.Stretch.{noted-few}
+use Rattle.word.proofs.Laws.Shape.{shape-of}
+
+states-are : (ws : List ℕ) (t : Tree) → ImageOf ws t → stateWord ws ≡ states t
+states-are ws t I = ap stateWord (as-arcs ws t I)
+
+wide-is : (ws : List ℕ) (t : Tree) → ImageOf ws t → widthOf ws ≡ width (states t)
+wide-is ws t I = ap widthOf (as-arcs ws t I)
+
+module _ (ws : List ℕ) {r : Checked} (C : CheckSays ws r) {w : ℕ} (g : r .verdict ≡ Image w) where
+  abbrev F : Found ws w (r .tape)
+  F = found ws r C g
+
+  abbrev t : Tree
+  t = F .tree
+
+  abbrev I : ImageOf ws t
+  I = F .image-of
+
+  -- ---- the numbers that were read
+  pub some-states : {count : ℕ} → count ≡ stateWord ws → 1 ≤ count
+  some-states e = omega (arith, e, shape-of ws (image-shaped ws t I) .some-states)
+
+  pub narrow : w ≤ 8
+  narrow = omega (arith, F .width-is, I .few)
+
+  -- ---- BEGIN
+  module _ (mask : List ℕ) (place : ℕ) (ends : List ℕ) where
+    pub begin-words : (length mask ≡ w → ⊥) → BeginSays ws mask place ends (stays 9 mask place ends)
+    begin-words f = not-a-mask t I (λ e. f (e ∙ sym (F .width-is))) refl
+
+    pub begin-done : length mask ≡ w → (words : List ℕ) → length words ≡ 8 → Fit words → run.BeginSays ws words → {count : ℕ} → count ≡ stateWord ws
+        → (hit : Bool) → hit ≡ bit (value words) (count - 1) → {total : ℕ} → total ≡ (0 + length (noted hit 0)) % 2 ^ 64 → {after new : List ℕ}
+        → after ≡ sets ends 0 (noted hit 0) → new ≡ take w words
+        → BeginSays ws mask place ends (record { number = 0; count = total; mask = new; place = 0; ends = after })
+    begin-done long words eight fits B {count} em hit looked {total} counts {after} {new} writes laid =
+        begun t (take (width (states t)) words) (noted hit 0) I (long ∙ F .width-is) (states-mask t (I .few) words (Before t) eight fits A) (ends-zero t (I .is-rule) hit is)
+        (ap₂ (λ (n : ℕ) (e : List ℕ). record { number = 0; count = n; mask = new; place = 0; ends = e }) total-is (writes ∙ sets-fit ends (noted hit 0))
+        ∙ ap (λ (m : List ℕ). goes-on m 0 (noted hit 0) ends) (laid ∙ ap (λ (n : ℕ). take n words) (F .width-is)))
+      where
+        A : run.StatesAre t words (Before t)
+        A = B t I
+
+        last-is : count - 1 ≡ accepting t
+        last-is = omega (arith, em, states-are ws t I)
+
+        same : hit ≡ bit (value words) (accepting t)
+        same = looked ∙ ap (bit (value words)) last-is
+
+        is : T hit ↔ Before t (accepting t)
+        is = let a = A .within (accepting t) (le-refl (states t)) in (λ h. a .0 (subst T same h), λ h. subst T (sym same) (a .1 h))
+
+        total-is : total ≡ length (noted hit 0)
+        total-is = omega (arith, counts, noted-few hit 0)
+
+  -- ---- STEP
+  module _ (mask : List ℕ) (place : ℕ) (stretch ends : List ℕ) where
+    abbrev Says : Watch → Type 0
+    Says = StepSays ws mask place stretch ends
+
+    pub step-long : 65535 < length stretch → Says (stays 7 mask place ends)
+    step-long l = stretch-too-long t I l refl
+
+    module _ (small : length stretch ≤ 65535) {count : ℕ} (em : count ≡ stateWord ws) (fits : Fit mask) {b : Bool} (test : b ≡ isMask count mask) where
+      e : count ≡ states t
+      e = em ∙ states-are ws t I
+
+      is : T b ↔ IsMask (states t) mask
+      is =
+          let k : b ≡ isMask (states t) mask = test ∙ ap (λ (m : ℕ). isMask m mask) e in
+          let h = mask-test (states t) (omega arith) mask fits in
+          (λ y. h .0 (subst T k y), λ M. subst T (sym k) (h .1 M))
+
+      pub step-mask : not b ≡ true → Says (stays 9 mask place ends)
+      step-mask n = not-a-mask t I small (λ M. no b n (is .1 M)) refl
+        where
+          no : (b : Bool) → not b ≡ true → T b → ⊥
+          no true p h = subst T (sym p) tt
+          no false p h = h
+
+      module _ (passed : not b ≡ false) where
+        M : IsMask (states t) mask
+        M = is .0 (yes b passed)
+          where
+            yes : (b : Bool) → not b ≡ false → T b
+            yes true p = tt
+            yes false p = subst T p tt
+
+        pub its-words : length mask ≡ w
+        its-words = M .long ∙ sym (F .width-is)
+
+        pub step-past : 4294967295 - length stretch < place → Says (stays 10 mask place ends)
+        step-past l = text-too-long t I small M (omega arith) refl
+
+        module _ (near : place ≤ 4294967295 - length stretch) where
+          pub goes : Goes ws mask place stretch
+          goes = record { shape = image-shaped ws t I; long = M .long ∙ sym (wide-is ws t I); limits = record { small = small; near = omega arith; few = omega arith } }
+
+          pub step-done : {words : List ℕ} {total : ℕ} {after new : List ℕ} → run.GoOnSays ws mask place stretch ends words total after → new ≡ take w words
+              → Says (record { number = 0; count = total; mask = new; place = place + length stretch; ends = after })
+          step-done {words} {total} {after} {new} G laid =
+              let R = G t I M in
+              stepped t (take (width (states t)) words) (R .found) I small M (omega arith) (R .live) (R .ends)
+              (ap₂ (λ (n : ℕ) (l : List ℕ). record { number = 0; count = n; mask = new; place = place + length stretch; ends = l }) (R .counted) (R .stored)
+              ∙ ap (λ (m : List ℕ). goes-on m (place + length stretch) (R .found) ends) (laid ∙ ap (λ (n : ℕ). take n words) (F .width-is)))
+
+pub begin-other : (ws mask : List ℕ) (place : ℕ) (ends : List ℕ) {r : Checked} → CheckSays ws r → r .verdict ≡ Other → BeginSays ws mask place ends (stays 6 mask place ends)
+begin-other ws mask place ends {r} C g = not-an-image (not-found ws r C g) refl
+
+pub step-other : (ws mask : List ℕ) (place : ℕ) (stretch ends : List ℕ) {r : Checked} → CheckSays ws r → r .verdict ≡ Other → StepSays ws mask place stretch ends (stays 6 mask place ends)
+step-other ws mask place stretch ends {r} C g = not-an-image (not-found ws r C g) refl

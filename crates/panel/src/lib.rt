@@ -1,22 +1,28 @@
-// The watcher's operations as a library for C and firmware: a symbol for each, which trusts no caller. Each gives one 64-bit number,
-// document 01's number times 2^32 plus the count.
+// The watcher's operations as a library for C and firmware: a symbol for each, which trusts no caller. Each gives one 64-bit number, that of the
+// documents' tables times 2^32 plus the count.
+use watch::Begun;
+use watch::Stepped;
 use watcher::Built;
 use watcher::Matched;
+use watcher::begin;
 use watcher::build;
 use watcher::match_ends;
 use watcher::read_back;
+use watcher::step;
 use writing::Written;
 ghost use mathlib.Core.List.{[]};
 ghost use mathlib.Core.Path.{_≡_};
 ghost use Prim.Native.Nat.{_+_, _*_, _^_, _≤_, _<_};
 ghost use Rattle.model.specs.Answers.{BuildSays, MatchSays, ReadBackSays};
+ghost use Rattle.model.specs.Watch.{BeginSays, StepSays};
+ghost use Rattle.watch.specs.Answers.{begunAnswer, steppedAnswer};
 ghost use Rattle.writing.specs.Says.{writtenAnswer};
 ghost use Rattle.watcher.specs.Answers.{builtAnswer, matchedAnswer};
-ghost use Rattle.panel.specs.Says.{Gives, packed};
+ghost use Rattle.panel.specs.Says.{Gives, packed, WatchGives};
 
-// Document 01's number and the count, in one.
+// The table's number and the count, in one.
 fn pack(number: u64, count: usize) -> u64
-    requires { ⌜ (number ≤ 8) × (count < 2 ^ 32) ⌝ }
+    requires { ⌜ (number ≤ 10) × (count < 2 ^ 32) ⌝ }
     ensures { λ r. ⌜ r ≡ number * 2 ^ 32 + count ⌝ }
 {
     number * 0x1_0000_0000 + count as u64
@@ -86,4 +92,61 @@ pub extern "C" fn lavumbishe_match(image: &[u64], text: &[u8], ends: &mut [u32])
 {
     let matched = match_ends(image, text, ends);
     pack_matched(matched)
+}
+
+// What begin answered.
+fn pack_begun(begun: Begun) -> u64
+    requires { ⌜ begunAnswer begun [] 0 [] .count < 2 ^ 32 ⌝ }
+    ensures { λ r. ⌜ r ≡ begunAnswer begun [] 0 [] .number * 2 ^ 32 + begunAnswer begun [] 0 [] .count ⌝ }
+{
+    match begun {
+        Begun::NotAnImage => pack(6, 0),
+        Begun::NotAMask => pack(9, 0),
+        Begun::Done(total) => pack(0, total),
+    }
+}
+
+// Begin a watch: its mask, its place and place 0 as an end, in what is lent.
+#[no_mangle]
+pub extern "C" fn lavumbishe_begin(
+    image: &[u64],
+    mask: &mut [u64],
+    place: &mut u64,
+    ends: &mut [u32],
+) -> u64
+    ensures { λ r. ⌜ WatchGives (BeginSays (now (image .entry)) (now (mask .entry)) (now (place .entry)) (now (ends .entry)))
+        r (now (mask .exit)) (now (place .exit)) (now (ends .exit)) ⌝ }
+{
+    let begun = begin(image, mask, place, ends);
+    pack_begun(begun)
+}
+
+// What step answered.
+fn pack_stepped(stepped: Stepped) -> u64
+    requires { ⌜ steppedAnswer stepped [] 0 [] .count < 2 ^ 32 ⌝ }
+    ensures { λ r. ⌜ r ≡ steppedAnswer stepped [] 0 [] .number * 2 ^ 32 + steppedAnswer stepped [] 0 [] .count ⌝ }
+{
+    match stepped {
+        Stepped::NotAnImage => pack(6, 0),
+        Stepped::StretchTooLong => pack(7, 0),
+        Stepped::NotAMask => pack(9, 0),
+        Stepped::TextTooLong => pack(10, 0),
+        Stepped::Done(total) => pack(0, total),
+    }
+}
+
+// One stretch more of a watch: mask and place go on from where they were lent.
+#[no_mangle]
+pub extern "C" fn lavumbishe_step(
+    image: &[u64],
+    mask: &mut [u64],
+    place: &mut u64,
+    stretch: &[u8],
+    ends: &mut [u32],
+) -> u64
+    ensures { λ r. ⌜ WatchGives (StepSays (now (image .entry)) (now (mask .entry)) (now (place .entry)) (now (stretch .entry)) (now (ends .entry)))
+        r (now (mask .exit)) (now (place .exit)) (now (ends .exit)) ⌝ }
+{
+    let stepped = step(image, mask, place, stretch, ends);
+    pack_stepped(stepped)
 }

@@ -1,5 +1,5 @@
-// The watcher's operations: document 01, "Numbers given back". No caller is trusted; a refusal changes nothing that was lent and gives count 0.
-// What each answer means, its number and its count, is defined in specs/Answers.antt.
+// The watcher's operations: document 01, "Numbers given back", and document 02's watch. No caller is trusted; a refusal changes nothing that was lent
+// and gives count 0. What each answer means, its number and its count, is defined in specs/Answers.antt, and for the watch in crates/watch.
 
 mod building;
 
@@ -9,8 +9,12 @@ use rule::read_rule;
 use run::ends::find;
 use verdict::Verdict;
 use verdict::check;
+use watch::Begun;
+use watch::Stepped;
 use writing::Written;
 ghost use Rattle.model.specs.Answers.{BuildSays, MatchSays, ReadBackSays};
+ghost use Rattle.model.specs.Watch.{BeginSays, StepSays};
+ghost use Rattle.watch.specs.Answers.{begunAnswer, steppedAnswer};
 ghost use Rattle.writing.specs.Says.{writtenAnswer};
 ghost use Rattle.watcher.specs.Answers.{builtAnswer, matchedAnswer};
 
@@ -68,4 +72,27 @@ pub fn match_ends(image: &[u64], text: &[u8], ends: &mut [u32]) -> Matched
     }
     let total = find(image, text, ends);
     Matched::Done(total as usize)
+}
+
+// Begin a watch: the live states before any byte into the mask, place 0, and place 0 as an end if it is one. The refusals are 6 and 9; done gives the
+// total of ends at place 0.
+pub fn begin(image: &[u64], mask: &mut [u64], place: &mut u64, ends: &mut [u32]) -> Begun
+    ensures { λ r. ⌜ BeginSays (now (image .entry)) (now (mask .entry)) (now (place .entry)) (now (ends .entry))
+        (begunAnswer r (now (mask .exit)) (now (place .exit)) (now (ends .exit))) ⌝ }
+{
+    watch::begin(image, mask, place, ends)
+}
+
+// One stretch more: mask and place go on from where they were lent. The refusals are 6, 7, 9 and 10; done gives the total of ends in the stretch.
+pub fn step(
+    image: &[u64],
+    mask: &mut [u64],
+    place: &mut u64,
+    stretch: &[u8],
+    ends: &mut [u32],
+) -> Stepped
+    ensures { λ r. ⌜ StepSays (now (image .entry)) (now (mask .entry)) (now (place .entry)) (now (stretch .entry)) (now (ends .entry))
+        (steppedAnswer r (now (mask .exit)) (now (place .exit)) (now (ends .exit))) ⌝ }
+{
+    watch::step(image, mask, place, stretch, ends)
 }

@@ -1,4 +1,4 @@
--- A TEXT HAS AT MOST ONE END MORE THAN BYTES: its ends rise from 0 to its length.
+-- A TEXT HAS AT MOST ONE END MORE THAN BYTES, for its ends rise from 0 to its length; a stretch has at most as many as bytes.
 use mathlib.Core.Logic.{inl, inr}
 use mathlib.Core.Path.{refl}
 use mathlib.Core.List.{List, [], _∷_}
@@ -8,6 +8,7 @@ use lib.ListN.{length}
 use Rattle.model.specs.Ends.{EndsAre, Rising}
 use Rattle.model.specs.Lists.{_∈_}
 use Rattle.model.specs.Tree.{Tree}
+use Rattle.model.specs.Watch.{EndsIn}
 use Rattle.model.proofs.Definitions.Ends.{end-stops}
 use Rattle.model.proofs.Laws.Lists.{all-in}
 
@@ -24,3 +25,7 @@ module _ (t : Tree) (text ends : List ℕ) (E : EndsAre t text ends) where
 
   pub ends-few : length ends ≤ suc (length text)
   ends-few = omega (arith, rising-few ends 0 (length text) (E .rising) (omega arith) (λ x h. (omega arith, end-within x h)))
+
+pub stretch-ends-few : {t : Tree} {D : ℕ → Type 0} {place : ℕ} {stretch ends : List ℕ} → EndsIn t D place stretch ends → length ends ≤ length stretch
+stretch-ends-few {place = place} {stretch} {ends} E =
+    omega (arith, rising-few ends (suc place) (place + length stretch) (E .rising) (omega arith) (λ x h. let e = E .ends x h in (omega (arith, e .1, e .2), omega (arith, e .1, e .3))))

@@ -1,4 +1,5 @@
--- Shape: which words have a shape. Ends: the loop over a text and what it writes. One: the masks of a rule of one word.
+-- Shape: which words have a shape. Ends: what is said of the ends found. One: the masks of a rule of one word. Stretch: the run over a stretch on them.
 pub mod Shape
 pub mod Ends
 pub mod One
+pub mod Stretch

@@ -8,7 +8,6 @@ use lib.ListN.{getD, length}
 use Rattle.model.specs.Models.Apart.{depthWord, stateWord}
 use Rattle.model.specs.Models.Run.{endsWith, fallWords, Masks, passWords, propagateBy, riseWords}
 use Rattle.model.specs.Models.Words.{wrapAdd, wrapSub}
-use Rattle.word.specs.Ends.{Limits}
 use Rattle.word.specs.Shape.{shaped}
 
 -- word i as a row of one
@@ -86,13 +85,3 @@ Fallen any table d live r =
 -- both: the letters do not matter
 abbrev pub Passed : (any : Bool) (block below target : ℕ) → List ℕ → (d live r : ℕ) → Type 0
 Passed any block below target table d live r = (ws : List ℕ) → r ∷ [] ≡ passWords (tableMasks ws any block below target table) d (live ∷ [])
-
--- what the choice of a loop asks
-pub record Chosen (ws stretch : List ℕ) (place found last d : ℕ) (any : Bool) (table : List ℕ) : Type 0 where
-  pub long : 518 ≤ length ws
-  pub limits : Limits place found stretch
-  pub few : last < 64
-  pub shallow : d ≤ 8
-  pub deep : d ≡ depthWord ws
-  pub entered : Entered ws d table
-  pub none : NoChain table d any

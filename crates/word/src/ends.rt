@@ -3,7 +3,8 @@ use crate::places::note;
 use crate::shape::depth;
 use crate::shape::has_shape;
 use crate::shape::states;
-use crate::steps::pass;
+use crate::steps::first;
+use crate::stretch::From;
 use crate::stretch::Ran;
 use crate::stretch::is_live;
 use crate::stretch::run_over;
@@ -30,20 +31,14 @@ fn find_in(image: &[u64], text: &[u8], places: &mut [u32]) -> u64
     let last = states(image) - 1;
     let masks = table(image, deep);
     let any = any_chain(&masks, deep);
-    let first = pass(1, deep, any, masks[6], masks[7], masks[8], &masks);
-    let total = note(places, 0, 0, is_live(first, last));
-    let ran = run_over(
-        image,
-        text,
-        places,
-        0,
-        total,
-        last,
-        deep,
-        any,
-        first,
-        &masks,
-    );
+    let live = first(deep, any, masks[6], masks[7], masks[8], &masks);
+    let found = note(places, 0, 0, is_live(live, last));
+    let from = From {
+        live,
+        place: 0,
+        found,
+    };
+    let ran = run_over(image, text, places, from, last, deep, any, &masks);
     ran.total
 }
 
@@ -72,16 +67,10 @@ pub fn go_on(image: &[u64], live: u64, place: u64, stretch: &[u8], places: &mut 
     let last = states(image) - 1;
     let masks = table(image, deep);
     let any = any_chain(&masks, deep);
-    run_over(
-        image,
-        stretch,
-        places,
-        place,
-        0,
-        last,
-        deep,
-        any,
+    let from = From {
         live,
-        &masks,
-    )
+        place,
+        found: 0,
+    };
+    run_over(image, stretch, places, from, last, deep, any, &masks)
 }

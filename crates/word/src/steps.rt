@@ -88,6 +88,16 @@ pub fn pass(
     fall(level, depth, any, table)
 }
 
+// The live states before any byte: up and down from state 0. Not by `pass`, which the compiler unfolds into the loop only where nothing else calls it.
+pub fn first(depth: usize, any: bool, block: u64, below: u64, target: u64, table: &[u64; 81]) -> u64
+    requires { ⌜ depth ≤ 8 ⌝ }
+    ensures { λ r. ⌜ Passed any block below target (now (table .entry)) depth 1 r ⌝ }
+{
+    let up = rise(1, depth, any, table);
+    let level = along(up, any, block, below, target);
+    fall(level, depth, any, table)
+}
+
 // The live states moved by a byte, and state 0.
 pub fn moved(live: u64, image: &[u64], byte: u8) -> u64
     requires { ⌜ 518 ≤ length (now image) ⌝ }

@@ -7,16 +7,29 @@ ghost use mathlib.Core.Bool.{false, true};
 ghost use mathlib.Core.List.{[], _∷_};
 ghost use mathlib.Core.Path.{_≡_};
 ghost use Prim.Native.Nat.{_≤_, _<_};
-ghost use lib.ListN.{length};
 ghost use Rattle.model.specs.Bits.{bit};
 ghost use Rattle.model.specs.Models.Words.{value};
-ghost use Rattle.word.specs.Ends.{Limits, RanOver};
-ghost use Rattle.word.specs.One.{Chosen, oneMasks, tableMasks};
+ghost use Rattle.word.specs.One.{oneMasks};
+ghost use Rattle.word.specs.Stretch.{Chosen, Overs, RanFrom, workMasks};
+
+// Where a stretch begins: the live states, the place in the whole text, and how many ends were found before.
+pub struct From {
+    pub live: u64,
+    pub place: u64,
+    pub found: usize,
+}
 
 // The live states after a stretch, and the total of its ends with those found before.
 pub struct Ran {
     pub live: u64,
     pub total: u64,
+}
+
+// The masks of depth 0's own chains, the source less one.
+struct Chain {
+    block: u64,
+    below: u64,
+    target: u64,
 }
 
 pub fn is_live(live: u64, state: usize) -> bool
@@ -31,23 +44,23 @@ fn over(
     image: &[u64],
     stretch: &[u8],
     places: &mut [u32],
-    place: u64,
-    found: usize,
+    from: From,
     last: usize,
     depth: usize,
     any: bool,
-    block: u64,
-    below: u64,
-    target: u64,
-    first: u64,
+    chain: Chain,
     table: &[u64; 81],
 ) -> Ran
-    requires { ⌜ (518 ≤ length (now image)) × (last < 64) × (depth ≤ 8) × Limits place found (now stretch) ⌝ }
-    ensures { λ r. ⌜ RanOver (tableMasks (now (image .entry)) any block below target (now (table .entry))) 1 depth last place found (now (stretch .entry)) (first ∷ [])
-        (now (places .entry)) (r .live ∷ []) (r .total) (now (places .exit)) ⌝ }
+    requires { ⌜ Overs (now image) (now stretch) from last × (depth ≤ 8) ⌝ }
+    ensures { λ r. ⌜ RanFrom (workMasks (now (image .entry)) any chain (now (table .entry))) depth last (now (stretch .entry)) from
+        (now (places .entry)) r (now (places .exit)) ⌝ }
 {
-    let mut live = first;
-    let mut total = found;
+    let place = from.place;
+    let block = chain.block;
+    let below = chain.below;
+    let target = chain.target;
+    let mut live = from.live;
+    let mut total = from.found;
     let mut p: usize = 0;
     while p < stretch.len() {
         let on = moved(live, image, stretch[p]);
@@ -71,280 +84,116 @@ fn over_0(
     image: &[u64],
     stretch: &[u8],
     places: &mut [u32],
-    place: u64,
-    found: usize,
+    from: From,
     last: usize,
-    block: u64,
-    below: u64,
-    target: u64,
-    first: u64,
+    chain: Chain,
     table: &[u64; 81],
 ) -> Ran
-    requires { ⌜ (518 ≤ length (now image)) × (last < 64) × Limits place found (now stretch) ⌝ }
-    ensures { λ r. ⌜ RanOver (tableMasks (now (image .entry)) true block below target (now (table .entry))) 1 0 last place found (now (stretch .entry)) (first ∷ [])
-        (now (places .entry)) (r .live ∷ []) (r .total) (now (places .exit)) ⌝ }
+    requires { ⌜ Overs (now image) (now stretch) from last ⌝ }
+    ensures { λ r. ⌜ RanFrom (workMasks (now (image .entry)) true chain (now (table .entry))) 0 last (now (stretch .entry)) from
+        (now (places .entry)) r (now (places .exit)) ⌝ }
 {
-    over(
-        image,
-        stretch,
-        places,
-        place,
-        found,
-        last,
-        0,
-        true,
-        block,
-        below,
-        target,
-        first,
-        table,
-    )
+    over(image, stretch, places, from, last, 0, true, chain, table)
 }
 
 fn over_0_plain(
     image: &[u64],
     stretch: &[u8],
     places: &mut [u32],
-    place: u64,
-    found: usize,
+    from: From,
     last: usize,
-    block: u64,
-    below: u64,
-    target: u64,
-    first: u64,
+    chain: Chain,
     table: &[u64; 81],
 ) -> Ran
-    requires { ⌜ (518 ≤ length (now image)) × (last < 64) × Limits place found (now stretch) ⌝ }
-    ensures { λ r. ⌜ RanOver (tableMasks (now (image .entry)) false block below target (now (table .entry))) 1 0 last place found (now (stretch .entry)) (first ∷ [])
-        (now (places .entry)) (r .live ∷ []) (r .total) (now (places .exit)) ⌝ }
+    requires { ⌜ Overs (now image) (now stretch) from last ⌝ }
+    ensures { λ r. ⌜ RanFrom (workMasks (now (image .entry)) false chain (now (table .entry))) 0 last (now (stretch .entry)) from
+        (now (places .entry)) r (now (places .exit)) ⌝ }
 {
-    over(
-        image,
-        stretch,
-        places,
-        place,
-        found,
-        last,
-        0,
-        false,
-        block,
-        below,
-        target,
-        first,
-        table,
-    )
+    over(image, stretch, places, from, last, 0, false, chain, table)
 }
 
 fn over_1(
     image: &[u64],
     stretch: &[u8],
     places: &mut [u32],
-    place: u64,
-    found: usize,
+    from: From,
     last: usize,
-    block: u64,
-    below: u64,
-    target: u64,
-    first: u64,
+    chain: Chain,
     table: &[u64; 81],
 ) -> Ran
-    requires { ⌜ (518 ≤ length (now image)) × (last < 64) × Limits place found (now stretch) ⌝ }
-    ensures { λ r. ⌜ RanOver (tableMasks (now (image .entry)) true block below target (now (table .entry))) 1 1 last place found (now (stretch .entry)) (first ∷ [])
-        (now (places .entry)) (r .live ∷ []) (r .total) (now (places .exit)) ⌝ }
+    requires { ⌜ Overs (now image) (now stretch) from last ⌝ }
+    ensures { λ r. ⌜ RanFrom (workMasks (now (image .entry)) true chain (now (table .entry))) 1 last (now (stretch .entry)) from
+        (now (places .entry)) r (now (places .exit)) ⌝ }
 {
-    over(
-        image,
-        stretch,
-        places,
-        place,
-        found,
-        last,
-        1,
-        true,
-        block,
-        below,
-        target,
-        first,
-        table,
-    )
+    over(image, stretch, places, from, last, 1, true, chain, table)
 }
 
 fn over_1_plain(
     image: &[u64],
     stretch: &[u8],
     places: &mut [u32],
-    place: u64,
-    found: usize,
+    from: From,
     last: usize,
-    block: u64,
-    below: u64,
-    target: u64,
-    first: u64,
+    chain: Chain,
     table: &[u64; 81],
 ) -> Ran
-    requires { ⌜ (518 ≤ length (now image)) × (last < 64) × Limits place found (now stretch) ⌝ }
-    ensures { λ r. ⌜ RanOver (tableMasks (now (image .entry)) false block below target (now (table .entry))) 1 1 last place found (now (stretch .entry)) (first ∷ [])
-        (now (places .entry)) (r .live ∷ []) (r .total) (now (places .exit)) ⌝ }
+    requires { ⌜ Overs (now image) (now stretch) from last ⌝ }
+    ensures { λ r. ⌜ RanFrom (workMasks (now (image .entry)) false chain (now (table .entry))) 1 last (now (stretch .entry)) from
+        (now (places .entry)) r (now (places .exit)) ⌝ }
 {
-    over(
-        image,
-        stretch,
-        places,
-        place,
-        found,
-        last,
-        1,
-        false,
-        block,
-        below,
-        target,
-        first,
-        table,
-    )
+    over(image, stretch, places, from, last, 1, false, chain, table)
 }
 
 fn over_2(
     image: &[u64],
     stretch: &[u8],
     places: &mut [u32],
-    place: u64,
-    found: usize,
+    from: From,
     last: usize,
-    block: u64,
-    below: u64,
-    target: u64,
-    first: u64,
+    chain: Chain,
     table: &[u64; 81],
 ) -> Ran
-    requires { ⌜ (518 ≤ length (now image)) × (last < 64) × Limits place found (now stretch) ⌝ }
-    ensures { λ r. ⌜ RanOver (tableMasks (now (image .entry)) true block below target (now (table .entry))) 1 2 last place found (now (stretch .entry)) (first ∷ [])
-        (now (places .entry)) (r .live ∷ []) (r .total) (now (places .exit)) ⌝ }
+    requires { ⌜ Overs (now image) (now stretch) from last ⌝ }
+    ensures { λ r. ⌜ RanFrom (workMasks (now (image .entry)) true chain (now (table .entry))) 2 last (now (stretch .entry)) from
+        (now (places .entry)) r (now (places .exit)) ⌝ }
 {
-    over(
-        image,
-        stretch,
-        places,
-        place,
-        found,
-        last,
-        2,
-        true,
-        block,
-        below,
-        target,
-        first,
-        table,
-    )
+    over(image, stretch, places, from, last, 2, true, chain, table)
 }
 
-// The loop is chosen once, before the stretch.
+// The loop is chosen once, before the stretch. The table is copied: no store through `places` can change the copy, so the compiler reads it once.
 pub fn run_over(
     image: &[u64],
     stretch: &[u8],
     places: &mut [u32],
-    place: u64,
-    found: usize,
+    from: From,
     last: usize,
     depth: usize,
     any: bool,
-    first: u64,
     table: &[u64; 81],
 ) -> Ran
-    requires { ⌜ Chosen (now image) (now stretch) place found last depth any (now table) ⌝ }
-    ensures { λ r. ⌜ RanOver (oneMasks (now (image .entry))) 1 depth last place found (now (stretch .entry)) (first ∷ [])
-        (now (places .entry)) (r .live ∷ []) (r .total) (now (places .exit)) ⌝ }
+    requires { ⌜ Chosen (now image) (now stretch) from last depth any (now table) ⌝ }
+    ensures { λ r. ⌜ RanFrom (oneMasks (now (image .entry))) depth last (now (stretch .entry)) from (now (places .entry)) r (now (places .exit)) ⌝ }
 {
-    let block = table[6];
-    let below = table[7];
-    let target = table[8];
+    let work = *table;
+    let chain = Chain {
+        block: work[6],
+        below: work[7],
+        target: work[8],
+    };
     if depth == 0 {
         if any {
-            return over_0(
-                image,
-                stretch,
-                places,
-                place,
-                found,
-                last,
-                block,
-                below,
-                target,
-                first,
-                table,
-            );
+            return over_0(image, stretch, places, from, last, chain, &work);
         }
-        return over_0_plain(
-            image,
-            stretch,
-            places,
-            place,
-            found,
-            last,
-            block,
-            below,
-            target,
-            first,
-            table,
-        );
+        return over_0_plain(image, stretch, places, from, last, chain, &work);
     }
     if depth == 1 {
         if any {
-            return over_1(
-                image,
-                stretch,
-                places,
-                place,
-                found,
-                last,
-                block,
-                below,
-                target,
-                first,
-                table,
-            );
+            return over_1(image, stretch, places, from, last, chain, &work);
         }
-        return over_1_plain(
-            image,
-            stretch,
-            places,
-            place,
-            found,
-            last,
-            block,
-            below,
-            target,
-            first,
-            table,
-        );
+        return over_1_plain(image, stretch, places, from, last, chain, &work);
     }
     if depth == 2 {
-        return over_2(
-            image,
-            stretch,
-            places,
-            place,
-            found,
-            last,
-            block,
-            below,
-            target,
-            first,
-            table,
-        );
+        return over_2(image, stretch, places, from, last, chain, &work);
     }
-    over(
-        image,
-        stretch,
-        places,
-        place,
-        found,
-        last,
-        depth,
-        any,
-        block,
-        below,
-        target,
-        first,
-        table,
-    )
+    over(image, stretch, places, from, last, depth, any, chain, &work)
 }

@@ -17,8 +17,11 @@ use Rattle.model.specs.Models.Words.{wrapAdd, wrapSub}
 use Rattle.model.proofs.Laws.Bool.{le-false, le-true}
 use Rattle.model.proofs.Words.Run.{Bytes}
 use Rattle.word.specs.Ends.{Limits, RanOver}
-use Rattle.word.specs.One.{chain, Chosen, endsOfOne, Entered, entryAt, NoChain, oneMasks, tableMasks, wordAt}
+use Rattle.word.specs.One.{chain, endsOfOne, Entered, entryAt, NoChain, oneMasks, tableMasks, wordAt}
 use Rattle.word.specs.Shape.{shaped}
+use Rattle.word.specs.Stretch.{Chosen, RanFrom}
+use Rattle.word.specs.declared.stretch.From.{From}
+use Rattle.word.specs.declared.stretch.Ran.{Ran}
 use Rattle.word.proofs.Laws.Cut.{after-cut, Cut, pass-cut, run-cut}
 use Rattle.word.proofs.Laws.Nine.{entered-at, nine-gather, nine-scatter}
 use Rattle.word.proofs.Laws.Shape.{Shape, shape-of}
@@ -160,11 +163,11 @@ module _ (ws text : List ℕ) where
       ∙ ap (λ (b : Bool). cond b (found true true true) []) (and-false (shaped ws && leb (stateWord ws) 64)))
 
 -- ---- the choice of a loop: each runs as the image's masks do, with the depth and the presence of chains as literals or not
-pub chosen : {ws stretch : List ℕ} {place found last d : ℕ} {any : Bool} {table : List ℕ} → Chosen ws stretch place found last d any table → ((i : ℕ) → getD ws i 0 < 2 ^ 64) → Bytes stretch
-    → (flag : Bool) → NoChain table d flag → (n : ℕ) → d ≡ n → {first r total : ℕ} {before after : List ℕ}
-    → RanOver (tableMasks ws flag (getD table 6 0) (getD table 7 0) (getD table 8 0) table) 1 n last place found stretch (first ∷ []) before (r ∷ []) total after
-    → RanOver (oneMasks ws) 1 d last place found stretch (first ∷ []) before (r ∷ []) total after
-chosen {ws} {d = d} {table = table} C fit B flag N n e = one-over ws table d flag (C .deep) (C .entered) N fit n e (C .few) B
+pub chosen : {ws stretch : List ℕ} {from : From} {last d : ℕ} {any : Bool} {table : List ℕ} → Chosen ws stretch from last d any table → ((i : ℕ) → getD ws i 0 < 2 ^ 64) → Bytes stretch
+    → (flag : Bool) → NoChain table d flag → (n : ℕ) → d ≡ n → (r : Ran) {before after : List ℕ}
+    → RanFrom (tableMasks ws flag (getD table 6 0) (getD table 7 0) (getD table 8 0) table) n last stretch from before r after
+    → RanFrom (oneMasks ws) d last stretch from before r after
+chosen {ws} {d = d} {table = table} C fit B flag N n e r = one-over ws table d flag (C .deep) (C .entered) N fit n e (C .overs .few) B
 
 -- words with a shape of one word to a mask are 524 and nine for each depth
 pub one-long : (ws : List ℕ) → Shape ws → stateWord ws ≤ 64 → length ws ≡ 524 + 9 * depthWord ws
@@ -174,13 +177,11 @@ one-long ws S h =
 
 -- words with a shape of at most 64 states, with what code has read of it and the table that it has made, have what the choice of a loop asks
 pub may-choose : {ws : List ℕ} → shaped ws ≡ true → stateWord ws ≤ 64 → {d count : ℕ} → d ≡ depthWord ws → count ≡ stateWord ws → {any : Bool} {table : List ℕ} → Entered ws d table
-    → NoChain table d any → {place found : ℕ} {stretch : List ℕ} → Limits place found stretch → Chosen ws stretch place found (count - 1) d any table
-may-choose {ws} e h ed em E N L =
+    → NoChain table d any → (from : From) {stretch : List ℕ} → Limits (from .place) (from .found) stretch → Chosen ws stretch from (count - 1) d any table
+may-choose {ws} e h ed em E N from L =
     let S = shape-of ws e in
     record {
-      long = omega (arith, one-long ws S h);
-      limits = L;
-      few = omega (arith, em, h, S .some-states);
+      overs = record { long = omega (arith, one-long ws S h); limits = L; few = omega (arith, em, h, S .some-states) };
       shallow = omega (arith, ed, S .shallow);
       deep = ed;
       entered = E;

@@ -11,7 +11,7 @@ use lib.ListN.{getD}
 use Rattle.model.specs.Models.Run.{fallWords, gatherWords, Masks, moveWords, propagateWords, riseWords, scatterWords}
 use Rattle.model.specs.Models.Words.{wrapAdd, wrapSub}
 use Rattle.model.proofs.Laws.Bool.{le-or-lt}
-use Rattle.word.specs.One.{tableMasks, wordAt}
+use Rattle.word.specs.One.{Fallen, Passed, Risen, tableMasks, wordAt}
 
 -- ---- differences and sums of one word
 difference-one : {x y s : ℕ} → x < 2 ^ 64 → y < 2 ^ 64 → s < 2 ^ 64 → (s + y) % 2 ^ 64 ≡ x → s ≡ wrapSub (wrapSub x y) 0
@@ -118,3 +118,9 @@ module _ (ws : List ℕ) (any : Bool) (block below target : ℕ) (table : List �
       → a ∷ [] ≡ alongAt (k + 1) (s ∷ []) → fallWords M (d - (k + 1)) (k + 1) (a ∷ []) ≡ fallWords M d 0 (live ∷ [])
   fall-again d k live r h I es ea =
       ap (fallWords M (d - (k + 1)) (k + 1)) (ea ∙ ap (alongAt (k + 1)) es) ∙ fall-turn d k h (r ∷ []) ∙ I
+
+-- ---- up, along depth 0's own chains and down: a pass
+pub up-and-down : (any : Bool) (block below target : ℕ) (table : List ℕ) (d live : ℕ) {level r : ℕ} (up : ℕ) → Risen any table d live up
+    → level ∷ [] ≡ propagateWords (cond any block 0 ∷ []) (wrapAdd below 1 ∷ []) (target ∷ []) (up ∷ []) → Fallen any table d level r → Passed any block below target table d live r
+up-and-down any block below target table d live up R A F ws =
+    F ws block below target ∙ ap (fallWords (tableMasks ws any block below target table) d 0) (A ∙ R ws block below target)

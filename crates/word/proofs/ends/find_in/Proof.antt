@@ -34,17 +34,17 @@ any-chain-requires c κs =
     let s = d .before .before .before .before in
     omega (arith, d .depth .ensures, shape-of (s .args .image .now) (s .pre .0) .shallow)
 
-array-read-pass : tie.Need-array-read-pass
-array-read-pass c = search needs
+array-read-first : tie.Need-array-read-first
+array-read-first c = search needs
 
-array-read-pass-2 : tie.Need-array-read-pass-2
-array-read-pass-2 c = search needs
+array-read-first-2 : tie.Need-array-read-first-2
+array-read-first-2 c = search needs
 
-array-read-pass-3 : tie.Need-array-read-pass-3
-array-read-pass-3 c = search needs
+array-read-first-3 : tie.Need-array-read-first-3
+array-read-first-3 c = search needs
 
-pass-requires : tie.Need-pass-requires
-pass-requires c κs =
+first-requires : tie.Need-first-requires
+first-requires c κs =
     let d = c .before .before .before .before .before in
     let s = d .before .before .before .before in
     omega (arith, d .depth .ensures, shape-of (s .args .image .now) (s .pre .0) .shallow)
@@ -67,6 +67,7 @@ run-over-requires c κs =
     let d = m .before in
     let s = d .before .before .before .before in
     may-choose (s .pre .0) (s .pre .1) (d .depth .ensures) (m .states .ensures) (b .table .ensures) (y .any-chain .ensures)
+    (record { live = n .before .before .before .first .result; place = 0; found = n .note .result })
     (record { small = s .pre .2; near = omega (arith, s .pre .2); few = omega (arith, n .note .ensures .0, noted-few (n .before .is-live .result) 0) })
 
 same-length : tie.Need-same-length
@@ -88,9 +89,9 @@ returns c =
     let deep = d .depth .result in
     subst (λ (ps : List ℕ). Written ps (a .places .now) (r .result .total) (r .last .1 .1 .0))
     (ap₂ (λ (i k : ℕ). endsWith (oneMasks ws) i (k - 1) (a .text .now)) (d .depth .ensures) (m .states .ensures))
-    (begun (oneMasks ws) 1 deep (m .states .result - 1) (a .text .now) (q .pass .result ∷ []) (a .places .now)
+    (begun (oneMasks ws) 1 deep (m .states .result - 1) (a .text .now) (q .first .result ∷ []) (a .places .now)
     (one-first ws (b .table .result) deep (y .any-chain .result) (d .depth .ensures) (b .table .ensures) (y .any-chain .ensures) (λ i. d .before .before .before .shared-slice-known .given i .fits)
-    (q .pass .ensures ws)) (h .is-live .result) (h .is-live .ensures) (n .note .ensures .0) (n .note .ensures .1) (r .ensures))
+    (q .first .ensures ws)) (h .is-live .result) (h .is-live .ensures) (n .note .ensures .0) (n .note .ensures .1) (r .ensures))
 
 pub find-in-spec : {M : Type 1} → statement M
 find-in-spec =
@@ -101,10 +102,10 @@ find-in-spec =
     sub-last
     table-requires
     any-chain-requires
-    array-read-pass
-    array-read-pass-2
-    array-read-pass-3
-    pass-requires
+    array-read-first
+    array-read-first-2
+    array-read-first-3
+    first-requires
     is-live-requires
     note-requires
     run-over-requires

@@ -40,7 +40,8 @@ run-over-requires c κs =
     let m = b .before in
     let d = m .before in
     let s = d .before .before .before .before in
-    may-choose (s .pre .0) (s .pre .1) (d .depth .ensures) (m .states .ensures) (b .table .ensures) (y .any-chain .ensures) (s .pre .2)
+    may-choose (s .pre .0) (s .pre .1) (d .depth .ensures) (m .states .ensures) (b .table .ensures) (y .any-chain .ensures)
+    (record { live = s .args .live; place = s .args .place; found = 0 }) (s .pre .2)
 
 same-length : tie.Need-same-length
 same-length c = search needs

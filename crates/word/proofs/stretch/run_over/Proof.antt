@@ -2,106 +2,112 @@
 use mathlib.Core.Path.{refl}
 use mathlib.Core.Bool.{true, false}
 use native.Mathlib.Omega.{arith}
-use Rattle.word.proofs.Laws.One.{chosen, never}
 use Rattle.word.proofs.Laws.Bytes.{all-bytes}
+use Rattle.word.proofs.Laws.One.{chosen, never}
 use borrow.Author.Needs.{needs}
 use Rattle.word.proofs.stretch.run_over.Statement.{statement}
 use Rattle.word.proofs.stretch.run_over.Tie as tie
 
-element-copy-out-block : tie.Need-element-copy-out-block
-element-copy-out-block c = search needs
+array-read-t14 : tie.Need-array-read-t14
+array-read-t14 c = search needs
 
-element-copy-out-below : tie.Need-element-copy-out-below
-element-copy-out-below c = search needs
+array-read-t17 : tie.Need-array-read-t17
+array-read-t17 c = search needs
 
-element-copy-out-target : tie.Need-element-copy-out-target
-element-copy-out-target c = search needs
+array-read-t20 : tie.Need-array-read-t20
+array-read-t20 c = search needs
 
 over-0-requires : tie.Need-over-0-requires
-over-0-requires c κs = search needs
+over-0-requires c κs = c .before .before .before .before .before .before .before .before .pre .overs
 
 same-length : tie.Need-same-length
 same-length c = search needs
 
 returns : tie.Need-returns
 returns c =
-    let s = c .before .before .before .before .before .before .before .before .before .before .before .before in
-    let w = c .before .before .before .before .before .before .before .before .before .before .before .shared-slice-known .given in
-    let t = c .before .before .before .before .before .before .before .before .before .before .shared-slice-known2 .given in
-    chosen (s .pre) (λ i. w i .fits) (all-bytes (s .args .stretch .now) (λ i. omega (arith, t i))) (true) (λ e. absurd (never e)) 0 (c .before .before .before .before .before .if1 .taken) (c .before .before .over-0 .ensures)
+    let r = c .before .before .over-0 in
+    let s = c .before .before .before .before .before .before .before .before .before .before .before in
+    let w = c .before .before .before .before .before .before .before .before .before .before .shared-slice-known .given in
+    let b = c .before .before .before .before .before .before .before .before .before .shared-slice-known2 .given in
+    chosen (s .pre) (λ i. w i .fits) (all-bytes (s .args .stretch .now) (λ i. omega (arith, b i))) true (λ e. absurd (never e)) 0 (c .before .before .before .before .before .before .if1 .taken) (r .result) (r .ensures)
 
 over-0-plain-requires : tie.Need-over-0-plain-requires
-over-0-plain-requires c κs = search needs
+over-0-plain-requires c κs = c .before .before .before .before .before .before .before .before .pre .overs
 
 same-length-2 : tie.Need-same-length-2
 same-length-2 c = search needs
 
 returns-2 : tie.Need-returns-2
 returns-2 c =
-    let s = c .before .before .before .before .before .before .before .before .before .before .before .before in
-    let w = c .before .before .before .before .before .before .before .before .before .before .before .shared-slice-known .given in
-    let t = c .before .before .before .before .before .before .before .before .before .before .shared-slice-known2 .given in
-    chosen (s .pre) (λ i. w i .fits) (all-bytes (s .args .stretch .now) (λ i. omega (arith, t i))) (false) (λ e. s .pre .none (c .before .before .before .before .if2 .left)) 0 (c .before .before .before .before .before .if1 .taken) (c .before .before .over-0-plain .ensures)
+    let r = c .before .before .over-0-plain in
+    let s = c .before .before .before .before .before .before .before .before .before .before .before in
+    let w = c .before .before .before .before .before .before .before .before .before .before .shared-slice-known .given in
+    let b = c .before .before .before .before .before .before .before .before .before .shared-slice-known2 .given in
+    chosen (s .pre) (λ i. w i .fits) (all-bytes (s .args .stretch .now) (λ i. omega (arith, b i))) false (λ e. s .pre .none (c .before .before .before .before .before .if2 .left)) 0 (c .before .before .before .before .before .before .if1 .taken) (r .result) (r .ensures)
 
 over-1-requires : tie.Need-over-1-requires
-over-1-requires c κs = search needs
+over-1-requires c κs = c .before .before .before .before .before .before .before .before .before .pre .overs
 
 same-length-3 : tie.Need-same-length-3
 same-length-3 c = search needs
 
 returns-3 : tie.Need-returns-3
 returns-3 c =
-    let s = c .before .before .before .before .before .before .before .before .before .before .before .before .before in
-    let w = c .before .before .before .before .before .before .before .before .before .before .before .before .shared-slice-known .given in
-    let t = c .before .before .before .before .before .before .before .before .before .before .before .shared-slice-known2 .given in
-    chosen (s .pre) (λ i. w i .fits) (all-bytes (s .args .stretch .now) (λ i. omega (arith, t i))) (true) (λ e. absurd (never e)) 1 (c .before .before .before .before .before .if3 .taken) (c .before .before .over-1 .ensures)
+    let r = c .before .before .over-1 in
+    let s = c .before .before .before .before .before .before .before .before .before .before .before .before in
+    let w = c .before .before .before .before .before .before .before .before .before .before .before .shared-slice-known .given in
+    let b = c .before .before .before .before .before .before .before .before .before .before .shared-slice-known2 .given in
+    chosen (s .pre) (λ i. w i .fits) (all-bytes (s .args .stretch .now) (λ i. omega (arith, b i))) true (λ e. absurd (never e)) 1 (c .before .before .before .before .before .before .if3 .taken) (r .result) (r .ensures)
 
 over-1-plain-requires : tie.Need-over-1-plain-requires
-over-1-plain-requires c κs = search needs
+over-1-plain-requires c κs = c .before .before .before .before .before .before .before .before .before .pre .overs
 
 same-length-4 : tie.Need-same-length-4
 same-length-4 c = search needs
 
 returns-4 : tie.Need-returns-4
 returns-4 c =
-    let s = c .before .before .before .before .before .before .before .before .before .before .before .before .before in
-    let w = c .before .before .before .before .before .before .before .before .before .before .before .before .shared-slice-known .given in
-    let t = c .before .before .before .before .before .before .before .before .before .before .before .shared-slice-known2 .given in
-    chosen (s .pre) (λ i. w i .fits) (all-bytes (s .args .stretch .now) (λ i. omega (arith, t i))) (false) (λ e. s .pre .none (c .before .before .before .before .if4 .left)) 1 (c .before .before .before .before .before .if3 .taken) (c .before .before .over-1-plain .ensures)
+    let r = c .before .before .over-1-plain in
+    let s = c .before .before .before .before .before .before .before .before .before .before .before .before in
+    let w = c .before .before .before .before .before .before .before .before .before .before .before .shared-slice-known .given in
+    let b = c .before .before .before .before .before .before .before .before .before .before .shared-slice-known2 .given in
+    chosen (s .pre) (λ i. w i .fits) (all-bytes (s .args .stretch .now) (λ i. omega (arith, b i))) false (λ e. s .pre .none (c .before .before .before .before .before .if4 .left)) 1 (c .before .before .before .before .before .before .if3 .taken) (r .result) (r .ensures)
 
 over-2-requires : tie.Need-over-2-requires
-over-2-requires c κs = search needs
+over-2-requires c κs = c .before .before .before .before .before .before .before .before .before .pre .overs
 
 same-length-5 : tie.Need-same-length-5
 same-length-5 c = search needs
 
 returns-5 : tie.Need-returns-5
 returns-5 c =
-    let s = c .before .before .before .before .before .before .before .before .before .before .before .before .before in
-    let w = c .before .before .before .before .before .before .before .before .before .before .before .before .shared-slice-known .given in
-    let t = c .before .before .before .before .before .before .before .before .before .before .before .shared-slice-known2 .given in
-    chosen (s .pre) (λ i. w i .fits) (all-bytes (s .args .stretch .now) (λ i. omega (arith, t i))) (true) (λ e. absurd (never e)) 2 (c .before .before .before .before .if5 .taken) (c .before .before .over-2 .ensures)
+    let r = c .before .before .over-2 in
+    let s = c .before .before .before .before .before .before .before .before .before .before .before .before in
+    let w = c .before .before .before .before .before .before .before .before .before .before .before .shared-slice-known .given in
+    let b = c .before .before .before .before .before .before .before .before .before .before .shared-slice-known2 .given in
+    chosen (s .pre) (λ i. w i .fits) (all-bytes (s .args .stretch .now) (λ i. omega (arith, b i))) true (λ e. absurd (never e)) 2 (c .before .before .before .before .before .if5 .taken) (r .result) (r .ensures)
 
 over-requires : tie.Need-over-requires
-over-requires c κs = search needs
+over-requires c κs = let s = c .before .before .before .before .before .before .before .before .before in (s .pre .overs, s .pre .shallow)
 
 same-length-6 : tie.Need-same-length-6
 same-length-6 c = search needs
 
 returns-6 : tie.Need-returns-6
 returns-6 c =
-    let s = c .before .before .before .before .before .before .before .before .before .before .before .before .before in
-    let w = c .before .before .before .before .before .before .before .before .before .before .before .before .shared-slice-known .given in
-    let t = c .before .before .before .before .before .before .before .before .before .before .before .shared-slice-known2 .given in
-    chosen (s .pre) (λ i. w i .fits) (all-bytes (s .args .stretch .now) (λ i. omega (arith, t i))) (s .args .any) (s .pre .none) (s .args .depth) (refl) (c .before .before .over .ensures)
+    let r = c .before .before .over in
+    let s = c .before .before .before .before .before .before .before .before .before .before .before .before in
+    let w = c .before .before .before .before .before .before .before .before .before .before .before .shared-slice-known .given in
+    let b = c .before .before .before .before .before .before .before .before .before .before .shared-slice-known2 .given in
+    chosen (s .pre) (λ i. w i .fits) (all-bytes (s .args .stretch .now) (λ i. omega (arith, b i))) (s .args .any) (s .pre .none) (s .args .depth) refl (r .result) (r .ensures)
 
 pub run-over-spec : {M : Type 1} → statement M
 run-over-spec =
     tie.close
     (tie.spec
-    element-copy-out-block
-    element-copy-out-below
-    element-copy-out-target
+    array-read-t14
+    array-read-t17
+    array-read-t20
     over-0-requires
     same-length
     returns

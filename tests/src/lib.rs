@@ -12,9 +12,9 @@ use std::path::Path;
 /// A list of words as runs of equal words: (how many, which).
 pub type Runs = Vec<(usize, u64)>;
 
-/// The lines of one file of vectors, each as its fields after the kind.
-pub fn vectors(folder: &Path, file: &str, kind: &str) -> Vec<Vec<String>> {
-    let path = folder.join(file);
+/// The lines of one kind of vectors, each as its fields after the kind; `since` is `base`, or the wish that brought them.
+pub fn vectors(folder: &Path, since: &str, kind: &str) -> Vec<Vec<String>> {
+    let path = folder.join(since).join(format!("{kind}.txt"));
     let text = fs::read_to_string(&path).unwrap_or_else(|e| panic!("{}: {e}", path.display()));
     text.lines()
         .map(|line| {
@@ -25,13 +25,15 @@ pub fn vectors(folder: &Path, file: &str, kind: &str) -> Vec<Vec<String>> {
         .collect()
 }
 
-/// Bytes in hex, `-` for none.
+/// Bytes in hex, `-` for none; `HEX*N` is N bytes, these over and over.
 pub fn bytes(field: &str) -> Vec<u8> {
     if field == "-" {
         return Vec::new();
     }
-    assert!(field.len() % 2 == 0, "odd hex: {field}");
-    (0..field.len() / 2).map(|i| u8::from_str_radix(&field[2 * i..2 * i + 2], 16).expect("hex")).collect()
+    let (hex, length) = field.split_once('*').map_or((field, field.len() / 2), |(hex, n)| (hex, n.parse().expect("length")));
+    assert!(hex.len() % 2 == 0, "odd hex: {field}");
+    let once: Vec<u8> = (0..hex.len() / 2).map(|i| u8::from_str_radix(&hex[2 * i..2 * i + 2], 16).expect("hex")).collect();
+    once.into_iter().cycle().take(length).collect()
 }
 
 /// A file's bytes, or no file.
@@ -39,7 +41,7 @@ pub fn file(field: &str) -> Option<Vec<u8>> {
     (field != "missing").then(|| bytes(field))
 }
 
-/// Words as LENGTH;RUNS.
+/// Words as LENGTH;RUNS; a run of several values is these over and over.
 pub fn runs(field: &str) -> Runs {
     let (length, listed) = field.split_once(';').expect("LENGTH;RUNS");
     let length: usize = length.parse().expect("length");
@@ -52,8 +54,12 @@ pub fn runs(field: &str) -> Runs {
         if at < first {
             out.push((first - at, 0));
         }
-        out.push((last - first + 1, u64::from_str_radix(value, 16).expect("hex")));
+        let values: Vec<u64> = value.split('/').map(|v| u64::from_str_radix(v, 16).expect("hex")).collect();
         at = last + 1;
+        match values[..] {
+            [value] => out.push((at - first, value)),
+            _ => out.extend(values.iter().cycle().take(at - first).map(|v| (1, *v))),
+        }
     }
     if at < length {
         out.push((length - at, 0));

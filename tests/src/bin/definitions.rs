@@ -87,7 +87,7 @@ fn main() {
     let mut t = Theorems { text: HEAD.to_string(), count: 0, left_out: 0 };
     let before = |room: usize| format!("(replicate {room} {BEFORE})");
 
-    for v in vectors(folder, "build.txt", "build") {
+    for v in vectors(folder, "base", "build") {
         let (rule, room, number) = (bytes(&v[0]), v[1].parse::<usize>().unwrap(), v[2].as_str());
         let image = runs(&v[4]);
         // a refusal for room (5) needs the image's length, and so its masks; the vector does not say how many states it has
@@ -98,7 +98,7 @@ fn main() {
         let call = format!("buildAnswer {} {}", numbers(rule.iter().map(|b| u64::from(*b))), before(room));
         t.add(call, number, &v[3], &lent(image, room));
     }
-    for v in vectors(folder, "readback.txt", "readback") {
+    for v in vectors(folder, "base", "readback") {
         let (image, room) = (runs(&v[0]), v[1].parse::<usize>().unwrap());
         if word(&image, 1) > IMAGE_STATES {
             t.left_out += 1;
@@ -107,7 +107,7 @@ fn main() {
         let call = format!("readBackAnswer (expand {}) {}", list(&image), before(room));
         t.add(call, &v[2], &v[3], &lent(singles(bytes(&v[4]).into_iter().map(u64::from)), room));
     }
-    for v in vectors(folder, "match.txt", "match") {
+    for v in vectors(folder, "base", "match") {
         let (image, text, room) = (runs(&v[0]), bytes(&v[1]), v[2].parse::<usize>().unwrap());
         if word(&image, 1) > IMAGE_STATES || text.len() > 24 {
             t.left_out += 1;

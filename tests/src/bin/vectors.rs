@@ -8,24 +8,24 @@ fn main() {
     let folder = std::env::args().nth(1).expect("VECTORS");
     let folder = Path::new(&folder);
     let mut checked = 0;
-    for v in vectors(folder, "build.txt", "build") {
+    for v in vectors(folder, "base", "build") {
         let (number, words) = build(&bytes(&v[0]), v[1].parse().unwrap());
         assert_eq!((number.to_string(), words.len().to_string()), (v[2].clone(), v[3].clone()), "build {}", v[0]);
         assert_eq!(words, expand(&runs(&v[4])), "build {}", v[0]);
         checked += 1;
     }
-    for v in vectors(folder, "readback.txt", "readback") {
+    for v in vectors(folder, "base", "readback") {
         let (number, written) = read_back(&expand(&runs(&v[0])), v[1].parse().unwrap());
         assert_eq!((number.to_string(), written.len().to_string(), written), (v[2].clone(), v[3].clone(), bytes(&v[4])), "readback {}", v[0]);
         checked += 1;
     }
-    for v in vectors(folder, "match.txt", "match") {
+    for v in vectors(folder, "base", "match") {
         let (number, found) = match_ends(&expand(&runs(&v[0])), &bytes(&v[1]));
         let written: Vec<u64> = found.iter().take(v[2].parse().unwrap()).map(|p| u64::from(*p)).collect();
         assert_eq!((number.to_string(), found.len().to_string(), written), (v[3].clone(), v[4].clone(), places(&v[5])), "match {}", v[0]);
         checked += 1;
     }
-    for v in vectors(folder, "desk.txt", "desk") {
+    for v in vectors(folder, "base", "desk") {
         assert_eq!(desk(&file(&v[0]).unwrap_or_default(), &file(&v[1]).unwrap_or_default()), bytes(&v[2]), "desk {} {}", v[0], v[1]);
         checked += 1;
     }

@@ -31,7 +31,7 @@ fn expected<T: Lent>(number: &str, count: &str, written: &[T], room: usize) -> A
 
 fn build(checks: &mut Checks, folder: &Path) -> Pairs<u64> {
     let mut answers = Vec::new();
-    for v in vectors(folder, "build.txt", "build") {
+    for v in vectors(folder, "base", "build") {
         let expected = expected(&v[2], &v[3], &expand(&runs(&v[4])), room(&v[1]));
         answers.extend(checks.build("vector", &bytes(&v[0]), &expected).map(|got| (got, expected)));
     }
@@ -40,7 +40,7 @@ fn build(checks: &mut Checks, folder: &Path) -> Pairs<u64> {
 
 fn read_back(checks: &mut Checks, folder: &Path) -> Pairs<u8> {
     let mut answers = Vec::new();
-    for (i, v) in vectors(folder, "readback.txt", "readback").iter().enumerate() {
+    for (i, v) in vectors(folder, "base", "readback").iter().enumerate() {
         let expected = expected(&v[2], &v[3], &bytes(&v[4]), room(&v[1]));
         answers.extend(checks.read_back(&format!("line {}", i + 1), &expand(&runs(&v[0])), &expected).map(|got| (got, expected)));
     }
@@ -49,7 +49,7 @@ fn read_back(checks: &mut Checks, folder: &Path) -> Pairs<u8> {
 
 fn match_ends(checks: &mut Checks, folder: &Path) -> Pairs<u32> {
     let mut answers = Vec::new();
-    for (i, v) in vectors(folder, "match.txt", "match").iter().enumerate() {
+    for (i, v) in vectors(folder, "base", "match").iter().enumerate() {
         let ends: Vec<u32> = places(&v[5]).iter().map(|p| *p as u32).collect();
         let expected = expected(&v[3], &v[4], &ends, room(&v[2]));
         answers.extend(checks.match_ends(&format!("line {}", i + 1), &expand(&runs(&v[0])), &bytes(&v[1]), &expected).map(|got| (got, expected)));

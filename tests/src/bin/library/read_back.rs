@@ -50,7 +50,7 @@ fn examples(checks: &mut Checks) {
 }
 
 fn built_vectors(checks: &mut Checks, folder: &Path) {
-    for v in vectors(folder, "build.txt", "build").iter().filter(|v| v[2] == "0") {
+    for v in vectors(folder, "base", "build").iter().filter(|v| v[2] == "0") {
         let rule = bytes(&v[0]);
         built(checks, "a vector of build", &rule, &plain(&rule));
     }

@@ -1,102 +1,60 @@
-//! States, depth and image of a tree, and the tree whose image words are.
+//! The image of a tree, and the tree whose image words are.
 
+use super::states::{depth, states, Letter, Parts, Union};
 use super::{Class, Item, Repeat, Sequence};
 
-pub fn depth(sequence: &[Item]) -> usize {
-    let of = |item: &Item| match item {
-        Item::Letter(..) => 0,
-        Item::Union(alternatives) => 1 + alternatives.iter().map(|a| depth(a)).max().unwrap_or(0),
-    };
-    sequence.iter().map(of).max().unwrap_or(0)
-}
-
-pub fn states(sequence: &[Item]) -> usize {
-    1 + length(sequence)
-}
-
-/// How many states a sequence adds to the one that it starts in.
-fn length(sequence: &[Item]) -> usize {
-    let of = |item: &Item| match item {
-        Item::Letter(..) => 1,
-        Item::Union(alternatives) => 1 + alternatives.iter().map(|a| 1 + length(a)).sum::<usize>(),
-    };
-    sequence.iter().map(of).sum()
-}
-
-fn can_be_empty(sequence: &[Item]) -> bool {
-    sequence.iter().all(|item| match item {
-        Item::Letter(_, repeat) => repeat.skips(),
-        Item::Union(alternatives) => alternatives.iter().any(|a| can_be_empty(a)),
-    })
-}
-
-/// The sets that the masks hold, as lists of states.
+/// The sets that the masks hold, as lists of states: for each byte, and block, source and target for each depth.
 struct Sets {
     letters: Vec<Vec<usize>>,
     repeats: Vec<Vec<usize>>,
     scatter: Vec<[Vec<usize>; 3]>,
     gather: Vec<[Vec<usize>; 3]>,
-    edges: Vec<Vec<(usize, usize)>>,
+    propagate: Vec<[Vec<usize>; 3]>,
 }
 
 impl Sets {
-    fn lay(&mut self, sequence: &[Item], start: usize, level: usize) -> usize {
-        let mut state = start;
-        for item in sequence {
-            match item {
-                Item::Letter(class, repeat) => {
-                    for byte in (0..256).filter(|b| class.0[*b]) {
-                        self.letters[byte].push(state + 1);
-                        if repeat.loops() {
-                            self.repeats[byte].push(state + 1);
-                        }
-                    }
-                    if repeat.skips() {
-                        self.edges[level].push((state, state + 1));
-                    }
-                    state += 1;
-                }
-                Item::Union(alternatives) => state = self.lay_union(alternatives, state, level),
-            }
-        }
-        state
+    fn of(parts: &Parts, d: usize) -> Sets {
+        let mut sets = Sets {
+            letters: vec![Vec::new(); 256],
+            repeats: vec![Vec::new(); 256],
+            scatter: vec![Default::default(); d],
+            gather: vec![Default::default(); d],
+            propagate: Vec::new(),
+        };
+        parts.letters.iter().for_each(|letter| sets.put_letter(letter));
+        parts.unions.iter().for_each(|union| sets.put_union(union));
+        let edges = parts.propagate();
+        let at = |k: usize| edges.iter().filter(|e| e.0 == k).map(|e| e.1).collect::<Vec<_>>();
+        sets.propagate = (0..=d).map(|k| chains(&at(k))).collect();
+        sets
     }
 
-    fn lay_union(&mut self, alternatives: &[Sequence], start: usize, level: usize) -> usize {
-        let (mut starts, mut ends) = (Vec::new(), Vec::new());
-        let mut state = start;
-        for alternative in alternatives {
-            starts.push(state + 1);
-            state = self.lay(alternative, state + 1, level + 1);
-            ends.push(state);
+    fn put_letter(&mut self, letter: &Letter) {
+        for byte in (0..256).filter(|b| letter.class.0[*b]) {
+            self.letters[byte].push(letter.from + 1);
+            if letter.repeat.loops() {
+                self.repeats[byte].push(letter.from + 1);
+            }
         }
-        let close = state + 1;
-        self.scatter[level][0].push(starts[starts.len() - 1] + 1);
-        self.scatter[level][1].push(start);
-        self.gather[level][0].extend(ends[0]..close);
-        self.gather[level][2].push(close);
-        self.scatter[level][2].extend(starts);
-        self.gather[level][1].extend(ends);
-        if alternatives.iter().any(|a| can_be_empty(a)) {
-            self.edges[level].push((start, close));
-        }
-        close
+    }
+
+    fn put_union(&mut self, union: &Union) {
+        let (starts, ends): (Vec<usize>, Vec<usize>) = union.alternatives.iter().copied().unzip();
+        let [block, source, target] = &mut self.scatter[union.depth];
+        block.push(starts[starts.len() - 1] + 1);
+        source.push(union.start);
+        target.extend(starts);
+        let [block, source, target] = &mut self.gather[union.depth];
+        block.extend(ends[0]..union.end);
+        source.extend(ends);
+        target.push(union.end);
     }
 }
 
 pub fn image(sequence: &[Item]) -> Vec<u64> {
     let (m, d) = (states(sequence), depth(sequence));
     let width = m.div_ceil(64);
-    let three = || [Vec::new(), Vec::new(), Vec::new()];
-    let mut sets = Sets {
-        letters: vec![Vec::new(); 256],
-        repeats: vec![Vec::new(); 256],
-        scatter: (0..d).map(|_| three()).collect(),
-        gather: (0..d).map(|_| three()).collect(),
-        edges: vec![Vec::new(); d + 1],
-    };
-    assert_eq!(sets.lay(sequence, 0, 0) + 1, m);
-    let propagate: Vec<[Vec<usize>; 3]> = sets.edges.iter().map(|edges| chains(edges)).collect();
+    let sets = Sets::of(&Parts::of(sequence), d);
 
     let row = |places: &Vec<usize>| {
         let mut words = vec![0u64; width];
@@ -111,7 +69,7 @@ pub fn image(sequence: &[Item]) -> Vec<u64> {
         rows(&sets.repeats),
         threes(&sets.scatter),
         threes(&sets.gather),
-        threes(&propagate),
+        threes(&sets.propagate),
     ];
     sections.iter().flat_map(|s| std::iter::once(s.len() as u64).chain(s.iter().copied())).collect()
 }

@@ -5,12 +5,14 @@ mod answers;
 mod ends;
 mod image;
 mod rules;
+mod states;
 mod writing;
 
 pub use answers::{build, desk, match_ends, read_back};
 pub use ends::ends;
-pub use image::{depth, image, states, tree_of};
+pub use image::{image, tree_of};
 pub use rules::parse;
+pub use states::{depth, states};
 pub use writing::writing;
 
 #[derive(Clone, Copy, PartialEq, Eq, Debug)]

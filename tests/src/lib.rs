@@ -5,6 +5,7 @@ pub mod driver;
 pub mod generate;
 pub mod independent;
 pub mod texts;
+pub mod watches;
 
 use std::fs;
 use std::path::Path;

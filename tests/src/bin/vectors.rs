@@ -1,6 +1,7 @@
 //! The independent program against the outside vectors: every number, count, word, byte and place. Usage: vectors VECTORS
 
-use outside_checks::independent::{build, desk, match_ends, read_back};
+use outside_checks::independent::{begin, build, desk, match_ends, read_back, step};
+use outside_checks::watches::watches;
 use outside_checks::{bytes, expand, file, places, runs, vectors};
 use std::path::Path;
 
@@ -30,4 +31,25 @@ fn main() {
         checked += 1;
     }
     println!("vectors: {checked} agree with the independent program");
+    let [begins, steps] = watched(folder);
+    println!("vectors: {begins} begins and {steps} steps of a watch agree with it");
+}
+
+/// How many begins and steps of the watch agree.
+fn watched(folder: &Path) -> [usize; 2] {
+    let mut checked = [0, 0];
+    for (line, (image, calls)) in (1..).zip(watches(folder, &|i| i as u64)) {
+        let image = expand(&image);
+        for (i, call) in calls.into_iter().enumerate() {
+            let (number, ends, after) = match &call.stretch {
+                None => begin(&image, &call.lent),
+                Some(stretch) => step(&image, &call.lent, stretch),
+            };
+            let written = &ends[..ends.len().min(call.room)];
+            let expected = (call.number, call.total as usize, &call.ends[..], call.after);
+            assert_eq!((number, ends.len(), written, after), expected, "watch, line {line}, call {i}");
+            checked[usize::from(call.stretch.is_some())] += 1;
+        }
+    }
+    checked
 }

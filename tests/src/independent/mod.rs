@@ -1,11 +1,12 @@
 //! Document 01 once more, written independently of the proofs and of the proved code: a parser, the plain writing, the image, reading an image back,
-//! ends by backtracking, and the answers. Plain and slow; it shares nothing with the crates.
+//! ends by backtracking, a watch by its edges, and the answers. Plain and slow; it shares nothing with the crates.
 
 mod answers;
 mod ends;
 mod image;
 mod rules;
 mod states;
+mod watch;
 mod writing;
 
 pub use answers::{build, desk, match_ends, read_back};
@@ -13,6 +14,7 @@ pub use ends::ends;
 pub use image::{image, tree_of};
 pub use rules::parse;
 pub use states::{depth, states};
+pub use watch::{begin, step, Edges, Watch};
 pub use writing::writing;
 
 #[derive(Clone, Copy, PartialEq, Eq, Debug)]

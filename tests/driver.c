@@ -1,16 +1,19 @@
 // The library `panel` for outside programs. A line on standard input is a call, a line on standard output its answer:
 //
-//     build RULE ROOM            lavumbishe_build with ROOM lent words
-//     readback IMAGE ROOM        lavumbishe_read_back with ROOM lent bytes
-//     match IMAGE TEXT ROOM      lavumbishe_match with ROOM lent ends
-//     stack CALL                 one of these calls; answers how many bytes of stack it went down
-//     spoil SIZE PLACE ROOM      no call: changes what is lent at PLACE, or just outside (-1, ROOM), in an area of elements of SIZE bytes
-//     spoil given PLACE BYTES    no call: changes a byte that is given to be read; both so that a check can be seen to fail
+//     build RULE ROOM                       lavumbishe_build with ROOM lent words
+//     readback IMAGE ROOM                   lavumbishe_read_back with ROOM lent bytes
+//     match IMAGE TEXT ROOM                 lavumbishe_match with ROOM lent ends
+//     begin IMAGE MASK PLACE ROOM           lavumbishe_begin with ROOM lent ends; the mask and the place that are lent hold these words
+//     step IMAGE MASK PLACE STRETCH ROOM    lavumbishe_step likewise
+//     stack CALL                            one of these calls; answers how many bytes of stack it went down
+//     spoil given AREA PLACE CALL           not the call: changes, in the area of that number, what is given to be read
+//     spoil lent AREA PLACE CALL            likewise what is lent at PLACE, or just outside (-1, ROOM); both so that a check can be seen to fail
 //
-// RULE, IMAGE and TEXT are values in hex between commas, `-` for none; N*V is N times the value V. A call is answered by NUMBER COUNT LENT, where
-// LENT is all that was lent as it is after the call, in the same form; an element that is as it was before is `=`. Element i was then the highest
-// bytes of (i + 1) * PATTERN, its highest bit set (which no end has, and no byte of a plain writing), and so were the elements on both sides of those
-// lent. If one of these has changed, the answer is `outside` and the place; if what was given to be read has, `outside given`.
+// RULE, IMAGE, TEXT, STRETCH, MASK and PLACE are values in hex between commas, `-` for none; N*V is N times the value V. A call is answered by NUMBER
+// COUNT and, for each area lent, LENT: all of it as it is after the call, in the same form, `=` for an element of the pattern. Before the call those
+// of ROOM hold the pattern, and so do the elements on both sides of every area lent: element i is the highest bytes of (i + 1) * PATTERN, its highest
+// bit set (which no end of a match has, and no byte of a plain writing). If one on the sides has changed, the answer is `outside lent`, the area and
+// the place; if what was given to be read has, `outside given` and the area.
 #include "lavumbishe.h"
 #include <string.h>
 #include <unistd.h>
@@ -141,75 +144,87 @@ static long take_times(void) {
     return 1;
 }
 
-// What is given to be read, and a copy to compare it with.
-static uint64_t given_at[2][MOST_GIVEN / 8], copy_at[2][MOST_GIVEN / 8];
-static struct area given[2];
-
-static struct area take_area(int which, long size) {
-    struct area area = {given_at[which], size, 0};
+// A list of values, as many as there is room for.
+static void take_values(struct area *area, long most) {
     at += *at == '-';
     while (*at && *at != ' ') {
         long times = take_times();
         uint64_t value = take_digits(16);
-        while (times-- > 0 && area.length < MOST_GIVEN / size)
-            set(area, area.length++, value);
+        while (times-- > 0 && area->length < most)
+            set(*area, area->length++, value);
         if (*at != ',')
             break;
         at++;
     }
     at += *at == ' ';
-    memcpy(copy_at[which], area.at, (size_t)(size * area.length));
-    return given[which] = area;
 }
 
-// ---- what is lent
-static uint64_t lent_at[2 * GUARD + MOST_LENT / 8];
+// ---- what is given to be read, and copies to compare it with
+static uint64_t given_at[2][MOST_GIVEN / 8], copy_at[2][MOST_GIVEN / 8];
+static struct area given[2];
+static int givens;
 
-static uint64_t before(struct area area, long place) {
+static void take_given(long size) {
+    struct area *area = &given[givens];
+    *area = (struct area){given_at[givens], size, 0};
+    take_values(area, MOST_GIVEN / size);
+    memcpy(copy_at[givens++], area->at, (size_t)(size * area->length));
+}
+
+// ---- what is lent: in the pattern, or with values
+static uint64_t lent_at[3][2 * GUARD + MOST_LENT / 8];
+static struct area lent[3];
+static int lents;
+
+static uint64_t pattern(struct area area, long place) {
     long bits = 8 * area.size;
     return ((uint64_t)place + 1) * PATTERN >> (64 - bits) | (uint64_t)1 << (bits - 1);
 }
 
-static struct area lend(long size, long room) {
+static void put_pattern(struct area area, long from, long to) {
+    for (long i = from; i < to; i++)
+        set(area, i, pattern(area, i));
+}
+
+static void take_lent(long size, int with_values) {
+    struct area *area = &lent[lents];
     long most = MOST_LENT / size;
-    struct area area = {lent_at + GUARD, size, room < 0 ? 0 : room > most ? most : room};
-    for (long i = -GUARD; i < area.length + GUARD; i++)
-        set(area, i, before(area, i));
-    return area;
-}
-
-static int outside(const char *of, long place) {
-    put_text("outside ");
-    put_text(of);
-    if (place < 0)
-        put('-');
-    put_number((uint64_t)(place < 0 ? -place : place), 10);
-    return 1;
-}
-
-static int changed_outside(struct area lent) {
-    for (int which = 0; which < 2; which++)
-        if (memcmp(given_at[which], copy_at[which], (size_t)(given[which].size * given[which].length)) != 0)
-            return outside("given ", which);
-    for (long i = -GUARD; i < lent.length + GUARD; i = i == -1 ? lent.length : i + 1)
-        if (get(lent, i) != before(lent, i))
-            return outside("", i);
-    return 0;
+    *area = (struct area){lent_at[lents++] + GUARD, size, 0};
+    if (with_values) {
+        take_values(area, most);
+    } else {
+        long room = take_number();
+        area->length = room < 0 ? 0 : room > most ? most : room;
+        put_pattern(*area, 0, area->length);
+    }
+    put_pattern(*area, -GUARD, 0);
+    put_pattern(*area, area->length, area->length + GUARD);
 }
 
 // ---- answers
-static void show(uint64_t result, struct area lent) {
-    if (changed_outside(lent))
-        return;
-    put_number(lavumbishe_number(result), 10);
-    put(' ');
-    put_number(lavumbishe_count(result), 10);
-    put(' ');
-    if (lent.length == 0)
+static void put_signed(long n) {
+    if (n < 0)
         put('-');
-    for (long i = 0, end; i < lent.length; i = end) {
-        int kept = get(lent, i) == before(lent, i);
-        for (end = i + 1; end < lent.length && get(lent, end) == (kept ? before(lent, end) : get(lent, i)); end++)
+    put_number((uint64_t)(n < 0 ? -n : n), 10);
+}
+
+static int changed_outside(void) {
+    for (int which = 0; which < givens; which++)
+        if (memcmp(given_at[which], copy_at[which], (size_t)(given[which].size * given[which].length)) != 0)
+            return put_text("outside given "), put_signed(which), 1;
+    for (int which = 0; which < lents; which++)
+        for (long i = -GUARD, length = lent[which].length; i < length + GUARD; i = i == -1 ? length : i + 1)
+            if (get(lent[which], i) != pattern(lent[which], i))
+                return put_text("outside lent "), put_signed(which), put(' '), put_signed(i), 1;
+    return 0;
+}
+
+static void show_area(struct area area) {
+    if (area.length == 0)
+        put('-');
+    for (long i = 0, end; i < area.length; i = end) {
+        int kept = get(area, i) == pattern(area, i);
+        for (end = i + 1; end < area.length && get(area, end) == (kept ? pattern(area, end) : get(area, i)); end++)
             ;
         if (i)
             put(',');
@@ -218,8 +233,18 @@ static void show(uint64_t result, struct area lent) {
         if (kept)
             put('=');
         else
-            put_number(get(lent, i), 16);
+            put_number(get(area, i), 16);
     }
+}
+
+static void show(uint64_t result) {
+    if (changed_outside())
+        return;
+    put_number(lavumbishe_number(result), 10);
+    put(' ');
+    put_number(lavumbishe_count(result), 10);
+    for (int which = 0; which < lents; which++)
+        put(' '), show_area(lent[which]);
 }
 
 // ---- the stack below the caller, filled before a call and looked at after it
@@ -235,59 +260,87 @@ static __attribute__((noinline)) unsigned long stack_below(int fill) {
     return STACK - kept;
 }
 
-// ---- calls: an operation's name, and the sizes of what it is given and lent
-static const struct operation {
-    const char *name;
-    long given, text, lent;
-} operations[] = {{"build", 1, 0, 8}, {"readback", 8, 0, 1}, {"match", 8, 1, 4}};
+// ---- the operations on the areas of a line
+static size_t length(struct area area) { return (size_t)area.length; }
 
-static void call(long which, int measured) {
-    const struct operation *of = &operations[which];
-    struct area first = take_area(0, of->given), text = {0, 0, 0};
-    if (of->text)
-        text = take_area(1, of->text);
-    struct area lent = lend(of->lent, take_number());
-    size_t length = (size_t)first.length, room = (size_t)lent.length;
-    uint64_t result;
-    if (measured)
-        stack_below(1);
-    if (which == 0)
-        result = lavumbishe_build((uint8_t *)first.at, length, lent.at, room);
-    else if (which == 1)
-        result = lavumbishe_read_back(first.at, length, (uint8_t *)lent.at, room);
+static uint64_t build(void) { return lavumbishe_build((uint8_t *)given[0].at, length(given[0]), lent[0].at, length(lent[0])); }
+
+static uint64_t read_back(void) { return lavumbishe_read_back(given[0].at, length(given[0]), (uint8_t *)lent[0].at, length(lent[0])); }
+
+static uint64_t match(void) {
+    return lavumbishe_match(given[0].at, length(given[0]), (uint8_t *)given[1].at, length(given[1]), (uint32_t *)lent[0].at, length(lent[0]));
+}
+
+static uint64_t begin(void) {
+    return lavumbishe_begin(given[0].at, length(given[0]), lent[0].at, length(lent[0]), lent[1].at, (uint32_t *)lent[2].at, length(lent[2]));
+}
+
+static uint64_t step(void) {
+    return lavumbishe_step(given[0].at, length(given[0]), lent[0].at, length(lent[0]), lent[1].at, (uint8_t *)given[1].at, length(given[1]),
+                           (uint32_t *)lent[2].at, length(lent[2]));
+}
+
+// An operation's name and, in the order of its fields, its areas: b and w bytes and words to be read; B, W and E bytes, words and ends lent in the
+// pattern, V words lent with values.
+static const struct operation {
+    const char *name, *areas;
+    uint64_t (*call)(void);
+} operations[] = {{"build", "bW", build}, {"readback", "wB", read_back}, {"match", "wbE", match}, {"begin", "wVVE", begin}, {"step", "wVVbE", step}};
+
+static void take_area(char kind) {
+    long size = kind == 'b' || kind == 'B' ? 1 : kind == 'E' ? 4 : 8;
+    if (kind == 'b' || kind == 'w')
+        take_given(size);
     else
-        result = lavumbishe_match(first.at, length, (uint8_t *)text.at, (size_t)text.length, (uint32_t *)lent.at, room);
-    if (measured)
-        put_number(stack_below(0), 10);
-    else
-        show(result, lent);
+        take_lent(size, kind == 'V');
+}
+
+static const struct operation *take_call(void) {
+    givens = lents = 0;
+    for (size_t i = 0; i < sizeof operations / sizeof operations[0]; i++)
+        if (take(operations[i].name)) {
+            for (const char *kind = operations[i].areas; *kind; kind++)
+                take_area(*kind);
+            return &operations[i];
+        }
+    put_text("unknown");
+    return 0;
+}
+
+// ---- lines
+static void call(void) {
+    const struct operation *of = take_call();
+    if (of)
+        show(of->call());
+}
+
+static void measure(void) {
+    const struct operation *of = take_call();
+    if (!of)
+        return;
+    stack_below(1);
+    of->call();
+    put_number(stack_below(0), 10);
 }
 
 static void spoil(void) {
-    struct area spoilt = lend(8, 0), lent = spoilt;
-    long size = take("given") ? 0 : take_number(), place = take_number();
-    if (size)
-        spoilt = lent = lend(size, take_number());
-    else
-        spoilt = take_area(0, 1);
-    set(spoilt, place, get(spoilt, place) + 1);
-    show(0, lent);
+    const struct area *areas = take("lent") ? lent : (take("given"), given);
+    long which = take_number(), place = take_number();
+    if (!take_call())
+        return;
+    set(areas[which], place, get(areas[which], place) + 1);
+    show(0);
 }
 
 int main(void) {
     while (next_line()) {
         at = line;
-        given[0].length = given[1].length = 0;
-        int measured = take("stack");
-        long which = 0;
-        while (which < 3 && !take(operations[which].name))
-            which++;
-        if (which < 3)
-            call(which, measured);
+        if (take("stack"))
+            measure();
         else if (take("spoil"))
             spoil();
         else
-            put_text("unknown");
+            call();
         put('\n');
         flush();
     }

@@ -1,5 +1,6 @@
 //! The library for C, called through tests/driver.c: its head says what lines it takes and what it answers.
 
+use crate::independent::Watch;
 use std::fmt::LowerHex;
 use std::io::{BufRead, BufReader, Write};
 use std::process::{Child, ChildStdin, ChildStdout, Command, Stdio};
@@ -10,7 +11,8 @@ pub trait Lent: Copy + PartialEq + LowerHex {
     /// The low bits of a word.
     fn cut(word: u64) -> Self;
 
-    /// What the driver lends at a place before the call: another one at nearly every place, never a byte of a plain writing and never an end.
+    /// What the driver lends at a place before the call: another one at nearly every place, never a byte of a plain writing and never an end of a
+    /// match.
     fn before(place: usize) -> Self {
         let mixed = (place as u64 + 1).wrapping_mul(0x9e37_79b9_7f4a_7c15);
         Self::cut(mixed >> (64 - Self::BITS) | 1 << (Self::BITS - 1))
@@ -44,38 +46,71 @@ impl<T: Lent> Answer<T> {
         Answer { number, count: whole.len() as u64, lent: whole.iter().take(room).copied().chain(kept).collect() }
     }
 
-    fn read(line: &str) -> Result<Answer<T>, String> {
-        let fields = line.split(' ').collect::<Vec<_>>();
-        let answer = match fields[..] {
-            [number, count, lent] => number.parse().ok().zip(count.parse().ok()).zip(elements(lent)),
-            _ => None,
-        };
-        let ((number, count), lent) = answer.ok_or_else(|| format!("the driver answers '{line}'"))?;
-        Ok(Answer { number, count, lent })
-    }
-
     /// What the call wrote, by its count.
     pub fn written(&self) -> &[T] {
         &self.lent[..self.lent.len().min(self.count as usize)]
     }
+}
 
-    /// Where this answer differs from the one expected, if it does.
-    pub fn difference(&self, expected: &Answer<T>) -> Option<String> {
-        if self.number != expected.number {
-            return Some(format!("number {}, expected {}", self.number, expected.number));
-        }
-        if self.count != expected.count {
-            return Some(format!("count {}, expected {}", self.count, expected.count));
-        }
-        if self.lent.len() != expected.lent.len() {
-            return Some(format!("{} places lent, expected {}", self.lent.len(), expected.lent.len()));
-        }
-        let place = (0..self.lent.len()).find(|i| self.lent[*i] != expected.lent[*i])?;
-        Some(format!("place {place} holds {:x}, expected {:x}", self.lent[place], expected.lent[place]))
+/// What begin or step gave: number, count and ends, and the mask and the place that were lent as they are afterwards.
+#[derive(Clone, PartialEq, Eq, Debug)]
+pub struct Watched {
+    pub found: Answer<u32>,
+    pub watch: Watch,
+}
+
+impl Watched {
+    pub fn of(number: u64, ends: &[u32], room: usize, watch: Watch) -> Watched {
+        Watched { found: Answer::of(number, ends, room), watch }
     }
 }
 
-/// All that was lent, from the last field of the driver's answer.
+/// An answer as the driver writes it.
+pub trait Reply: Sized {
+    fn read(fields: &[&str]) -> Option<Self>;
+    /// Where this answer differs from the one expected, if it does.
+    fn difference(&self, expected: &Self) -> Option<String>;
+}
+
+impl<T: Lent> Reply for Answer<T> {
+    fn read(fields: &[&str]) -> Option<Answer<T>> {
+        let [number, count, lent] = fields else { return None };
+        Some(Answer { number: number.parse().ok()?, count: count.parse().ok()?, lent: elements(lent)? })
+    }
+
+    fn difference(&self, expected: &Answer<T>) -> Option<String> {
+        let number = other("number", self.number, expected.number);
+        number.or_else(|| other("count", self.count, expected.count)).or_else(|| other_lent("lent", &self.lent, &expected.lent))
+    }
+}
+
+impl Reply for Watched {
+    fn read(fields: &[&str]) -> Option<Watched> {
+        let [number, count, mask, place, ends] = fields else { return None };
+        let [place] = elements(place)?[..] else { return None };
+        Some(Watched { found: Answer::read(&[number, count, ends])?, watch: Watch { mask: elements(mask)?, place } })
+    }
+
+    fn difference(&self, expected: &Watched) -> Option<String> {
+        let found = self.found.difference(&expected.found);
+        let place = || other("place", self.watch.place, expected.watch.place);
+        found.or_else(|| other_lent("the mask", &self.watch.mask, &expected.watch.mask)).or_else(place)
+    }
+}
+
+fn other(what: &str, got: u64, expected: u64) -> Option<String> {
+    (got != expected).then(|| format!("{what} {got}, expected {expected}"))
+}
+
+fn other_lent<T: Lent>(what: &str, got: &[T], expected: &[T]) -> Option<String> {
+    if got.len() != expected.len() {
+        return Some(format!("{what}: {} places, expected {}", got.len(), expected.len()));
+    }
+    let place = (0..got.len()).find(|i| got[*i] != expected[*i])?;
+    Some(format!("{what}: place {place} holds {:x}, expected {:x}", got[place], expected[place]))
+}
+
+/// All elements of an area that was lent, from a field of the driver's answer.
 fn elements<T: Lent>(field: &str) -> Option<Vec<T>> {
     let mut all = Vec::new();
     for run in field.split(',').filter(|r| *r != "-") {
@@ -109,6 +144,14 @@ pub fn match_call(image: &[u64], text: &[u8], room: usize) -> String {
     format!("match {} {} {room}", listed(image), listed(text))
 }
 
+pub fn begin_call(image: &[u64], lent: &Watch, room: usize) -> String {
+    format!("begin {} {} {:x} {room}", listed(image), listed(&lent.mask), lent.place)
+}
+
+pub fn step_call(image: &[u64], lent: &Watch, stretch: &[u8], room: usize) -> String {
+    format!("step {} {} {:x} {} {room}", listed(image), listed(&lent.mask), lent.place, listed(stretch))
+}
+
 /// The driver, running.
 pub struct Driver {
     child: Child,
@@ -134,8 +177,9 @@ impl Driver {
     }
 
     /// A call, or one of the driver's other lines.
-    pub fn call<T: Lent>(&mut self, call: &str) -> Result<Answer<T>, String> {
-        Answer::read(&self.ask(call)?)
+    pub fn call<R: Reply>(&mut self, call: &str) -> Result<R, String> {
+        let line = self.ask(call)?;
+        R::read(&line.split(' ').collect::<Vec<_>>()).ok_or_else(|| format!("the driver answers '{line}'"))
     }
 
     /// How many bytes of stack a call takes.

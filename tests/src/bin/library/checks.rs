@@ -1,7 +1,7 @@
 //! Calls of the driver compared with what is expected, and how many went well.
 
-use outside_checks::driver::{build_call, match_call, read_back_call, Answer, Driver, Lent};
-use outside_checks::independent::{build, match_ends, read_back};
+use outside_checks::driver::{begin_call, build_call, match_call, read_back_call, step_call, Answer, Driver, Reply, Watched};
+use outside_checks::independent::{begin, build, match_ends, read_back, step, Watch};
 
 /// The length of the longest image.
 pub const LONGEST: usize = 4705;
@@ -34,9 +34,9 @@ impl Checks {
     }
 
     /// One call, compared whole; what it gave. Where it differs the call is printed, as the driver takes it.
-    fn compare<T: Lent>(&mut self, what: &str, call: &str, expected: &Answer<T>) -> Option<Answer<T>> {
+    fn compare<R: Reply>(&mut self, what: &str, call: &str, expected: &R) -> Option<R> {
         let got = self.driver.call(call);
-        let difference = got.as_ref().map_or_else(|why| Some(why.clone()), |answer: &Answer<T>| answer.difference(expected));
+        let difference = got.as_ref().map_or_else(|why| Some(why.clone()), |answer: &R| answer.difference(expected));
         self.note(what, difference.map(|d| format!("{d}; the call: {call}")));
         got.ok()
     }
@@ -52,6 +52,14 @@ impl Checks {
 
     pub fn match_ends(&mut self, what: &str, image: &[u64], text: &[u8], expected: &Answer<u32>) -> Option<Answer<u32>> {
         self.compare(what, &match_call(image, text, expected.lent.len()), expected)
+    }
+
+    pub fn begin(&mut self, what: &str, image: &[u64], lent: &Watch, expected: &Watched) -> Option<Watched> {
+        self.compare(what, &begin_call(image, lent, expected.found.lent.len()), expected)
+    }
+
+    pub fn step(&mut self, what: &str, image: &[u64], lent: &Watch, stretch: &[u8], expected: &Watched) -> Option<Watched> {
+        self.compare(what, &step_call(image, lent, stretch, expected.found.lent.len()), expected)
     }
 
     /// One build beside the independent program; the words afterwards.
@@ -72,9 +80,21 @@ impl Checks {
         self.match_ends(what, image, text, &Answer::of(number, &ends, room))
     }
 
+    /// One begin beside the independent program; what it gave.
+    pub fn begin_beside(&mut self, what: &str, image: &[u64], lent: &Watch, room: usize) -> Option<Watched> {
+        let (number, ends, after) = begin(image, lent);
+        self.begin(what, image, lent, &Watched::of(number, &ends, room, after))
+    }
+
+    /// One step beside the independent program; what it gave.
+    pub fn step_beside(&mut self, what: &str, image: &[u64], lent: &Watch, stretch: &[u8], room: usize) -> Option<Watched> {
+        let (number, ends, after) = step(image, lent, stretch);
+        self.step(what, image, lent, stretch, &Watched::of(number, &ends, room, after))
+    }
+
     /// What the proved build gives for a rule that it must accept.
     pub fn built(&mut self, what: &str, rule: &[u8]) -> Option<Vec<u64>> {
-        let answer = self.driver.call::<u64>(&build_call(rule, LONGEST));
+        let answer = self.driver.call::<Answer<u64>>(&build_call(rule, LONGEST));
         let image = answer.and_then(|a| if a.number == 0 { Ok(a.written().to_vec()) } else { Err(format!("refused with {}", a.number)) });
         image.map_err(|why| self.note(&format!("{what}, rule {}", rule.escape_ascii()), Some(why))).ok()
     }

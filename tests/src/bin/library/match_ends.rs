@@ -160,15 +160,15 @@ fn stack(checks: &mut Checks) {
 /// What the desk program is to write, by three calls.
 fn desk(checks: &mut Checks, rule: &[u8], journal: &[u8]) -> Result<Vec<u8>, String> {
     let refused = |number: u64| Ok(format!("refused {number}\n").into_bytes());
-    let built = checks.driver.call::<u64>(&build_call(rule, LONGEST))?;
+    let built = checks.driver.call::<Answer<u64>>(&build_call(rule, LONGEST))?;
     if built.number != 0 {
         return refused(built.number);
     }
-    let written = checks.driver.call::<u8>(&read_back_call(built.written(), 16384))?;
+    let written = checks.driver.call::<Answer<u8>>(&read_back_call(built.written(), 16384))?;
     if written.number != 0 {
         return refused(written.number);
     }
-    let found = checks.driver.call::<u32>(&match_call(built.written(), journal, 1000))?;
+    let found = checks.driver.call::<Answer<u32>>(&match_call(built.written(), journal, 1000))?;
     if found.number != 0 {
         return refused(found.number);
     }

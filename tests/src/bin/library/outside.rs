@@ -1,23 +1,28 @@
 //! The outside vectors, and faults planted in copies of their answers: the comparison must see every one.
 
 use crate::checks::Checks;
-use outside_checks::driver::{Answer, Lent};
+use outside_checks::driver::{begin_call, build_call, match_call, read_back_call, step_call, Answer, Lent, Reply, Watched};
 use outside_checks::generate::Random;
+use outside_checks::independent::Watch;
+use outside_checks::watches::watches;
 use outside_checks::{bytes, expand, places, runs, vectors};
 use std::ops::BitXor;
 use std::path::Path;
 
-type Pairs<T> = Vec<(Answer<T>, Answer<T>)>;
+/// What a call gave, and what was expected.
+type Pairs<R> = Vec<(R, R)>;
 
 pub fn all(checks: &mut Checks, folder: &Path) {
-    let (mut built, mut written, mut found) = (Vec::new(), Vec::new(), Vec::new());
+    let (mut built, mut written, mut found, mut watched) = (Vec::new(), Vec::new(), Vec::new(), Vec::new());
     checks.part("outside vectors: build", |c| built = build(c, folder));
     checks.part("outside vectors: read back", |c| written = read_back(c, folder));
     checks.part("outside vectors: match", |c| found = match_ends(c, folder));
-    checks.part("faults planted in copies of build's answers", |c| planted(c, &built));
-    checks.part("faults planted in copies of read back's answers", |c| planted(c, &written));
-    checks.part("faults planted in copies of match's answers", |c| planted(c, &found));
-    checks.part("changes in and beside what is given and lent", spoilt);
+    checks.part("outside vectors: watch", |c| watched = watch(c, folder));
+    checks.part("faults planted in copies of build's answers", |c| planted(c, &built, faults));
+    checks.part("faults planted in copies of read back's answers", |c| planted(c, &written, faults));
+    checks.part("faults planted in copies of match's answers", |c| planted(c, &found, faults));
+    checks.part("faults planted in copies of the watch's answers", |c| planted(c, &watched, watch_faults));
+    checks.part("changes in and beside what is given and lent", changes);
 }
 
 fn room(field: &str) -> usize {
@@ -29,7 +34,7 @@ fn expected<T: Lent>(number: &str, count: &str, written: &[T], room: usize) -> A
     Answer { count: count.parse().expect("COUNT"), ..Answer::of(number.parse().expect("NUMBER"), written, room) }
 }
 
-fn build(checks: &mut Checks, folder: &Path) -> Pairs<u64> {
+fn build(checks: &mut Checks, folder: &Path) -> Pairs<Answer<u64>> {
     let mut answers = Vec::new();
     for v in vectors(folder, "base", "build") {
         let expected = expected(&v[2], &v[3], &expand(&runs(&v[4])), room(&v[1]));
@@ -38,7 +43,7 @@ fn build(checks: &mut Checks, folder: &Path) -> Pairs<u64> {
     answers
 }
 
-fn read_back(checks: &mut Checks, folder: &Path) -> Pairs<u8> {
+fn read_back(checks: &mut Checks, folder: &Path) -> Pairs<Answer<u8>> {
     let mut answers = Vec::new();
     for (i, v) in vectors(folder, "base", "readback").iter().enumerate() {
         let expected = expected(&v[2], &v[3], &bytes(&v[4]), room(&v[1]));
@@ -47,7 +52,7 @@ fn read_back(checks: &mut Checks, folder: &Path) -> Pairs<u8> {
     answers
 }
 
-fn match_ends(checks: &mut Checks, folder: &Path) -> Pairs<u32> {
+fn match_ends(checks: &mut Checks, folder: &Path) -> Pairs<Answer<u32>> {
     let mut answers = Vec::new();
     for (i, v) in vectors(folder, "base", "match").iter().enumerate() {
         let ends: Vec<u32> = places(&v[5]).iter().map(|p| *p as u32).collect();
@@ -57,9 +62,26 @@ fn match_ends(checks: &mut Checks, folder: &Path) -> Pairs<u32> {
     answers
 }
 
+fn watch(checks: &mut Checks, folder: &Path) -> Pairs<Watched> {
+    let mut answers = Vec::new();
+    for (line, (image, calls)) in (1..).zip(watches(folder, &u64::before)) {
+        let (what, image) = (format!("line {line}"), expand(&image));
+        for call in calls {
+            let found = Answer { count: call.total, ..Answer::of(call.number, &call.ends, call.room) };
+            let expected = Watched { found, watch: call.after };
+            let got = match &call.stretch {
+                None => checks.begin(&what, &image, &call.lent, &expected),
+                Some(stretch) => checks.step(&what, &image, &call.lent, stretch, &expected),
+            };
+            answers.extend(got.map(|got| (got, expected)));
+        }
+    }
+    answers
+}
+
 // ---- that a wrong answer would be seen
 
-fn planted<T: Lent + BitXor<Output = T>>(checks: &mut Checks, answers: &Pairs<T>) {
+fn planted<R: Reply>(checks: &mut Checks, answers: &Pairs<R>, faults: impl Fn(&mut Random, &R) -> Vec<R>) {
     let mut r = Random::new(1);
     for (got, expected) in answers {
         for fault in faults(&mut r, expected) {
@@ -68,44 +90,67 @@ fn planted<T: Lent + BitXor<Output = T>>(checks: &mut Checks, answers: &Pairs<T>
     }
 }
 
-/// Copies of an answer, each with one thing wrong: the number, the count, one element written, one past those written, one element less or more.
+/// Copies of an answer, each with one thing wrong: the number, the count, or something of what was lent.
 fn faults<T: Lent + BitXor<Output = T>>(r: &mut Random, right: &Answer<T>) -> Vec<Answer<T>> {
-    let mut faults = vec![right.clone(); 4];
+    let mut faults = vec![right.clone(); 2];
     faults[0].number += 1;
     faults[1].count += 1;
-    faults[2].lent.pop();
-    faults[3].lent.push(T::before(right.lent.len()));
-    faults.retain(|fault| fault != right);
-    let written = right.lent.len().min(right.count as usize);
-    for (from, to) in [(0, written), (written, right.lent.len())] {
+    let lists = lent_faults(r, &right.lent, right.written().len());
+    faults.extend(lists.into_iter().map(|lent| Answer { lent, ..right.clone() }));
+    faults
+}
+
+/// Copies of what was lent, each with one thing wrong: one element less or more, one of those written changed, one past them.
+fn lent_faults<T: Lent + BitXor<Output = T>>(r: &mut Random, right: &[T], written: usize) -> Vec<Vec<T>> {
+    let longer = [right, &[T::before(right.len())]].concat();
+    let mut faults = vec![longer];
+    faults.extend(right.split_last().map(|(_, shorter)| shorter.to_vec()));
+    for (from, to) in [(0, written), (written, right.len())] {
         if from < to {
-            let (mut fault, place) = (right.clone(), r.between(from, to - 1));
-            fault.lent[place] = fault.lent[place] ^ T::cut(1 << r.below(T::BITS as usize));
+            let (mut fault, place) = (right.to_vec(), r.between(from, to - 1));
+            fault[place] = fault[place] ^ T::cut(1 << r.below(T::BITS as usize));
             faults.push(fault);
         }
     }
     faults
 }
 
-/// The driver itself changes what a call must not change.
-fn spoilt(checks: &mut Checks) {
-    let as_it_was = |c: &mut Checks, line: &str, size: u32| match size {
-        1 => c.driver.call(line).map(|a| a.difference(&Answer::<u8>::of(0, &[], 7))),
-        4 => c.driver.call(line).map(|a| a.difference(&Answer::<u32>::of(0, &[], 7))),
-        _ => c.driver.call(line).map(|a| a.difference(&Answer::<u64>::of(0, &[], 7))),
-    };
-    for size in [1, 4, 8] {
-        for place in [-128, -1, 7, 134] {
-            let seen = as_it_was(checks, &format!("spoil {size} {place} 7"), size).is_err();
-            checks.same("a change beside what is lent is seen", seen, true);
-        }
-        for place in [0, 3, 6] {
-            let seen = matches!(as_it_was(checks, &format!("spoil {size} {place} 7"), size), Ok(Some(_)));
-            checks.same("a change in what is lent is seen", seen, true);
+/// The same of begin and step, or the mask or the place wrong.
+fn watch_faults(r: &mut Random, right: &Watched) -> Vec<Watched> {
+    let Watched { found, watch: Watch { mask, place } } = right;
+    let mut watches = vec![Watch { mask: mask.clone(), place: place ^ (1 << r.below(64)) }];
+    watches.extend(lent_faults(r, mask, mask.len()).into_iter().map(|mask| Watch { mask, place: *place }));
+    let found = faults(r, found).into_iter().map(|found| Watched { found, watch: right.watch.clone() });
+    found.chain(watches.into_iter().map(|watch| Watched { found: right.found.clone(), watch })).collect()
+}
+
+/// The driver itself changes what a call must not change: in each area given, and in and beside each area lent.
+fn changes(checks: &mut Checks) {
+    let (image, watch) = ([1, 2, 3], Watch { mask: vec![5; 7], place: 9 });
+    let watched = Watched::of(0, &[], 7, watch.clone());
+    spoilt(checks, &build_call(b"abc", 7), &[3], &[7], &Answer::<u64>::of(0, &[], 7));
+    spoilt(checks, &read_back_call(&image, 7), &[3], &[7], &Answer::<u8>::of(0, &[], 7));
+    spoilt(checks, &match_call(&image, b"abcd", 7), &[3, 4], &[7], &Answer::<u32>::of(0, &[], 7));
+    spoilt(checks, &begin_call(&image, &watch, 7), &[3], &[7, 1, 7], &watched);
+    spoilt(checks, &step_call(&image, &watch, b"abcd", 7), &[3, 4], &[7, 1, 7], &watched);
+}
+
+/// A call with areas of these lengths given and lent.
+fn spoilt<R: Reply>(checks: &mut Checks, call: &str, given: &[i64], lent: &[i64], as_it_was: &R) {
+    for (area, length) in given.iter().enumerate() {
+        for place in [0, length - 1] {
+            let seen = checks.driver.call::<R>(&format!("spoil given {area} {place} {call}")).is_err();
+            checks.same("a change in what is given is seen", seen, true);
         }
     }
-    for place in [0, 2] {
-        let seen = as_it_was(checks, &format!("spoil given {place} 61,62,63"), 8).is_err();
-        checks.same("a change in what is given is seen", seen, true);
+    for (area, length) in lent.iter().enumerate() {
+        for place in [-128, -1, *length, length + 127] {
+            let seen = checks.driver.call::<R>(&format!("spoil lent {area} {place} {call}")).is_err();
+            checks.same("a change beside what is lent is seen", seen, true);
+        }
+        for place in [0, length / 2, length - 1] {
+            let got = checks.driver.call::<R>(&format!("spoil lent {area} {place} {call}"));
+            checks.same("a change in what is lent is seen", matches!(got.map(|a| a.difference(as_it_was)), Ok(Some(_))), true);
+        }
     }
 }

@@ -1,9 +1,10 @@
 //! Build: document 01's examples and limits, and generated rules beside the independent program.
 
 use crate::checks::{Checks, LONGEST};
+use crate::seen::Seen;
 use outside_checks::driver::{build_call, Answer};
 use outside_checks::generate::{broken, jumbled, long, nested, sized, small, Random, TELLING};
-use outside_checks::independent::{build, depth, parse, states};
+use outside_checks::independent::{build, parse};
 
 pub fn all(checks: &mut Checks) {
     checks.part("build: document 01's examples", examples);
@@ -150,36 +151,11 @@ fn seeds(checks: &mut Checks) {
             _ => length + r.below(20),
         };
         checks.build_beside(&format!("seed {seed}"), &rule, room);
-        seen.note(&rule, room);
-    }
-    seen.tell(checks);
-}
-
-/// What the generated rules were, so that no kind of them goes missing.
-#[derive(Default)]
-struct Seen {
-    numbers: [usize; 6],
-    over_64: usize,
-    over_448: usize,
-    eight_deep: usize,
-}
-
-impl Seen {
-    fn note(&mut self, rule: &[u8], room: usize) {
-        let number = build(rule, room).0;
-        self.numbers[number as usize] += 1;
+        let number = build(&rule, room).0;
+        (0..6).for_each(|n| seen.note(&format!("given {n}"), number == n));
         if number == 0 {
-            let tree = parse(rule).expect("a rule");
-            self.over_64 += usize::from(states(&tree) > 64);
-            self.over_448 += usize::from(states(&tree) > 448);
-            self.eight_deep += usize::from(depth(&tree) == 8);
+            seen.tree(&parse(&rule).expect("a rule"));
         }
     }
-
-    fn tell(&self, checks: &mut Checks) {
-        let Seen { numbers, over_64, over_448, eight_deep } = self;
-        println!("library: from seeds: {over_64} taken over 64 states, {over_448} over 448, {eight_deep} eight deep; numbers 0 to 5: {numbers:?}");
-        let fewest = numbers.iter().chain([over_64, over_448, eight_deep]).min();
-        checks.same("there are 20 of each kind", fewest >= Some(&20), true);
-    }
+    seen.tell(checks, "built from seeds", 20);
 }

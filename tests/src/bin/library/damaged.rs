@@ -4,6 +4,7 @@ use crate::build::{longest, unions};
 use crate::checks::Checks;
 use crate::damage::{Damage, Tally};
 use crate::masks::{sections, Masks};
+use crate::seen::Seen;
 use outside_checks::driver::Answer;
 use outside_checks::generate::{nested, sized, small, Random};
 use outside_checks::independent::{depth, ends, image, parse, states, writing, Class, Item, Repeat, Sequence};
@@ -79,8 +80,7 @@ fn every_bit(checks: &mut Checks) {
 }
 
 fn seeds(checks: &mut Checks) {
-    let mut tally = Tally::default();
-    let [mut classes, mut over_64, mut over_448, mut eight_deep] = [0; 4];
+    let (mut tally, mut seen) = (Tally::default(), Seen::default());
     for seed in 0..140 {
         let mut r = Random::new(seed);
         let (wanted, deep) = match seed {
@@ -97,19 +97,15 @@ fn seeds(checks: &mut Checks) {
         if states(&tree) > 512 || depth(&tree) > 8 {
             continue;
         }
-        over_64 += usize::from(states(&tree) > 64);
-        over_448 += usize::from(states(&tree) > 448);
-        eight_deep += usize::from(depth(&tree) == 8);
+        seen.tree(&tree);
         Damage::of(checks, &mut tally, name.clone(), &tree).every_kind(&mut r);
         for _ in 0..8 {
-            classes += usize::from(other_class(checks, &mut r, &name, &tree));
+            seen.note("with another class", other_class(checks, &mut r, &name, &tree));
         }
     }
-    let Tally { refused, other } = tally;
-    println!("library: damaged images: {refused} refused, {other} read back as another tree, {classes} more with another class");
-    println!("library: of rules with more than 64 states {over_64}, more than 448 {over_448}, eight deep {eight_deep}");
-    let fewest = [refused, other, classes, over_64, over_448, eight_deep].into_iter().min();
-    checks.same("there are 10 of each kind", fewest >= Some(10), true);
+    seen.add("refused", tally.refused);
+    seen.add("read back as another tree", tally.other);
+    seen.tell(checks, "damaged images", 10);
 }
 
 /// Trees that no rule has, or with too many states or depths, laid out as if they were rules'.

@@ -9,6 +9,7 @@ mod masks;
 mod match_ends;
 mod outside;
 mod read_back;
+mod seen;
 
 use checks::Checks;
 use std::path::Path;

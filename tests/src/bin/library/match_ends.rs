@@ -3,6 +3,7 @@
 
 use crate::build::{longest, unions};
 use crate::checks::{Checks, LONGEST};
+use crate::seen::Seen;
 use outside_checks::driver::{build_call, match_call, read_back_call, Answer};
 use outside_checks::generate::{nested, sized, small, Random};
 use outside_checks::independent::{build, depth, ends, image, parse, states};
@@ -80,18 +81,6 @@ fn limits(checks: &mut Checks) {
 
 // ---- generated rules and texts
 
-/// What was matched, so that no kind of it goes missing.
-#[derive(Default)]
-struct Seen {
-    rules: usize,
-    with_ends: usize,
-    without: usize,
-    short_lists: usize,
-    over_64: usize,
-    over_448: usize,
-    eight_deep: usize,
-}
-
 fn rule(r: &mut Random, seed: u64) -> Vec<u8> {
     let (deep, wanted) = (r.below(9), [r.between(60, 70), r.between(71, 448), r.between(449, 512)][r.below(3)]);
     match seed {
@@ -111,27 +100,21 @@ fn seeds(checks: &mut Checks) {
             continue;
         }
         let Some(image) = checks.built(&format!("seed {seed}"), &rule) else { continue };
-        seen.rules += 1;
-        seen.over_64 += usize::from(states(&tree) > 64);
-        seen.over_448 += usize::from(states(&tree) > 448);
-        seen.eight_deep += usize::from(depth(&tree) == 8);
+        seen.add("rules", 1);
+        seen.tree(&tree);
         for most in [0, 12, 60, 3 * states(&tree)] {
             let length = r.below(most + 1);
             let text = text(&mut r, &tree, length);
             let ends = ends(&tree, &text);
             let room = [0, ends.len() / 2, ends.len().saturating_sub(1), ends.len(), ends.len() + 1, ends.len() + 40][r.below(6)];
-            seen.with_ends += usize::from(!ends.is_empty());
-            seen.without += usize::from(ends.is_empty());
-            seen.short_lists += usize::from(room < ends.len());
+            seen.note("texts with an end", !ends.is_empty());
+            seen.note("texts with none", ends.is_empty());
+            seen.note("lists of ends too short", room < ends.len());
             let what = format!("seed {seed}, rule {}, text {}", rule.escape_ascii(), text.escape_ascii());
             checks.match_ends(&what, &image, &text, &Answer::of(0, &ends, room));
         }
     }
-    let Seen { rules, with_ends, without, short_lists, over_64, over_448, eight_deep } = seen;
-    println!("library: matched from seeds: {rules} rules, {over_64} of them over 64 states, {over_448} over 448, {eight_deep} eight deep");
-    println!("library: texts with an end {with_ends}, with none {without}, lists of ends too short {short_lists}");
-    let fewest = [with_ends, without, short_lists, over_64, over_448, eight_deep].into_iter().min();
-    checks.same("there are 20 of each kind", fewest >= Some(20), true);
+    seen.tell(checks, "matched from seeds", 20);
 }
 
 /// Texts of thousands of bytes, some as long as can be.

@@ -1,0 +1,37 @@
+//! What kinds of trees and calls there were, so that none goes missing.
+
+use crate::checks::Checks;
+use outside_checks::independent::{depth, states, Item};
+
+/// How many there were of each kind.
+#[derive(Default)]
+pub struct Seen(Vec<(String, usize)>);
+
+impl Seen {
+    pub fn add(&mut self, kind: &str, count: usize) {
+        match self.0.iter_mut().find(|(name, _)| name == kind) {
+            Some((_, all)) => *all += count,
+            None => self.0.push((kind.to_string(), count)),
+        }
+    }
+
+    /// One more of a kind, if it is one.
+    pub fn note(&mut self, kind: &str, is_one: bool) {
+        self.add(kind, usize::from(is_one));
+    }
+
+    /// A tree, by its size.
+    pub fn tree(&mut self, tree: &[Item]) {
+        self.note("over 64 states", states(tree) > 64);
+        self.note("over 448 states", states(tree) > 448);
+        self.note("eight deep", depth(tree) == 8);
+    }
+
+    /// Tells what was seen; there must be enough of each kind.
+    pub fn tell(&self, checks: &mut Checks, what: &str, enough: usize) {
+        let kinds: Vec<String> = self.0.iter().map(|(kind, count)| format!("{count} {kind}")).collect();
+        println!("library: {what}: {}", kinds.join(", "));
+        let missing = self.0.iter().find(|(_, count)| *count < enough);
+        checks.same(&format!("{what}: a kind of which there are fewer than {enough}"), missing, None);
+    }
+}

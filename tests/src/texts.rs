@@ -47,3 +47,16 @@ pub fn text(r: &mut Random, tree: &[Item], length: usize) -> Vec<u8> {
     text.truncate(length);
     text
 }
+
+/// A text cut into stretches of at most so many bytes, many of one byte and of none.
+pub fn cut<'a>(r: &mut Random, text: &'a [u8], most: usize) -> Vec<&'a [u8]> {
+    let (mut stretches, mut left) = (Vec::new(), text);
+    while !left.is_empty() {
+        let lengths = [0, 1, r.between(1, most), r.between(1, most)];
+        let (stretch, rest) = left.split_at(lengths[r.below(4)].min(left.len()));
+        stretches.push(stretch);
+        left = rest;
+    }
+    stretches.extend((0..r.below(3)).map(|_| left));
+    stretches
+}

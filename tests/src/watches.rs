@@ -15,13 +15,17 @@ pub struct WatchCall {
     pub after: Watch,
 }
 
-/// Each line's image and calls. A vector does not say what the words hold that are lent to a begin: word i is `before(i)`, the place comes after them.
+/// What is lent to a begin: word i of the mask holds `before(i)`, and the place comes after them.
+pub fn lent(words: usize, before: &dyn Fn(usize) -> u64) -> Watch {
+    Watch { mask: (0..words).map(before).collect(), place: before(words) }
+}
+
+/// Each line's image and calls. A vector does not say what the words hold that are lent to a begin; `before` does.
 pub fn watches(folder: &Path, before: &dyn Fn(usize) -> u64) -> Vec<(Runs, Vec<WatchCall>)> {
     let of = |line: Vec<String>| {
         let (begin, steps) = line[1..].split_at(7);
         assert_eq!(steps.len(), 9 * number(&begin[6]) as usize, "STEPS");
-        let words = number(&begin[0]) as usize;
-        let lent = Watch { mask: (0..words).map(before).collect(), place: before(words) };
+        let lent = lent(number(&begin[0]) as usize, before);
         let place = if begin[5] == "-" { lent.place } else { 0 };
         let calls = std::iter::once(call(lent, None, &begin[1..6], place)).chain(steps.chunks(9).map(step));
         (runs(&line[0]), calls.collect())

@@ -68,6 +68,11 @@ impl<'a> Edges<'a> {
         reached
     }
 
+    /// Whether these states are all that they reach so.
+    pub fn closed(&self, live: &[bool]) -> bool {
+        self.reached((0..live.len()).filter(|state| live[*state]).collect()) == live
+    }
+
     /// After a byte: all that the moved states and state 0 reach.
     fn after(&self, live: &[bool], byte: u8) -> Live {
         let leaving = self.letters.iter().zip(live).filter(|(_, live)| **live).flat_map(|(edges, _)| edges);

@@ -1,10 +1,16 @@
 //! Calls of the driver compared with what is expected, and how many went well.
 
-use outside_checks::driver::{begin_call, build_call, match_call, read_back_call, step_call, Answer, Driver, Reply, Watched};
+use outside_checks::driver::{begin_call, build_call, match_call, read_back_call, step_call, Answer, Driver, Lent, Reply, Watched};
 use outside_checks::independent::{begin, build, match_ends, read_back, step, Watch};
+use outside_checks::watches::lent;
 
 /// The length of the longest image.
 pub const LONGEST: usize = 4705;
+
+/// What a begin is lent: so many words and a place, all in the driver's pattern.
+pub fn fresh(words: usize) -> Watch {
+    lent(words, &u64::before)
+}
 
 pub struct Checks {
     pub driver: Driver,
@@ -90,6 +96,12 @@ impl Checks {
     pub fn step_beside(&mut self, what: &str, image: &[u64], lent: &Watch, stretch: &[u8], room: usize) -> Option<Watched> {
         let (number, ends, after) = step(image, lent, stretch);
         self.step(what, image, lent, stretch, &Watched::of(number, &ends, room, after))
+    }
+
+    /// A begin and a step beside the independent program, with so many words lent.
+    pub fn watch_beside(&mut self, what: &str, image: &[u64], width: usize, stretch: &[u8]) {
+        self.begin_beside(what, image, &fresh(width), 1);
+        self.step_beside(what, image, &Watch { mask: vec![1; width], place: 3 }, stretch, 4);
     }
 
     /// What the proved build gives for a rule that it must accept.

@@ -1,9 +1,9 @@
-//! Damage of one image: what is left is refused with 6 by read back and by match, or it is the image of another tree and both answer for that one.
+//! Damage of one image: what is left is refused with 6 by every call, or it is the image of another tree and each answers for that one.
 
-use crate::checks::Checks;
+use crate::checks::{fresh, Checks};
 use crate::masks::{sections, Masks};
 use outside_checks::generate::Random;
-use outside_checks::independent::{image, parse, writing, Item};
+use outside_checks::independent::{image, parse, writing, Item, Watch};
 use outside_checks::texts::text;
 use std::ops::Range;
 
@@ -31,12 +31,20 @@ impl Damage<'_> {
         Damage { checks, tally, name, image: image(tree), room: writing(tree).len() + 64, text }
     }
 
-    /// Match of these words refuses as read back does, and finds the ends of the tree that read back writes. One text in 64 is too long.
-    fn matched(&mut self, what: &str, words: &[u64], number: u64) {
-        let too_long = [b'a'; 65536];
+    /// Match, and by turns begin and step, refuse these words as read back does and else answer for the tree that it writes. One text in 64 is too
+    /// long.
+    fn others(&mut self, what: &str, words: &[u64], number: u64) {
+        let (too_long, width) = ([b'a'; 65536], self.image[2] as usize);
         let text = if self.tally.refused % 64 == 63 { &too_long[..] } else { &self.text };
-        let Some(found) = self.checks.match_beside(what, words, text, 4) else { return };
-        self.checks.same(&format!("{what}: match and read back refuse alike"), found.number == 6, number == 6);
+        let found = self.checks.match_beside(what, words, text, 4);
+        let watched = if self.tally.refused % 2 == 0 {
+            self.checks.begin_beside(what, words, &fresh(width), 1)
+        } else {
+            self.checks.step_beside(what, words, &Watch { mask: vec![1; width], place: 3 }, text, 4)
+        };
+        for answer in found.into_iter().chain(watched.map(|w| w.found)) {
+            self.checks.same(&format!("{what}: refused as by read back"), answer.number == 6, number == 6);
+        }
     }
 
     /// Words in its place, if they differ from it: the answer is the independent program's, and a writing is that of a tree with exactly these words
@@ -47,7 +55,7 @@ impl Damage<'_> {
         }
         let what = format!("{}, {how}", self.name);
         let Some(answer) = self.checks.read_back_beside(&what, words, self.room) else { return };
-        self.matched(&what, words, answer.number);
+        self.others(&what, words, answer.number);
         if answer.number != 0 {
             self.tally.refused += 1;
             return;

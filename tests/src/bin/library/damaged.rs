@@ -63,6 +63,7 @@ fn other_class(checks: &mut Checks, r: &mut Random, name: &str, tree: &Sequence)
     checks.read_back(&what, &words, &Answer::of(0, &plain, plain.len() + 5));
     let text = text(r, &other, 40);
     checks.match_ends(&what, &words, &text, &Answer::of(0, &ends(&other, &text), 9));
+    checks.watch_beside(&what, &words, masks.width, &text);
     true
 }
 
@@ -135,6 +136,7 @@ fn ill_formed(checks: &mut Checks) {
     for (what, tree) in trees {
         checks.read_back(what, &image(&tree), &Answer::of(6, &[], 40));
         checks.match_ends(what, &image(&tree), b"aab", &Answer::of(6, &[], 4));
+        checks.watch_beside(what, &image(&tree), states(&tree).div_ceil(64), b"aab");
     }
 }
 
@@ -161,5 +163,6 @@ fn random_words(checks: &mut Checks) {
         }
         checks.read_back_beside(&format!("random words, seed {seed}"), &words, 64);
         checks.match_beside(&format!("random words, seed {seed}"), &words, b"aab", 4);
+        checks.watch_beside(&format!("random words, seed {seed}"), &words, m.div_ceil(64), b"aab");
     }
 }

@@ -3,6 +3,7 @@
 
 mod build;
 mod checks;
+mod cuttings;
 mod damage;
 mod damaged;
 mod masks;
@@ -10,6 +11,7 @@ mod match_ends;
 mod outside;
 mod read_back;
 mod seen;
+mod watch;
 
 use checks::Checks;
 use std::path::Path;
@@ -26,6 +28,8 @@ fn main() {
     build::all(&mut checks);
     read_back::all(&mut checks, Path::new(folder));
     match_ends::all(&mut checks, Path::new(folder));
+    watch::all(&mut checks);
+    cuttings::all(&mut checks);
     damaged::all(&mut checks);
     exit(i32::from(!checks.tell()));
 }

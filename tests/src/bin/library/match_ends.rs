@@ -12,7 +12,7 @@ use outside_checks::{bytes, file, vectors};
 use std::path::Path;
 
 /// The length of the longest text.
-const LONGEST_TEXT: usize = 65535;
+pub const LONGEST_TEXT: usize = 65535;
 
 pub fn all(checks: &mut Checks, folder: &Path) {
     checks.part("match: document 01's examples", examples);
@@ -32,24 +32,26 @@ fn finds(checks: &mut Checks, what: &str, rule: &[u8], text: &[u8], ends: &[u32]
     }
 }
 
+/// Rules, texts and their ends.
+pub const EXAMPLES: [(&str, &str, &[u32]); 13] = [
+    ("a", "aba", &[1, 3]),
+    ("b?", "", &[0]),
+    ("b?", "ab", &[0, 1, 2]),
+    ("a{2,3}", "aaaa", &[2, 3, 4]),
+    ("[AB]+B.{1,3}[BC]?.*C", "ABCBBC", &[6]),
+    ("[AB]+B.{1,3}[BC]?.*C", "ABCBCC", &[5, 6]),
+    ("A(BA|CD)(CD|AB)B", "ABACDB", &[6]),
+    ("A(AB|B?)(B?.*|AB)C", "AC", &[2]),
+    // "Errors that look right"
+    ("a(b?|c)d", "ad", &[2]),
+    ("((a|b)|c)", "xabc", &[2, 3, 4]),
+    ("a((b|c)d|e)f", "abdfacdfaef", &[4, 8, 11]),
+    ("a{64}b", "", &[]),
+    ("(a|b)(c|d)", "acbdad", &[2, 4, 6]),
+];
+
 fn examples(checks: &mut Checks) {
-    let examples: [(&str, &str, &[u32]); 13] = [
-        ("a", "aba", &[1, 3]),
-        ("b?", "", &[0]),
-        ("b?", "ab", &[0, 1, 2]),
-        ("a{2,3}", "aaaa", &[2, 3, 4]),
-        ("[AB]+B.{1,3}[BC]?.*C", "ABCBBC", &[6]),
-        ("[AB]+B.{1,3}[BC]?.*C", "ABCBCC", &[5, 6]),
-        ("A(BA|CD)(CD|AB)B", "ABACDB", &[6]),
-        ("A(AB|B?)(B?.*|AB)C", "AC", &[2]),
-        // "Errors that look right"
-        ("a(b?|c)d", "ad", &[2]),
-        ("((a|b)|c)", "xabc", &[2, 3, 4]),
-        ("a((b|c)d|e)f", "abdfacdfaef", &[4, 8, 11]),
-        ("a{64}b", "", &[]),
-        ("(a|b)(c|d)", "acbdad", &[2, 4, 6]),
-    ];
-    for (rule, text, ends) in examples {
+    for (rule, text, ends) in EXAMPLES {
         finds(checks, "an example", rule.as_bytes(), text.as_bytes(), ends);
     }
     finds(checks, "a carry from word to word", b"a{500}", &[b'a'; 502], &[500, 501, 502]);
@@ -81,7 +83,8 @@ fn limits(checks: &mut Checks) {
 
 // ---- generated rules and texts
 
-fn rule(r: &mut Random, seed: u64) -> Vec<u8> {
+/// A rule of a seed below 2,300: small ones, then deep ones, then large ones.
+pub fn rule(r: &mut Random, seed: u64) -> Vec<u8> {
     let (deep, wanted) = (r.below(9), [r.between(60, 70), r.between(71, 448), r.between(449, 512)][r.below(3)]);
     match seed {
         0..1700 => small(r),

@@ -1,7 +1,9 @@
-//! Writes a repository with a crate of theorems: for each outside vector that the checker can compute, that the one answer which document
-//! 01's table gives is the vector's. `rt check` then computes them over a copy of the crate `model`. Usage: definitions VECTORS OUT
+//! Writes a repository with a crate of theorems: for each outside vector that the checker can compute, and for some calls of a watch, that the one
+//! answer which the table gives is the vector's. `rt check` then computes them over a copy of the crate `model`. Usage: definitions VECTORS OUT
 
+use outside_checks::watches::{watches, WatchCall};
 use outside_checks::{bytes, places, runs, vectors, word, Runs};
+use std::collections::HashMap;
 use std::fmt::Write as _;
 use std::fs;
 use std::path::Path;
@@ -9,6 +11,10 @@ use std::path::Path;
 /// The checker computes masks state by state, and the verdict on an image far more slowly than the image: larger ones take it too long.
 const STATES: u64 = 7;
 const IMAGE_STATES: u64 = 3;
+const BYTES: usize = 24;
+
+/// So many calls of a watch of each kind are enough.
+const EACH: usize = 4;
 
 /// What the lent words and bytes hold before a call.
 const BEFORE: u64 = 7;
@@ -21,19 +27,41 @@ use mathlib.Core.List.{List, [], _∷_, _++_}
 use Prim.Native.Nat.{ℕ}
 use lib.Dec.{eqb}
 use lib.ListN.{replicate}
-use Rattle.model.specs.Answers.{Answer}
 use Rattle.model.specs.Models.Verdict.{sameWords}
-use Rattle.model.proofs.Answers.Build.{buildAnswer}
-use Rattle.model.proofs.Answers.ReadBack.{readBackAnswer}
-use Rattle.model.proofs.Answers.Match.{matchAnswer}
+";
 
+const EXPAND: &str = "
 abbrev expand : List (ℕ × ℕ) → List ℕ
 expand [] = []
 expand (r ∷ rs) = replicate (r .0) (r .1) ++ expand rs
+";
 
+const ANSWERS: [&str; 2] = [
+    "\
+use Rattle.model.specs.Answers.{Answer}
+use Rattle.model.proofs.Answers.Build.{buildAnswer}
+use Rattle.model.proofs.Answers.ReadBack.{readBackAnswer}
+use Rattle.model.proofs.Answers.Match.{matchAnswer}
+",
+    "
 abbrev is : Answer → ℕ → ℕ → List (ℕ × ℕ) → Bool
 is a number count lent = eqb (a .number) number && (eqb (a .count) count && sameWords (a .lent) (expand lent))
-";
+",
+];
+
+const WATCHES: [&str; 2] = [
+    "\
+use Rattle.model.specs.Watch.{Watch}
+use Rattle.model.proofs.Watch.Answers.{beginAnswer, stepAnswer}
+",
+    "
+abbrev counts : Watch → ℕ → ℕ → Bool
+counts a number count = eqb (a .number) number && eqb (a .count) count
+
+abbrev is : Watch → ℕ → ℕ → List (ℕ × ℕ) → ℕ → List (ℕ × ℕ) → Bool
+is a number count mask place ends = counts a number count && (sameWords (a .mask) (expand mask) && (eqb (a .place) place && sameWords (a .ends) (expand ends)))
+",
+];
 
 fn list(runs: &Runs) -> String {
     let mut out = String::from("(");
@@ -67,6 +95,12 @@ fn singles(values: impl Iterator<Item = u64>) -> Runs {
     values.map(|v| (1, v)).collect()
 }
 
+/// What is lent before a call.
+fn before(room: usize) -> String {
+    format!("(replicate {room} {BEFORE})")
+}
+
+/// A module of theorems.
 struct Theorems {
     text: String,
     count: usize,
@@ -74,19 +108,22 @@ struct Theorems {
 }
 
 impl Theorems {
-    fn add(&mut self, call: String, number: &str, count: &str, after: &Runs) {
+    /// With further imports, and a definition of what is claimed.
+    fn of([imports, is]: [&str; 2]) -> Theorems {
+        Theorems { text: [HEAD, imports, EXPAND, is].concat(), count: 0, left_out: 0 }
+    }
+
+    /// The claim that a call `is` this answer.
+    fn add(&mut self, call: String, answer: String) {
         self.count += 1;
         let n = self.count;
-        writeln!(self.text, "\nvector-{n} : is ({call}) {number} {count} {} ≡ true\nvector-{n} = refl", list(after)).unwrap();
+        writeln!(self.text, "\nvector-{n} : is ({call}) {answer} ≡ true\nvector-{n} = refl").unwrap();
     }
 }
 
-fn main() {
-    let arguments: Vec<String> = std::env::args().collect();
-    let (folder, out) = (Path::new(&arguments[1]), Path::new(&arguments[2]));
-    let mut t = Theorems { text: HEAD.to_string(), count: 0, left_out: 0 };
-    let before = |room: usize| format!("(replicate {room} {BEFORE})");
-
+fn answers(folder: &Path) -> Theorems {
+    let mut t = Theorems::of(ANSWERS);
+    let answer = |number: &str, count: &str, after: &Runs| format!("{number} {count} {}", list(after));
     for v in vectors(folder, "base", "build") {
         let (rule, room, number) = (bytes(&v[0]), v[1].parse::<usize>().unwrap(), v[2].as_str());
         let image = runs(&v[4]);
@@ -96,7 +133,7 @@ fn main() {
             continue;
         }
         let call = format!("buildAnswer {} {}", numbers(rule.iter().map(|b| u64::from(*b))), before(room));
-        t.add(call, number, &v[3], &lent(image, room));
+        t.add(call, answer(number, &v[3], &lent(image, room)));
     }
     for v in vectors(folder, "base", "readback") {
         let (image, room) = (runs(&v[0]), v[1].parse::<usize>().unwrap());
@@ -105,24 +142,58 @@ fn main() {
             continue;
         }
         let call = format!("readBackAnswer (expand {}) {}", list(&image), before(room));
-        t.add(call, &v[2], &v[3], &lent(singles(bytes(&v[4]).into_iter().map(u64::from)), room));
+        t.add(call, answer(&v[2], &v[3], &lent(singles(bytes(&v[4]).into_iter().map(u64::from)), room)));
     }
     for v in vectors(folder, "base", "match") {
         let (image, text, room) = (runs(&v[0]), bytes(&v[1]), v[2].parse::<usize>().unwrap());
-        if word(&image, 1) > IMAGE_STATES || text.len() > 24 {
+        if word(&image, 1) > IMAGE_STATES || text.len() > BYTES {
             t.left_out += 1;
             continue;
         }
         let call = format!("matchAnswer (expand {}) {} {}", list(&image), numbers(text.iter().map(|b| u64::from(*b))), before(room));
-        t.add(call, &v[3], &v[4], &lent(singles(places(&v[5]).into_iter()), room));
+        t.add(call, answer(&v[3], &v[4], &lent(singles(places(&v[5]).into_iter()), room)));
     }
+    t
+}
 
+/// The first calls of each kind, one to a line: begin or step, by number, by whether there are bytes and ends.
+fn watched(folder: &Path) -> Theorems {
+    let (mut t, mut seen) = (Theorems::of(WATCHES), HashMap::<_, Vec<usize>>::new());
+    for (line, (image, calls)) in watches(folder, &|_| BEFORE).into_iter().enumerate() {
+        for WatchCall { lent: given, stretch, room, number, total, ends, after } in calls {
+            let bytes = stretch.as_ref().map(Vec::len);
+            let alike = seen.entry((bytes.is_some(), number, bytes > Some(0), total > 0)).or_default();
+            if word(&image, 1) > IMAGE_STATES || bytes > Some(BYTES) || alike.len() == EACH || alike.contains(&line) {
+                t.left_out += 1;
+                continue;
+            }
+            alike.push(line);
+            let (words, mask, place, ends_before) = (list(&image), numbers(given.mask.into_iter()), given.place, before(room));
+            let call = match stretch {
+                None => format!("beginAnswer (expand {words}) {mask} {place} {ends_before}"),
+                Some(bytes) => {
+                    let stretch = numbers(bytes.into_iter().map(u64::from));
+                    format!("stepAnswer (expand {words}) {mask} {place} {stretch} {ends_before}")
+                }
+            };
+            let (mask, ends) = (list(&singles(after.mask.into_iter())), list(&lent(singles(ends.into_iter().map(u64::from)), room)));
+            t.add(call, format!("{number} {total} {mask} {} {ends}", after.place));
+        }
+    }
+    t
+}
+
+fn main() {
+    let arguments: Vec<String> = std::env::args().collect();
+    let (folder, out) = (Path::new(&arguments[1]), Path::new(&arguments[2]));
     let krate = out.join("crates/vectors");
     fs::create_dir_all(krate.join("src")).unwrap();
     fs::create_dir_all(krate.join("specs")).unwrap();
     fs::write(out.join("crates.txt"), "model:\nvectors: model\n").unwrap();
     fs::write(krate.join("src/lib.rt"), "// No code: the theorems stand in specs/.\npub const VECTORS: usize = 0;\n").unwrap();
-    fs::write(krate.join("specs/Lib.antt"), "pub mod Vectors\n").unwrap();
-    fs::write(krate.join("specs/Vectors.antt"), t.text).unwrap();
-    println!("definitions: {} vectors to compute, {} left out as too large for the checker", t.count, t.left_out);
+    fs::write(krate.join("specs/Lib.antt"), "pub mod Vectors\npub mod Watches\n").unwrap();
+    for (name, what, t) in [("Vectors", "vectors", answers(folder)), ("Watches", "calls of a watch", watched(folder))] {
+        println!("definitions: {} {what} to compute, {} left out as too large for the checker or like others", t.count, t.left_out);
+        fs::write(krate.join("specs").join(format!("{name}.antt")), t.text).unwrap();
+    }
 }

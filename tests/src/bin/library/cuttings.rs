@@ -4,22 +4,23 @@ use crate::checks::{fresh, Checks};
 use crate::match_ends::{rule, EXAMPLES, LONGEST_TEXT};
 use crate::seen::Seen;
 use outside_checks::driver::{Reply, Watched};
-use outside_checks::generate::{small, Random};
-use outside_checks::independent::{depth, ends, parse, states, Edges, Sequence};
+use outside_checks::generate::{sized, small, Random};
+use outside_checks::independent::{depth, ends, parse, states, Edges, Sequence, Watch};
 use outside_checks::texts::{cut, text};
 
 pub fn all(checks: &mut Checks) {
     checks.part("watch: document 01's examples in every cutting", examples);
     checks.part("watch: rules, texts and cuttings from seeds", seeds);
-    checks.part("watch: texts longer than a stretch may be", long_texts);
+    checks.part("watch: long stretches", long_stretches);
 }
 
-/// A rule, its tree, and the image that the proved build gave.
+/// What is fed: a rule's tree and edges, and the image that the proved build gave.
 struct Fed<'a> {
     checks: &'a mut Checks,
     seen: &'a mut Seen,
     name: String,
     tree: &'a Sequence,
+    edges: Edges<'a>,
     image: Vec<u64>,
 }
 
@@ -27,22 +28,27 @@ impl Fed<'_> {
     fn of<'a>(checks: &'a mut Checks, seen: &'a mut Seen, rule: &[u8], tree: &'a Sequence) -> Option<Fed<'a>> {
         let name = format!("rule {}", rule.escape_ascii());
         let image = checks.built(&name, rule)?;
-        Some(Fed { checks, seen, name, tree, image })
+        Some(Fed { checks, seen, name, tree, edges: Edges::of(tree), image })
+    }
+
+    /// The independent program's step; none from a mask of other states.
+    fn step(&self, from: &Watch, stretch: &[u8]) -> Option<(Vec<u32>, Watch)> {
+        Some(self.edges.step(self.edges.live(&from.mask)?, from.place, stretch))
     }
 
     /// A watch begun and fed these stretches, each call beside the independent program: the ends joined, and the watch afterwards.
     fn fed(&mut self, what: &str, stretches: &[&[u8]]) -> Option<Watched> {
-        let edges = Edges::of(self.tree);
-        let (ends, watch) = edges.begin();
-        let (start, lent) = (watch.mask.clone(), fresh(watch.mask.len()));
-        let begun = self.checks.begin(what, &self.image, &lent, &Watched::of(0, &ends, ends.len() + 1, watch))?;
-        let (mut joined, mut watch) = (begun.found.written().to_vec(), begun.watch);
+        let (ends, begun) = self.edges.begin();
+        let lent = fresh(begun.mask.len());
+        let got = self.checks.begin(what, &self.image, &lent, &Watched::of(0, &ends, ends.len() + 1, begun.clone()))?;
+        let (mut joined, mut watch) = (got.found.written().to_vec(), got.watch);
         for stretch in stretches {
-            let (ends, after) = edges.step(edges.live(&watch.mask)?, watch.place, stretch);
+            let (ends, after) = self.step(&watch, stretch)?;
+            let (anew, _) = self.step(&Watch { place: watch.place, ..begun.clone() }, stretch)?;
             self.seen.note("stretches of no bytes", stretch.is_empty());
             self.seen.note("of one byte", stretch.len() == 1);
             self.seen.note("with ends", !ends.is_empty());
-            self.seen.note("with ends that a watch begun there would miss", edges.step(edges.live(&start)?, watch.place, stretch).0 != ends);
+            self.seen.note("with ends that a watch begun there would miss", ends != anew);
             let got = self.checks.step(what, &self.image, &watch, stretch, &Watched::of(0, &ends, ends.len() + stretch.len() % 3, after))?;
             joined.extend(got.found.written());
             watch = got.watch;
@@ -52,9 +58,7 @@ impl Fed<'_> {
 
     /// What the independent program gives for a whole text: its ends by backtracking, and the last watch.
     fn whole(&self, text: &[u8]) -> Watched {
-        let edges = Edges::of(self.tree);
-        let (_, begun) = edges.begin();
-        let (_, watch) = edges.step(edges.live(&begun.mask).expect("a mask"), 0, text);
+        let (_, watch) = self.step(&self.edges.begin().1, text).expect("a mask");
         let ends = ends(self.tree, text);
         Watched::of(0, &ends, ends.len(), watch)
     }
@@ -125,18 +129,35 @@ fn seeds(checks: &mut Checks) {
     seen.tell(checks, "watched from seeds", 20);
 }
 
-/// Cut at the longest stretches, and at any.
-fn long_texts(checks: &mut Checks) {
+fn long_stretches(checks: &mut Checks) {
     let mut seen = Seen::default();
+    even_stretches(checks, &mut seen);
+    longest_stretches(checks, &mut seen);
+    seen.tell(checks, "long stretches", 1);
+}
+
+/// Of one length, about as long as a word has bits and as there are bytes, for rules of more than a word.
+fn even_stretches(checks: &mut Checks, seen: &mut Seen) {
+    for (seed, wanted) in (0..).zip([66, 200, 450, 512]) {
+        let mut r = Random::new(seed);
+        let rule = sized(&mut r, wanted, seed as usize);
+        let tree = parse(&rule).expect("a rule");
+        let Some(mut fed) = Fed::of(checks, seen, &rule, &tree) else { continue };
+        let text = text(&mut r, &tree, 1100);
+        fed.cuttings(&text, &[63, 64, 65, 255, 256, 257, 512].map(|length| text.chunks(length).collect()));
+    }
+}
+
+/// As long as can be, or of any length, of texts that are longer.
+fn longest_stretches(checks: &mut Checks, seen: &mut Seen) {
     for seed in 0..8 {
         let mut r = Random::new(seed);
-        let rule = small(&mut r);
+        let rule = if seed % 4 == 3 { sized(&mut r, 100, 2) } else { small(&mut r) };
         let tree = parse(&rule).expect("a rule");
-        let Some(mut fed) = Fed::of(checks, &mut seen, &rule, &tree) else { continue };
+        let Some(mut fed) = Fed::of(checks, seen, &rule, &tree) else { continue };
         let length = [LONGEST_TEXT, LONGEST_TEXT + 1, 2 * LONGEST_TEXT, r.between(LONGEST_TEXT, 200_000)][seed as usize % 4];
         let text = text(&mut r, &tree, length);
         fed.cuttings(&text, &[text.chunks(LONGEST_TEXT).collect(), cut(&mut r, &text, LONGEST_TEXT)]);
         seen.note("texts over 65,535 bytes", length > LONGEST_TEXT);
     }
-    seen.tell(checks, "long texts cut", 1);
 }

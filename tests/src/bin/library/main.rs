@@ -1,5 +1,5 @@
 //! The library for C, called through tests/driver.c: the outside vectors, document 01's examples and limits, generated rules beside the independent
-//! program, and damaged images; number, count and everything lent. Usage: library VECTORS DRIVER (tests/library makes the driver)
+//! program, texts in cuttings, and damaged images; number, count and everything lent. Usage: library VECTORS DRIVER (tests/library makes the driver)
 
 mod build;
 mod checks;

@@ -41,7 +41,8 @@ fn other_widths(m: usize) -> Vec<usize> {
     [0, width - 1, width + 1, 8, 9].into_iter().filter(|w| *w != width).collect()
 }
 
-fn refused(number: u64, room: usize, lent: &Watch) -> Watched {
+/// An answer with no ends that leaves the watch where it was: a refusal, or a stretch of no bytes.
+fn unmoved(number: u64, room: usize, lent: &Watch) -> Watched {
     Watched::of(number, &[], room, lent.clone())
 }
 
@@ -58,11 +59,11 @@ fn begin(checks: &mut Checks) {
         let (mut words, width) = (of_states(m), m.div_ceil(64));
         checks.begin_beside(&format!("{m} states"), &words, &fresh(width), 2);
         for lent in other_widths(m).into_iter().map(fresh) {
-            checks.begin(&format!("{m} states, {} words", lent.mask.len()), &words, &lent, &refused(9, 2, &lent));
+            checks.begin(&format!("{m} states, {} words", lent.mask.len()), &words, &lent, &unmoved(9, 2, &lent));
         }
         words[0] = 4;
         for lent in [0, width, 9].map(fresh) {
-            checks.begin(&format!("{m} states, damaged, {} words", lent.mask.len()), &words, &lent, &refused(6, 2, &lent));
+            checks.begin(&format!("{m} states, damaged, {} words", lent.mask.len()), &words, &lent, &unmoved(6, 2, &lent));
         }
     }
 }
@@ -75,20 +76,20 @@ fn bits(checks: &mut Checks) {
             let mut watch = Watch { mask: vec![0; width], place: 5 };
             watch.mask[bit / 64] |= 1 << (bit % 64);
             let (number, what) = (if bit < m { 0 } else { 9 }, format!("{m} states, bit {bit}"));
-            checks.step(&what, &words, &watch, b"", &refused(number, 2, &watch));
+            checks.step(&what, &words, &watch, b"", &unmoved(number, 2, &watch));
             if number == 9 {
-                checks.step(&what, &words, &watch, b"a", &refused(9, 2, &watch));
+                checks.step(&what, &words, &watch, b"a", &unmoved(9, 2, &watch));
             } else {
                 checks.step_beside(&what, &words, &watch, b"a", 2);
             }
         }
         for mask in [vec![0; width], (0..width).map(|w| u64::MAX >> (64 - (m - 64 * w).min(64))).collect()] {
             let watch = Watch { mask, place: 0 };
-            checks.step(&format!("{m} states, none or all"), &words, &watch, b"", &refused(0, 2, &watch));
+            checks.step(&format!("{m} states, none or all"), &words, &watch, b"", &unmoved(0, 2, &watch));
             checks.step_beside(&format!("{m} states, none or all"), &words, &watch, b"aba", 2);
         }
         for watch in other_widths(m).into_iter().flat_map(|w| [0, 1].map(|word| Watch { mask: vec![word; w], place: 0 })) {
-            checks.step(&format!("{m} states, {} words", watch.mask.len()), &words, &watch, b"a", &refused(9, 2, &watch));
+            checks.step(&format!("{m} states, {} words", watch.mask.len()), &words, &watch, b"a", &unmoved(9, 2, &watch));
         }
     }
 }
@@ -101,9 +102,9 @@ fn places(checks: &mut Checks) {
         for length in [0, 1, 2, 7, LONGEST_TEXT] {
             let (lent, last) = (Watch { mask: vec![1], place }, u128::from(place) + length as u128);
             let expected = if last > u128::from(LAST_PLACE) {
-                refused(10, 8, &lent)
+                unmoved(10, 8, &lent)
             } else if length == 0 {
-                refused(0, 8, &lent)
+                unmoved(0, 8, &lent)
             } else {
                 let ends: Vec<u32> = (place + 1..=last as u64).map(|p| p as u32).collect();
                 Watched::of(0, &ends, 8, Watch { mask: vec![3], place: last as u64 })
@@ -113,29 +114,30 @@ fn places(checks: &mut Checks) {
     }
 }
 
-/// Each thing wrong or not, in every way: the first of 6, 7, 9, 10 is given.
+/// Each thing right or wrong, in several ways, with each other thing.
 fn order(checks: &mut Checks) {
-    let words = of_states(65);
-    let mut damaged = words.clone();
+    let image = of_states(65);
+    let mut damaged = image.clone();
     *damaged.last_mut().expect("a word") ^= 1;
-    let long = vec![b'a'; LONGEST_TEXT + 1];
-    let masks = [(true, vec![1, 1]), (false, vec![1, 2]), (false, vec![0, 1 << 63]), (false, vec![1]), (false, vec![1, 0, 0]), (false, vec![])];
-    for (is_image, words) in [(true, &words), (true, &of_states(65)), (false, &damaged), (false, &words[1..].to_vec()), (false, &Vec::new())] {
-        for length in [0, 1, LONGEST_TEXT, LONGEST_TEXT + 1] {
-            for (is_mask, mask) in &masks {
-                for place in [0, LAST_PLACE, LAST_PLACE + 1, u64::MAX] {
-                    let lent = Watch { mask: mask.clone(), place };
-                    let fits = u128::from(place) + length as u128 <= u128::from(LAST_PLACE);
-                    let wrong = [(!is_image, 6), (length > LONGEST_TEXT, 7), (!is_mask, 9), (!fits, 10)];
-                    let what = format!("image {is_image}, {length} bytes, mask {mask:?}, place {place}");
-                    match wrong.iter().find(|(is_wrong, _)| *is_wrong) {
-                        Some((_, number)) => checks.step(&what, words, &lent, &long[..length], &refused(*number, 3, &lent)),
-                        None => checks.step_beside(&what, words, &lent, &long[..length], 3),
-                    };
-                }
-            }
+    let images = [(true, &image[..]), (false, &damaged), (false, &image[1..]), (false, &[])];
+    let masks = [(true, &[1, 1][..]), (true, &[0, 0]), (false, &[1, 2]), (false, &[0, 1 << 63]), (false, &[1]), (false, &[1, 0, 0]), (false, &[])];
+    for (words, length) in images.iter().flat_map(|i| [0, 1, LONGEST_TEXT, LONGEST_TEXT + 1].map(|length| (i, length))) {
+        for (mask, place) in masks.iter().flat_map(|m| [0, LAST_PLACE, LAST_PLACE + 1, u64::MAX].map(|place| (m, place))) {
+            first_wrong(checks, *words, length, *mask, place);
         }
     }
+}
+
+/// One step of an image or not, so many bytes, a mask or not, a place: the first of 6, 7, 9, 10 that is wrong is given.
+fn first_wrong(checks: &mut Checks, (is_image, words): (bool, &[u64]), length: usize, (is_mask, mask): (bool, &[u64]), place: u64) {
+    let fits = u128::from(place) + length as u128 <= u128::from(LAST_PLACE);
+    let right = [(is_image, 6), (length <= LONGEST_TEXT, 7), (is_mask, 9), (fits, 10)];
+    let what = format!("image {is_image}, {length} bytes, mask {mask:x?}, place {place}");
+    let (lent, stretch) = (Watch { mask: mask.to_vec(), place }, vec![b'a'; length]);
+    match right.iter().find(|(is_right, _)| !is_right) {
+        Some((_, number)) => checks.step(&what, words, &lent, &stretch, &unmoved(*number, 3, &lent)),
+        None => checks.step_beside(&what, words, &lent, &stretch, 3),
+    };
 }
 
 /// Longer, just long enough, too short, none.

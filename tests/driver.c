@@ -208,14 +208,26 @@ static void put_signed(long n) {
     put_number((uint64_t)(n < 0 ? -n : n), 10);
 }
 
+static void put_outside(const char *what, int which) {
+    put_text("outside ");
+    put_text(what);
+    put_number((uint64_t)which, 10);
+}
+
 static int changed_outside(void) {
     for (int which = 0; which < givens; which++)
-        if (memcmp(given_at[which], copy_at[which], (size_t)(given[which].size * given[which].length)) != 0)
-            return put_text("outside given "), put_signed(which), 1;
+        if (memcmp(given_at[which], copy_at[which], (size_t)(given[which].size * given[which].length)) != 0) {
+            put_outside("given ", which);
+            return 1;
+        }
     for (int which = 0; which < lents; which++)
         for (long i = -GUARD, length = lent[which].length; i < length + GUARD; i = i == -1 ? length : i + 1)
-            if (get(lent[which], i) != pattern(lent[which], i))
-                return put_text("outside lent "), put_signed(which), put(' '), put_signed(i), 1;
+            if (get(lent[which], i) != pattern(lent[which], i)) {
+                put_outside("lent ", which);
+                put(' ');
+                put_signed(i);
+                return 1;
+            }
     return 0;
 }
 

@@ -14,7 +14,7 @@ pub use ends::ends;
 pub use image::{image, tree_of};
 pub use rules::parse;
 pub use states::{depth, states};
-pub use watch::{begin, step, Edges, Watch};
+pub use watch::{begin, step, Edges, Watch, LAST_PLACE};
 pub use writing::writing;
 
 #[derive(Clone, Copy, PartialEq, Eq, Debug)]

@@ -11,7 +11,7 @@ pub struct Watch {
 }
 
 /// The last place of the longest text.
-const LAST_PLACE: u64 = 4_294_967_295;
+pub const LAST_PLACE: u64 = 4_294_967_295;
 
 /// For each state whether it is live.
 type Live = Vec<bool>;

@@ -6,15 +6,13 @@ use crate::match_ends::{rule, LONGEST_TEXT};
 use crate::seen::Seen;
 use outside_checks::driver::{begin_call, step_call, Watched};
 use outside_checks::generate::Random;
-use outside_checks::independent::{depth, image, parse, states, step, Edges, Item, Watch};
+use outside_checks::independent::{depth, image, parse, states, step, Edges, Item, Watch, LAST_PLACE};
 use outside_checks::texts::text;
-
-/// The last place of the longest text.
-const LAST_PLACE: u64 = 4_294_967_295;
 
 pub fn all(checks: &mut Checks) {
     checks.part("watch: begin", begin);
-    checks.part("watch: every state's bit, and every other", bits);
+    checks.part("watch: every bit of a mask alone", bits);
+    checks.part("watch: every mask of small rules", every_mask);
     checks.part("watch: places", places);
     checks.part("watch: order of the checks", order);
     checks.part("watch: lists of ends", lists);
@@ -83,13 +81,22 @@ fn bits(checks: &mut Checks) {
                 checks.step_beside(&what, &words, &watch, b"a", 2);
             }
         }
-        for mask in [vec![0; width], (0..width).map(|w| u64::MAX >> (64 - (m - 64 * w).min(64))).collect()] {
-            let watch = Watch { mask, place: 0 };
-            checks.step(&format!("{m} states, none or all"), &words, &watch, b"", &unmoved(0, 2, &watch));
-            checks.step_beside(&format!("{m} states, none or all"), &words, &watch, b"aba", 2);
-        }
         for watch in other_widths(m).into_iter().flat_map(|w| [0, 1].map(|word| Watch { mask: vec![word; w], place: 0 })) {
             checks.step(&format!("{m} states, {} words", watch.mask.len()), &words, &watch, b"a", &unmoved(9, 2, &watch));
+        }
+    }
+}
+
+/// At place 0, closed or not, accepting or not: no bytes change nothing and are no end.
+fn every_mask(checks: &mut Checks) {
+    for rule in ["b?", "a*b?c+", "(a|b*)", "((a|b)|c?)"] {
+        let words = image_of(rule.as_bytes());
+        for mask in 0..1 << words[1] {
+            let (what, lent) = (format!("rule {rule}, mask {mask:x}"), Watch { mask: vec![mask], place: 0 });
+            checks.step(&what, &words, &lent, b"", &unmoved(0, 2, &lent));
+            for stretch in ["a", "bc", "cxa"] {
+                checks.step_beside(&what, &words, &lent, stretch.as_bytes(), 2);
+            }
         }
     }
 }

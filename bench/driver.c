@@ -2,7 +2,7 @@
 // driver ends WHICH FOLDER           writes the ends in the whole journal, one to a line
 // driver speed FOLDER                how fast the proved library is beside C, and beside Hyperscan or why not: more than 1 is faster
 //
-// WHICH is proved or c. FOLDER has the files image, text and rule (its plain writing) that tests/src/bin/speed.rs writes. The proved
+// WHICH is proved (match), step (a watch begun, and the journal as one stretch) or c. FOLDER has the files image, text and rule (its plain writing) that tests/src/bin/speed.rs writes. The proved
 // library's time is that of the whole call, the check of the image included.
 #define _POSIX_C_SOURCE 199309L
 #include "lavumbishe.h"
@@ -28,11 +28,21 @@ static const char *hyperscan_ready(void) { return "absent"; }
 static size_t hyperscan_run(void) { return 0; }
 #endif
 
-enum { PROVED, C, HYPERSCAN_ITSELF };
+enum { PROVED, C, HYPERSCAN_ITSELF, STEP };
 
-static int which_of(const char *name) { return strcmp(name, "proved") == 0 ? PROVED : C; }
+static int which_of(const char *name) { return strcmp(name, "proved") == 0 ? PROVED : strcmp(name, "step") == 0 ? STEP : C; }
+
+static size_t watch(void) {
+    uint64_t mask[LAVUMBISHE_MASK_WORDS], place;
+    size_t mask_len = lavumbishe_mask_len(image, words);
+    size_t first = lavumbishe_count(lavumbishe_begin(image, words, mask, mask_len, &place, ends, LAVUMBISHE_ENDS));
+    uint32_t *rest = ends + first;
+    return first + lavumbishe_count(lavumbishe_step(image, words, mask, mask_len, &place, text, length, rest, LAVUMBISHE_ENDS - first));
+}
 
 static size_t run(int which) {
+    if (which == STEP)
+        return watch();
     if (which == PROVED)
         return lavumbishe_count(lavumbishe_match(image, words, text, length, ends, LAVUMBISHE_ENDS));
     return which == C ? (size_t)baseline_run(image, words, text, length, ends, LAVUMBISHE_ENDS) : hyperscan_run();

@@ -1,5 +1,6 @@
 // One rule from the desk to the panel, that of examples/valve: the dosing valve is opened (O) twice with no flow (F) between. The desk builds its
-// image and reads it back for the inspector; the panel gets the image alone and looks for the rule in a journal, one byte for each event.
+// image and reads it back for the inspector; the panel gets the image alone and looks for the rule in a journal, one byte for each event: in the whole
+// of it, and as it arrives.
 #include "lavumbishe.h"
 #include <stdio.h>
 #include <string.h>
@@ -22,6 +23,8 @@ static int refused(const char *what, uint64_t result) {
         "these words are not the image of a rule",
         "the journal is longer than 65,535 bytes",
         "the plain writing does not fit",
+        "these words are not a mask of the rule",
+        "the journal is longer than 4,294,967,295 bytes",
     };
     printf("%s refused with %u: %s.\n", what, lavumbishe_number(result), why[lavumbishe_number(result)]);
     return 1;
@@ -54,8 +57,32 @@ static int panel(void) {
     return 0;
 }
 
+// The same journal five events at a time. What is kept between the calls is the mask and the place.
+static int arriving(void) {
+    static uint32_t ends[5];
+    uint64_t mask[LAVUMBISHE_MASK_WORDS], place;
+    size_t mask_len = lavumbishe_mask_len(image, image_len), length = strlen(journal);
+    uint64_t found = lavumbishe_begin(image, image_len, mask, mask_len, &place, ends, 5);
+    if (lavumbishe_number(found) != LAVUMBISHE_DONE)
+        return refused("Begin", found);
+    for (size_t at = 0; at < length; at += 5) {
+        size_t some = length - at < 5 ? length - at : 5;
+        found = lavumbishe_step(image, image_len, mask, mask_len, &place, (const uint8_t *)journal + at, some, ends, 5);
+        if (lavumbishe_number(found) != LAVUMBISHE_DONE)
+            return refused("Step", found);
+        printf("  %.*s arrives:", (int)some, journal + at);
+        for (size_t i = 0; i < lavumbishe_count(found); i++)
+            printf(" opened again after %u events", (unsigned)ends[i]);
+        printf("\n");
+    }
+    return 0;
+}
+
 int main(void) {
     if (desk() != 0 || panel() != 0)
+        return 1;
+    printf("The same journal as it arrives:\n");
+    if (arriving() != 0)
         return 1;
     // A word of the image goes wrong in the panel's memory: match says so and reports nothing.
     image[100] ^= 1;

@@ -1,4 +1,4 @@
-/* Lavumbishe for C and C++: build, read back and match.
+/* Lavumbishe for C and C++: build, read back and match, and the watch: begin and step.
  *
  * A rule becomes an image, tables of bit masks in 64-bit words. The image is what the panel stores and runs; the rule is not needed again. What
  * each function does is proved for every input, whatever the words and bytes are (docs/PROMISES.md); the rules' grammar is document 01's.
@@ -7,7 +7,7 @@
  *     uint64_t built = lavumbishe_build(rule, rule_len, image, LAVUMBISHE_IMAGE_WORDS);
  *     if (lavumbishe_number(built) != LAVUMBISHE_DONE)
  *         ...                                               refused: image is as it was
- *     size_t image_len = lavumbishe_count(built);           lend exactly these words to the other two
+ *     size_t image_len = lavumbishe_count(built);           lend exactly these words to the others
  *
  * examples/watch.c is a whole program. 'rt staticlib panel' makes the library, target/staticlib/libpanel.a, for x86-64 and the calls of C on Linux.
  *
@@ -18,8 +18,9 @@
  * What a caller provides:
  *  - Areas. Each is a pointer and a length in elements, not in bytes. The area to be written must not overlap one to be read. A
  *    pointer must be aligned for its type and must not be null, also where the length is 0.
- *  - Stack: 1 MiB for build, since the readers nest as deep as the rule's brackets may; 16 KiB for read back, 64 KiB for match. The
- *    tests measure some 802,000, 8,700 and 12,600 bytes on x86-64. Build may be left to the desk: a panel that gets images needs match alone.
+ *  - Stack: 1 MiB for build, since the readers nest as deep as the rule's brackets may; 16 KiB for read back, 64 KiB for match, begin and step. The
+ *    tests measure some 802,000, 8,700 and 14,900 bytes on x86-64. Build may be left to the desk: a panel that gets images needs match alone, or
+ *    begin and step.
  *  - memcpy, memmove and memset, which the compiler may call. Nothing else is called.
  *
  * No heap and no variable data outside the stack is used, so calls from several threads or from an interrupt are safe as long as none writes an
@@ -37,22 +38,25 @@ extern "C" {
 
 /* The numbers, in the order of the checks. */
 enum {
-    LAVUMBISHE_DONE = 0,            /* all:              done */
-    LAVUMBISHE_RULE_TOO_LONG = 1,   /* build:            the rule has more than 1,024 bytes */
-    LAVUMBISHE_NOT_A_RULE = 2,      /* build:            the rule is not in the grammar (a closing newline is enough) */
-    LAVUMBISHE_TOO_MANY_STATES = 3, /* build:            more than 512 states */
-    LAVUMBISHE_TOO_DEEP = 4,        /* build:            unions nested more than 8 deep */
-    LAVUMBISHE_IMAGE_NO_ROOM = 5,   /* build:            the image is longer than the words lent */
-    LAVUMBISHE_NOT_AN_IMAGE = 6,    /* read back, match: the words are not exactly the image of a rule */
-    LAVUMBISHE_TEXT_TOO_LONG = 7,   /* match:            the text has more than 65,535 bytes */
-    LAVUMBISHE_WRITING_NO_ROOM = 8  /* read back:        the plain writing is longer than the bytes lent */
+    LAVUMBISHE_DONE = 0,            /* all:                           done */
+    LAVUMBISHE_RULE_TOO_LONG = 1,   /* build:                         the rule has more than 1,024 bytes */
+    LAVUMBISHE_NOT_A_RULE = 2,      /* build:                         the rule is not in the grammar (a closing newline is enough) */
+    LAVUMBISHE_TOO_MANY_STATES = 3, /* build:                         more than 512 states */
+    LAVUMBISHE_TOO_DEEP = 4,        /* build:                         unions nested more than 8 deep */
+    LAVUMBISHE_IMAGE_NO_ROOM = 5,   /* build:                         the image is longer than the words lent */
+    LAVUMBISHE_NOT_AN_IMAGE = 6,    /* read back, match, begin, step: the words are not exactly the image of a rule */
+    LAVUMBISHE_TEXT_TOO_LONG = 7,   /* match, step:                   the text or the stretch has more than 65,535 bytes */
+    LAVUMBISHE_WRITING_NO_ROOM = 8, /* read back:                     the plain writing is longer than the bytes lent */
+    LAVUMBISHE_NOT_A_MASK = 9,      /* begin, step:                   not as many words as a mask has; step: or a bit that is no state's */
+    LAVUMBISHE_JOURNAL_FULL = 10    /* step:                          the place would pass 4,294,967,295 */
 };
 
-/* The largest sizes: every image fits into so many words, and no text has more ends than places, 0 to its length. */
+/* The largest sizes: every image fits into so many words and every mask into so many, and no text has more ends than places, 0 to its length. */
 enum {
     LAVUMBISHE_RULE_BYTES = 1024,
     LAVUMBISHE_TEXT_BYTES = 65535,
     LAVUMBISHE_IMAGE_WORDS = 4705,
+    LAVUMBISHE_MASK_WORDS = 8,
     LAVUMBISHE_ENDS = 65536
 };
 
@@ -73,6 +77,38 @@ uint64_t lavumbishe_read_back(const uint64_t *image, size_t image_len, uint8_t *
  * The image is checked in this same call, word by word, and then run from the very words that were checked: damaged memory gives 6 and not a wrong
  * end. Match answers for the rule whose image it is given, whether or not build made it. */
 uint64_t lavumbishe_match(const uint64_t *image, size_t image_len, const uint8_t *text, size_t text_len, uint32_t *ends, size_t ends_len);
+
+/* A watch: journals as they arrive, in stretches of any length up to 65,535 bytes, none among them.
+ *
+ *     uint64_t mask[LAVUMBISHE_MASK_WORDS], place;
+ *     size_t mask_len = lavumbishe_mask_len(image, image_len);
+ *     uint64_t found = lavumbishe_begin(image, image_len, mask, mask_len, &place, ends, ends_len);       once
+ *     found = lavumbishe_step(image, image_len, mask, mask_len, &place, stretch, stretch_len, ends, ends_len);   for each stretch
+ *
+ * What to keep between the calls: the words of the mask, and the place, nothing else. They may lie anywhere, go through a restart or move to another
+ * panel. However the journal was cut, the ends of all calls joined are those that match would find in the whole of it, as long as each call had room
+ * for its own and all calls had one image. A refusal leaves mask, place and ends as they were: the stretch was not read and can be given again.
+ *
+ * Begin puts the live states before any byte into the mask and 0 into the place. Numbers 0, 6, 9. The count is 1 if place 0 is an end (the rule can be
+ * empty), which is then written if there is room, and else 0; no step reports it again.
+ *
+ * Step reads one stretch. Numbers 0, 6, 7, 9, 10. Mask and place go on; the count is the total of ends in this stretch, and written are the first that
+ * fit, as places of the whole journal, from *place + 1 on. With room for stretch_len ends none is lost.
+ *
+ * The image is checked in every call, which costs as much as some hundred bytes: stretches of a few hundred bytes or more are cheapest. The mask is
+ * only checked for having no bit past the image's states; a step goes on from whatever states it has, so keep it as safe as the image.
+ *
+ * After 10 the place can't count further, but the mask can go on: note the place, set it to 0 and give the stretch again. Nothing is missed; places
+ * then count from there. */
+uint64_t lavumbishe_begin(const uint64_t *image, size_t image_len, uint64_t *mask, size_t mask_len, uint64_t *place, uint32_t *ends, size_t ends_len);
+
+uint64_t lavumbishe_step(const uint64_t *image, size_t image_len, uint64_t *mask, size_t mask_len, uint64_t *place, const uint8_t *stretch,
+                         size_t stretch_len, uint32_t *ends, size_t ends_len);
+
+/* How many words a mask of this image has, 1 to 8: lend begin and step exactly so many. Words that are no image give some number up to 8. */
+static inline size_t lavumbishe_mask_len(const uint64_t *image, size_t image_len) {
+    return image_len > 2 && image[2] <= LAVUMBISHE_MASK_WORDS ? (size_t)image[2] : 0;
+}
 
 /* The two halves of a result. */
 static inline unsigned lavumbishe_number(uint64_t result) { return (unsigned)(result >> 32); }

@@ -7,13 +7,9 @@ use lib.ListN.{length}
 use Rattle.model.specs.Models.Apart.{depthWord}
 use Rattle.model.specs.Models.Run.{Masks}
 use Rattle.word.specs.Ends.{Limits, RanOver}
-use Rattle.word.specs.One.{Entered, NoChain, tableMasks}
-use Rattle.word.specs.declared.stretch.Chain.{Chain}
+use Rattle.word.specs.One.{Entered, NoChain}
 use Rattle.word.specs.declared.stretch.From.{From}
 use Rattle.word.specs.declared.stretch.Ran.{Ran}
-
-abbrev pub workMasks : List ℕ → Bool → Chain → List ℕ → Masks
-workMasks ws any chain table = tableMasks ws any (chain .block) (chain .below) (chain .target) table
 
 -- what a stretch leads to on masks of one word
 abbrev pub RanFrom : Masks → (d last : ℕ) (stretch : List ℕ) → From → (before : List ℕ) → Ran → (after : List ℕ) → Type 0

@@ -7,10 +7,12 @@ ghost use mathlib.Core.Bool.{false, true};
 ghost use mathlib.Core.List.{[], _∷_};
 ghost use mathlib.Core.Path.{_≡_};
 ghost use Prim.Native.Nat.{_≤_, _<_};
+ghost use lib.ListN.{length};
 ghost use Rattle.model.specs.Bits.{bit};
 ghost use Rattle.model.specs.Models.Words.{value};
-ghost use Rattle.word.specs.One.{oneMasks};
-ghost use Rattle.word.specs.Stretch.{Chosen, Overs, RanFrom, workMasks};
+ghost use Rattle.word.specs.One.{oneMasks, tableMasks};
+ghost use Rattle.word.specs.Ends.{Limits, RanOver};
+ghost use Rattle.word.specs.Stretch.{Chosen, Overs, RanFrom};
 
 // Where a stretch begins: the live states, the place in the whole text, and how many ends were found before.
 pub struct From {
@@ -25,13 +27,6 @@ pub struct Ran {
     pub total: u64,
 }
 
-// The masks of depth 0's own chains, the source less one.
-struct Chain {
-    block: u64,
-    below: u64,
-    target: u64,
-}
-
 pub fn is_live(live: u64, state: usize) -> bool
     requires { ⌜ state < 64 ⌝ }
     ensures { λ r. ⌜ r ≡ bit (value (live ∷ [])) state ⌝ }
@@ -43,35 +38,30 @@ pub fn is_live(live: u64, state: usize) -> bool
 fn over(
     image: &[u64],
     stretch: &[u8],
-    places: &mut [u32],
-    from: From,
+    ends: &mut [u32],
+    first: u64,
+    place: u64,
+    found: usize,
     last: usize,
     depth: usize,
     any: bool,
-    chain: Chain,
+    block: u64,
+    below: u64,
+    target: u64,
     table: &[u64; 81],
 ) -> Ran
-    requires { ⌜ Overs (now image) (now stretch) from last × (depth ≤ 8) ⌝ }
-    ensures { λ r. ⌜ RanFrom (workMasks (now (image .entry)) any chain (now (table .entry))) depth last (now (stretch .entry)) from
-        (now (places .entry)) r (now (places .exit)) ⌝ }
+    requires { ⌜ (518 ≤ length (now image)) × (last < 64) × (depth ≤ 8) × Limits place found (now stretch) ⌝ }
+    ensures { λ r. ⌜ RanOver (tableMasks (now (image .entry)) any block below target (now (table .entry))) 1 depth last place found (now (stretch .entry)) (first ∷ [])
+        (now (ends .entry)) (r .live ∷ []) (r .total) (now (ends .exit)) ⌝ }
 {
-    let place = from.place;
-    let block = chain.block;
-    let below = chain.below;
-    let target = chain.target;
-    let mut live = from.live;
-    let mut total = from.found;
+    let mut live = first;
+    let mut total = found;
     let mut p: usize = 0;
     while p < stretch.len() {
         let on = moved(live, image, stretch[p]);
         live = pass(on, depth, any, block, below, target, table);
         p += 1;
-        total = note(
-            places,
-            total,
-            (place + p as u64) as u32,
-            is_live(live, last),
-        );
+        total = note(ends, total, (place + p as u64) as u32, is_live(live, last));
     }
     Ran {
         live,
@@ -83,88 +73,168 @@ fn over(
 fn over_0(
     image: &[u64],
     stretch: &[u8],
-    places: &mut [u32],
+    ends: &mut [u32],
     from: From,
     last: usize,
-    chain: Chain,
+    block: u64,
+    below: u64,
+    target: u64,
     table: &[u64; 81],
 ) -> Ran
     requires { ⌜ Overs (now image) (now stretch) from last ⌝ }
-    ensures { λ r. ⌜ RanFrom (workMasks (now (image .entry)) true chain (now (table .entry))) 0 last (now (stretch .entry)) from
-        (now (places .entry)) r (now (places .exit)) ⌝ }
+    ensures { λ r. ⌜ RanFrom (tableMasks (now (image .entry)) true block below target (now (table .entry))) 0 last (now (stretch .entry)) from
+        (now (ends .entry)) r (now (ends .exit)) ⌝ }
 {
-    over(image, stretch, places, from, last, 0, true, chain, table)
+    over(
+        image,
+        stretch,
+        ends,
+        from.live,
+        from.place,
+        from.found,
+        last,
+        0,
+        true,
+        block,
+        below,
+        target,
+        table,
+    )
 }
 
 fn over_0_plain(
     image: &[u64],
     stretch: &[u8],
-    places: &mut [u32],
+    ends: &mut [u32],
     from: From,
     last: usize,
-    chain: Chain,
+    block: u64,
+    below: u64,
+    target: u64,
     table: &[u64; 81],
 ) -> Ran
     requires { ⌜ Overs (now image) (now stretch) from last ⌝ }
-    ensures { λ r. ⌜ RanFrom (workMasks (now (image .entry)) false chain (now (table .entry))) 0 last (now (stretch .entry)) from
-        (now (places .entry)) r (now (places .exit)) ⌝ }
+    ensures { λ r. ⌜ RanFrom (tableMasks (now (image .entry)) false block below target (now (table .entry))) 0 last (now (stretch .entry)) from
+        (now (ends .entry)) r (now (ends .exit)) ⌝ }
 {
-    over(image, stretch, places, from, last, 0, false, chain, table)
+    over(
+        image,
+        stretch,
+        ends,
+        from.live,
+        from.place,
+        from.found,
+        last,
+        0,
+        false,
+        block,
+        below,
+        target,
+        table,
+    )
 }
 
 fn over_1(
     image: &[u64],
     stretch: &[u8],
-    places: &mut [u32],
+    ends: &mut [u32],
     from: From,
     last: usize,
-    chain: Chain,
+    block: u64,
+    below: u64,
+    target: u64,
     table: &[u64; 81],
 ) -> Ran
     requires { ⌜ Overs (now image) (now stretch) from last ⌝ }
-    ensures { λ r. ⌜ RanFrom (workMasks (now (image .entry)) true chain (now (table .entry))) 1 last (now (stretch .entry)) from
-        (now (places .entry)) r (now (places .exit)) ⌝ }
+    ensures { λ r. ⌜ RanFrom (tableMasks (now (image .entry)) true block below target (now (table .entry))) 1 last (now (stretch .entry)) from
+        (now (ends .entry)) r (now (ends .exit)) ⌝ }
 {
-    over(image, stretch, places, from, last, 1, true, chain, table)
+    over(
+        image,
+        stretch,
+        ends,
+        from.live,
+        from.place,
+        from.found,
+        last,
+        1,
+        true,
+        block,
+        below,
+        target,
+        table,
+    )
 }
 
 fn over_1_plain(
     image: &[u64],
     stretch: &[u8],
-    places: &mut [u32],
+    ends: &mut [u32],
     from: From,
     last: usize,
-    chain: Chain,
+    block: u64,
+    below: u64,
+    target: u64,
     table: &[u64; 81],
 ) -> Ran
     requires { ⌜ Overs (now image) (now stretch) from last ⌝ }
-    ensures { λ r. ⌜ RanFrom (workMasks (now (image .entry)) false chain (now (table .entry))) 1 last (now (stretch .entry)) from
-        (now (places .entry)) r (now (places .exit)) ⌝ }
+    ensures { λ r. ⌜ RanFrom (tableMasks (now (image .entry)) false block below target (now (table .entry))) 1 last (now (stretch .entry)) from
+        (now (ends .entry)) r (now (ends .exit)) ⌝ }
 {
-    over(image, stretch, places, from, last, 1, false, chain, table)
+    over(
+        image,
+        stretch,
+        ends,
+        from.live,
+        from.place,
+        from.found,
+        last,
+        1,
+        false,
+        block,
+        below,
+        target,
+        table,
+    )
 }
 
 fn over_2(
     image: &[u64],
     stretch: &[u8],
-    places: &mut [u32],
+    ends: &mut [u32],
     from: From,
     last: usize,
-    chain: Chain,
+    block: u64,
+    below: u64,
+    target: u64,
     table: &[u64; 81],
 ) -> Ran
     requires { ⌜ Overs (now image) (now stretch) from last ⌝ }
-    ensures { λ r. ⌜ RanFrom (workMasks (now (image .entry)) true chain (now (table .entry))) 2 last (now (stretch .entry)) from
-        (now (places .entry)) r (now (places .exit)) ⌝ }
+    ensures { λ r. ⌜ RanFrom (tableMasks (now (image .entry)) true block below target (now (table .entry))) 2 last (now (stretch .entry)) from
+        (now (ends .entry)) r (now (ends .exit)) ⌝ }
 {
-    over(image, stretch, places, from, last, 2, true, chain, table)
+    over(
+        image,
+        stretch,
+        ends,
+        from.live,
+        from.place,
+        from.found,
+        last,
+        2,
+        true,
+        block,
+        below,
+        target,
+        table,
+    )
 }
 
-// The loop is chosen once, before the stretch. The table is copied: no store through `places` can change the copy, so the compiler reads it once.
+// The loop is chosen once, before the stretch. The table is copied: no store through `ends` can change the copy, so the compiler reads it once.
 pub fn run_over(
     image: &[u64],
     stretch: &[u8],
-    places: &mut [u32],
+    ends: &mut [u32],
     from: From,
     last: usize,
     depth: usize,
@@ -172,28 +242,40 @@ pub fn run_over(
     table: &[u64; 81],
 ) -> Ran
     requires { ⌜ Chosen (now image) (now stretch) from last depth any (now table) ⌝ }
-    ensures { λ r. ⌜ RanFrom (oneMasks (now (image .entry))) depth last (now (stretch .entry)) from (now (places .entry)) r (now (places .exit)) ⌝ }
+    ensures { λ r. ⌜ RanFrom (oneMasks (now (image .entry))) depth last (now (stretch .entry)) from (now (ends .entry)) r (now (ends .exit)) ⌝ }
 {
-    let work = *table;
-    let chain = Chain {
-        block: work[6],
-        below: work[7],
-        target: work[8],
-    };
+    let t = *table;
+    let block = t[6];
+    let below = t[7];
+    let target = t[8];
     if depth == 0 {
         if any {
-            return over_0(image, stretch, places, from, last, chain, &work);
+            return over_0(image, stretch, ends, from, last, block, below, target, &t);
         }
-        return over_0_plain(image, stretch, places, from, last, chain, &work);
+        return over_0_plain(image, stretch, ends, from, last, block, below, target, &t);
     }
     if depth == 1 {
         if any {
-            return over_1(image, stretch, places, from, last, chain, &work);
+            return over_1(image, stretch, ends, from, last, block, below, target, &t);
         }
-        return over_1_plain(image, stretch, places, from, last, chain, &work);
+        return over_1_plain(image, stretch, ends, from, last, block, below, target, &t);
     }
     if depth == 2 {
-        return over_2(image, stretch, places, from, last, chain, &work);
+        return over_2(image, stretch, ends, from, last, block, below, target, &t);
     }
-    over(image, stretch, places, from, last, depth, any, chain, &work)
+    over(
+        image,
+        stretch,
+        ends,
+        from.live,
+        from.place,
+        from.found,
+        last,
+        depth,
+        any,
+        block,
+        below,
+        target,
+        &t,
+    )
 }

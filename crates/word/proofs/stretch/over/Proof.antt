@@ -6,46 +6,41 @@ use native.Mathlib.Omega.{arith}
 use lib.ListN.{length}
 use Rattle.model.specs.Models.Run.{passWords}
 use Rattle.word.specs.One.{tableMasks}
-use Rattle.word.specs.Stretch.{workMasks}
 use Rattle.word.proofs.Laws.Stretch.{at-end, at-next, Since, since-now}
 use borrow.Author.Needs.{needs}
 use Rattle.word.proofs.stretch.over.Statement.{statement}
 use Rattle.word.proofs.stretch.over.Tie as tie
 
 abbrev Inv-loop : tie.InvT-loop
-Inv-loop image stretch places₀ last depth any table place block below target live₀ total₀ p₀ places live total p =
-    Since (tableMasks image any block below target table) depth last place stretch places₀ (live₀ ∷ []) total₀ 0 places (live ∷ []) total p
+Inv-loop image stretch ends₀ first place found last depth any block below target table live₀ total₀ p₀ ends live total p =
+    Since (tableMasks image any block below target table) depth last place stretch ends₀ (live₀ ∷ []) total₀ 0 ends (live ∷ []) total p
 
 abbrev μ-loop : tie.MeasureT-loop
-μ-loop image stretch places₀ last depth any table place block below target live₀ total₀ p₀ places live total p = length stretch - p
+μ-loop image stretch ends₀ first place found last depth any block below target table live₀ total₀ p₀ ends live total p = length stretch - p
 
 loop-holds : tie.Need-loop-holds Inv-loop μ-loop
-loop-holds c =
-    let s = c .before .before .before in
-    let a = s .args in
-    since-now (workMasks (a .image .now) (a .any) (a .chain) (a .table .now)) (a .depth) (a .last) (a .from .place) (a .stretch .now) (a .places .now) (a .from .live ∷ [])
-    (a .from .found) 0 (omega arith) (omega (arith, s .pre .0 .limits .few))
+loop-holds c = since-now _ _ _ _ _ _ _ _ 0 (omega arith) (omega (arith, c .before .before .before .pre .3 .few))
 
 shared-slice-read-moved : tie.Need-shared-slice-read-moved Inv-loop μ-loop
 shared-slice-read-moved c = search needs
 
 moved-requires : tie.Need-moved-requires Inv-loop μ-loop
-moved-requires c κs = c .before .before .before .before .before .before .pre .0 .long
+moved-requires c κs = c .before .before .before .before .before .before .pre .0
 
 pass-requires : tie.Need-pass-requires Inv-loop μ-loop
-pass-requires c κs = c .before .before .before .before .before .before .before .pre .1
+pass-requires c κs = c .before .before .before .before .before .before .before .pre .2
 
 add-p : tie.Need-add-p Inv-loop μ-loop
-add-p c = omega (arith, c .before .before .before .loop-test .taken, c .before .before .before .before .before .before .before .before .pre .0 .limits .small)
+add-p c = omega (arith, c .before .before .before .loop-test .taken, c .before .before .before .before .before .before .before .before .pre .3 .small)
 
 add-note : tie.Need-add-note Inv-loop μ-loop
-add-note c = omega (arith, c .before .before .before .before .loop-test .taken, c .before .before .before .before .before .before .before .before .before .pre .0 .limits .near)
+add-note c = omega (arith, c .before .before .before .before .loop-test .taken, c .before .before .before .before .before .before .before .before .before .pre .3 .near)
 
 cast-note : tie.Need-cast-note Inv-loop μ-loop
-cast-note c = omega (arith, c .before .before .before .before .loop-test .taken, c .before .before .before .before .before .before .before .before .before .pre .0 .limits .near)
+cast-note c = omega (arith, c .before .before .before .before .loop-test .taken, c .before .before .before .before .before .before .before .before .before .pre .3 .near)
 
 is-live-requires : tie.Need-is-live-requires Inv-loop μ-loop
-is-live-requires c κs = c .before .before .before .before .before .before .before .before .before .pre .0 .few
+is-live-requires c κs = c .before .before .before .before .before .before .before .before .before .pre .1
 
 note-requires : tie.Need-note-requires Inv-loop μ-loop
 note-requires c κs = search needs
@@ -62,19 +57,15 @@ loop-again c =
     let t = m .before .before in
     let s = t .before .before .before .before .before in
     let a = s .args in
-    let M = workMasks (a .image .now) (a .any) (a .chain) (a .table .now) in
-    at-next M (a .depth) (a .last) (a .from .place) (a .stretch .now) (s .pre .0 .limits .small) (q .pass .result ∷ []) (t .before .loop .inv) (t .loop-test .taken)
-    (q .pass .ensures (a .image .now) ∙ ap (passWords M (a .depth)) (m .moved .ensures)) (h .is-live .result) (h .is-live .ensures) (n .note .ensures .0) (n .note .ensures .1)
+    at-next _ _ _ _ _ (s .pre .3 .small) (q .pass .result ∷ []) (t .before .loop .inv) (t .loop-test .taken)
+    (q .pass .ensures (a .image .now) ∙ ap (passWords (tableMasks (a .image .now) (a .any) (a .block) (a .below) (a .target) (a .table .now)) (a .depth)) (m .moved .ensures)) (h .is-live .result) (h .is-live .ensures)
+    (n .note .ensures .0) (n .note .ensures .1)
 
 same-length : tie.Need-same-length Inv-loop μ-loop
 same-length c = c .before .loop .inv .long
 
 returns : tie.Need-returns Inv-loop μ-loop
-returns c =
-    let l = c .before .loop in
-    let a = c .before .before .before .before .before .args in
-    at-end (workMasks (a .image .now) (a .any) (a .chain) (a .table .now)) (a .depth) (a .last) (a .from .place) (a .stretch .now) 1 (a .from .found) (a .places .now) (a .from .live ∷ [])
-    (l .live ∷ []) (l .inv) (c .loop-test .left)
+returns c = let l = c .before .loop in at-end _ _ _ _ _ 1 _ _ _ (l .live ∷ []) (l .inv) (c .loop-test .left)
 
 pub over-spec : {M : Type 1} → statement M
 over-spec =

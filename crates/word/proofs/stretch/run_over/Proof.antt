@@ -8,14 +8,14 @@ use borrow.Author.Needs.{needs}
 use Rattle.word.proofs.stretch.run_over.Statement.{statement}
 use Rattle.word.proofs.stretch.run_over.Tie as tie
 
-array-read-t14 : tie.Need-array-read-t14
-array-read-t14 c = search needs
+array-read-block : tie.Need-array-read-block
+array-read-block c = search needs
 
-array-read-t17 : tie.Need-array-read-t17
-array-read-t17 c = search needs
+array-read-below : tie.Need-array-read-below
+array-read-below c = search needs
 
-array-read-t20 : tie.Need-array-read-t20
-array-read-t20 c = search needs
+array-read-target : tie.Need-array-read-target
+array-read-target c = search needs
 
 over-0-requires : tie.Need-over-0-requires
 over-0-requires c κs = c .before .before .before .before .before .before .before .before .pre .overs
@@ -88,7 +88,7 @@ returns-5 c =
     chosen (s .pre) (λ i. w i .fits) (all-bytes (s .args .stretch .now) (λ i. omega (arith, b i))) true (λ e. absurd (never e)) 2 (c .before .before .before .before .before .if5 .taken) (r .result) (r .ensures)
 
 over-requires : tie.Need-over-requires
-over-requires c κs = let s = c .before .before .before .before .before .before .before .before .before in (s .pre .overs, s .pre .shallow)
+over-requires c κs = let s = c .before .before .before .before .before .before .before .before .before in (s .pre .overs .long, s .pre .overs .few, s .pre .shallow, s .pre .overs .limits)
 
 same-length-6 : tie.Need-same-length-6
 same-length-6 c = search needs
@@ -105,9 +105,9 @@ pub run-over-spec : {M : Type 1} → statement M
 run-over-spec =
     tie.close
     (tie.spec
-    array-read-t14
-    array-read-t17
-    array-read-t20
+    array-read-block
+    array-read-below
+    array-read-target
     over-0-requires
     same-length
     returns

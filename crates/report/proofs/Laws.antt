@@ -1,5 +1,3 @@
--- Numbers: how a number is written. Puts: what is put after what was put. Stages: from an operation's answer to the text. Short: how long a text can be.
-pub mod Numbers
-pub mod Puts
+-- Stages: from an operation's answer to the text. Short: how long a text can be.
 pub mod Stages
 pub mod Short

@@ -1,50 +1,27 @@
 // What the desk program writes (document 01, "The desk program"), from the bytes of its two files: every check is made before the first byte is written.
-mod lines;
-
-use crate::lines::put_line;
-use crate::lines::put_number;
-use crate::lines::put_total;
-use crate::lines::refuse;
+use lines::put_ends;
+use lines::put_line;
+use lines::put_total;
+use lines::refuse;
 use watcher::Built;
 use watcher::Matched;
 use watcher::build;
 use watcher::match_ends;
 use watcher::read_back;
 use writing::Written;
-ghost use mathlib.Core.Path.{_≡_};
-ghost use Prim.Native.Nat.{ℕ, _≤_, _<_, min};
-ghost use lib.ListN.{getD, length};
-ghost use Rattle.report.specs.Desk.{DeskSays, endLines, foundText, Matches, ReadsBack, Reports};
-ghost use Rattle.report.specs.Work.{PutAt};
-
-fn least(a: usize, b: usize) -> usize
-    ensures { λ r. ⌜ r ≡ min a b ⌝ }
-{
-    if a < b { a } else { b }
-}
-
-// A line for each end.
-fn put_ends(text: &mut [u8], at: usize, ends: &[u32]) -> usize
-    requires { ⌜ (at ≤ 20000) × (length (now ends) ≤ 1000) × ((i : ℕ) → getD (now ends) i 0 < 100000) ⌝ }
-    ensures { λ r. ⌜ PutAt (endLines (now (ends .entry))) (now (text .entry)) at r (now (text .exit)) ⌝ }
-{
-    let mut next = at;
-    let mut i: usize = 0;
-    while i < ends.len() {
-        next = put_number(text, next, ends[i] as u64);
-        i += 1;
-    }
-    next
-}
+ghost use Prim.Native.Nat.{_≤_};
+ghost use lib.ListN.{length, take};
+ghost use Rattle.lines.specs.Lines.{Reports};
+ghost use Rattle.lines.specs.Work.{Puts};
+ghost use Rattle.report.specs.Desk.{DeskSays, foundText, Matches, ReadsBack};
 
 // The three parts of the text, once no check is left that could refuse.
 fn put_found(text: &mut [u8], writing: &[u8], total: usize, ends: &[u32]) -> usize
-    requires { ⌜ (length (now writing) ≤ 16384) × (total < 100000) × (length (now ends) ≤ 1000) × ((i : ℕ) → getD (now ends) i 0 < 100000) ⌝ }
-    ensures { λ r. ⌜ PutAt (foundText (now (writing .entry)) total (now (ends .entry))) (now (text .entry)) 0 r (now (text .exit)) ⌝ }
+    ensures { λ r. ⌜ Puts (foundText (now (writing .entry)) total (take total (now (ends .entry)))) (now (text .entry)) 0 r (now (text .exit)) ⌝ }
 {
     let first = put_line(text, 0, writing);
     let second = put_total(text, first, total as u64);
-    put_ends(text, second, ends)
+    put_ends(text, second, ends, total)
 }
 
 // Match, with room for 1,000 ends.
@@ -57,7 +34,7 @@ fn report_ends(image: &[u64], journal: &[u8], writing: &[u8], text: &mut [u8]) -
     match matched {
         Matched::NotAnImage => refuse(text, 6),
         Matched::TextTooLong => refuse(text, 7),
-        Matched::Done(total) => put_found(text, writing, total, &ends[..least(total, 1000)]),
+        Matched::Done(total) => put_found(text, writing, total, &ends),
     }
 }
 

@@ -4,7 +4,7 @@ use native.Mathlib.Omega.{arith}
 use borrow.Author.Needs.{needs}
 use Rattle.watcher.specs.Answers.{builtAnswer}
 use Rattle.watcher.specs.declared.Built.{Built}
-use Rattle.report.proofs.Laws.Puts.{reports}
+use Rattle.lines.proofs.Laws.Puts.{reports}
 use Rattle.report.proofs.Laws.Stages.{build-refused, image-first, image-goes-on}
 use Rattle.report.proofs.report.Statement.{statement}
 use Rattle.report.proofs.report.Tie as tie
@@ -19,31 +19,31 @@ enum-told : tie.Need-enum-told
 enum-told c = search needs
 
 refuse-requires : tie.Need-refuse-requires
-refuse-requires c κs = omega arith
+refuse-requires c κs = search needs
 
 enum-told-2 : tie.Need-enum-told-2
 enum-told-2 c = search needs
 
 refuse-requires-2 : tie.Need-refuse-requires-2
-refuse-requires-2 c κs = omega arith
+refuse-requires-2 c κs = search needs
 
 enum-told-3 : tie.Need-enum-told-3
 enum-told-3 c = search needs
 
 refuse-requires-3 : tie.Need-refuse-requires-3
-refuse-requires-3 c κs = omega arith
+refuse-requires-3 c κs = search needs
 
 enum-told-4 : tie.Need-enum-told-4
 enum-told-4 c = search needs
 
 refuse-requires-4 : tie.Need-refuse-requires-4
-refuse-requires-4 c κs = omega arith
+refuse-requires-4 c κs = search needs
 
 enum-told-5 : tie.Need-enum-told-5
 enum-told-5 c = search needs
 
 refuse-requires-5 : tie.Need-refuse-requires-5
-refuse-requires-5 c κs = omega arith
+refuse-requires-5 c κs = search needs
 
 enum-known-built : tie.Need-enum-known-built
 enum-known-built c = search needs

@@ -2,10 +2,11 @@
 use mathlib.Core.Path.{ap}
 use native.Mathlib.Omega.{arith}
 use borrow.Author.Needs.{needs}
+use Rattle.lines.proofs.Laws.Puts.{reports}
 use Rattle.watcher.specs.Answers.{matchedAnswer}
 use Rattle.watcher.specs.declared.Matched.{Matched}
-use Rattle.report.proofs.Laws.Puts.{reports}
-use Rattle.report.proofs.Laws.Stages.{done-shown, match-refused}
+use Rattle.report.proofs.Laws.Short.{matches-short}
+use Rattle.report.proofs.Laws.Stages.{match-found, match-refused}
 use Rattle.report.proofs.report_ends.Statement.{statement}
 use Rattle.report.proofs.report_ends.Tie as tie
 
@@ -19,36 +20,22 @@ enum-told : tie.Need-enum-told
 enum-told c = search needs
 
 refuse-requires : tie.Need-refuse-requires
-refuse-requires c κs = omega arith
+refuse-requires c κs = search needs
 
 enum-told-2 : tie.Need-enum-told-2
 enum-told-2 c = search needs
 
 refuse-requires-2 : tie.Need-refuse-requires-2
-refuse-requires-2 c κs = omega arith
+refuse-requires-2 c κs = search needs
 
 enum-known-matched : tie.Need-enum-known-matched
 enum-known-matched c = search needs
 
-least-requires : tie.Need-least-requires
-least-requires c κs = search needs
-
-array-share-prefix-ends : tie.Need-array-share-prefix-ends
-array-share-prefix-ends c = omega (arith, c .least .ensures, c .before .before .before .before .before .before .match-ends .kept .1 .1 .0)
-
 slice-aggregate-put-found : tie.Need-slice-aggregate-put-found
-slice-aggregate-put-found c =
-    let m = c .before .before .before .before .before .before .before .match-ends in
-    let s = done-shown (c .before .before .before .before .before .before .before .before .before .before .before .before .before .args .writing .now) (m .ensures)
-    (c .before .before .before .before .matched .given .1) (m .kept .1 .1 .0) (c .before .least .ensures) in
-    s .counted
+slice-aggregate-put-found c = search needs
 
 put-found-requires : tie.Need-put-found-requires
-put-found-requires c κs =
-    let m = c .before .before .before .before .before .before .before .match-ends in
-    let b = c .before .before .before .before .before .before .before .before .before .before .before .before .before in
-    let s = done-shown (b .args .writing .now) (m .ensures) (c .before .before .before .before .matched .given .1) (m .kept .1 .1 .0) (c .before .least .ensures) in
-    (b .pre, s .total-small, s .few, s .places-small)
+put-found-requires c κs = search needs
 
 same-length : tie.Need-same-length
 same-length c = search needs
@@ -73,10 +60,11 @@ same-length-3 c = search needs
 
 returns-3 : tie.Need-returns-3
 returns-3 c =
-    let m = c .before .before .before .before .before .before .before .before .before .before .match-ends in
-    let s = done-shown (c .before .before .before .before .before .before .before .before .before .before .before .before .before .before .before .before .args .writing .now) (m .ensures)
-    (c .before .before .before .before .before .before .before .matched .given .1) (m .kept .1 .1 .0) (c .before .before .before .before .least .ensures) in
-    reports (c .before .before .put-found .ensures) (s .text)
+    let d = c .before .before .before .before .before .before in
+    let m = d .before .before .before .match-ends in
+    let s = d .before .before .before .before .before .before .before .before .before in
+    let text = match-found (s .args .writing .now) (m .result) (m .last .1 .1 .0) (m .ensures) (d .matched .given .1) in
+    reports (c .before .before .put-found .ensures (omega (arith, matches-short (s .pre) text))) text
 
 pub report-ends-spec : {M : Type 1} → statement M
 report-ends-spec =
@@ -89,8 +77,6 @@ report-ends-spec =
     enum-told-2
     refuse-requires-2
     enum-known-matched
-    least-requires
-    array-share-prefix-ends
     slice-aggregate-put-found
     put-found-requires
     same-length

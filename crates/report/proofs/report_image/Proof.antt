@@ -4,7 +4,7 @@ use native.Mathlib.Omega.{arith}
 use borrow.Author.Needs.{needs}
 use Rattle.writing.specs.Says.{writtenAnswer}
 use Rattle.writing.specs.declared.Written.{Written}
-use Rattle.report.proofs.Laws.Puts.{reports}
+use Rattle.lines.proofs.Laws.Puts.{reports}
 use Rattle.report.proofs.Laws.Stages.{read-back-refused, writing-few, writing-first, writing-goes-on}
 use Rattle.report.proofs.report_image.Statement.{statement}
 use Rattle.report.proofs.report_image.Tie as tie
@@ -19,13 +19,13 @@ enum-told : tie.Need-enum-told
 enum-told c = search needs
 
 refuse-requires : tie.Need-refuse-requires
-refuse-requires c κs = omega arith
+refuse-requires c κs = search needs
 
 enum-told-2 : tie.Need-enum-told-2
 enum-told-2 c = search needs
 
 refuse-requires-2 : tie.Need-refuse-requires-2
-refuse-requires-2 c κs = omega arith
+refuse-requires-2 c κs = search needs
 
 enum-known-written : tie.Need-enum-known-written
 enum-known-written c = search needs

@@ -1,18 +1,17 @@
 -- The bytes, and byte 10 after them.
-use native.Mathlib.Omega.{arith}
 use borrow.Author.Needs.{needs}
-use Rattle.report.proofs.Laws.Puts.{put-then}
-use Rattle.report.proofs.lines.put_line.Statement.{statement}
-use Rattle.report.proofs.lines.put_line.Tie as tie
+use Rattle.lines.proofs.Laws.Puts.{put-then}
+use Rattle.lines.proofs.put_line.Statement.{statement}
+use Rattle.lines.proofs.put_line.Tie as tie
 
 put-requires : tie.Need-put-requires
-put-requires c κs = omega (arith, c .before .before .before .pre)
+put-requires c κs = search needs
 
 slice-aggregate-put : tie.Need-slice-aggregate-put
 slice-aggregate-put c = search needs
 
 put-requires-2 : tie.Need-put-requires-2
-put-requires-2 c κs = omega (arith, c .before .before .before .before .put .ensures .place, c .before .before .before .before .before .before .before .before .pre)
+put-requires-2 c κs = search needs
 
 same-length : tie.Need-same-length
 same-length c = search needs

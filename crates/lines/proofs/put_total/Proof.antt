@@ -1,8 +1,8 @@
 -- The word `total `, and the number after it.
 use borrow.Author.Needs.{needs}
-use Rattle.report.proofs.Laws.Puts.{put-then}
-use Rattle.report.proofs.lines.put_total.Statement.{statement}
-use Rattle.report.proofs.lines.put_total.Tie as tie
+use Rattle.lines.proofs.Laws.Puts.{put-then}
+use Rattle.lines.proofs.put_total.Statement.{statement}
+use Rattle.lines.proofs.put_total.Tie as tie
 
 slice-aggregate-put : tie.Need-slice-aggregate-put
 slice-aggregate-put c = search needs

@@ -1,0 +1,26 @@
+-- WHAT WAS PUT INTO A ROOM: the room stays as long as it was, and what is said of all that was found, and of the room before, is said of what lies in it.
+use mathlib.Core.Path.{_≡_, sym, ap, _∙_, subst}
+use mathlib.Core.List.{List}
+use Prim.Native.Nat.{ℕ, zero, suc}
+use lib.ListN.{drop, length, replicate, take, take-append-drop}
+use lib.Seq.{length-sets}
+use Rattle.model.specs.Answers.{done}
+use Rattle.model.specs.Lists.{All}
+use Rattle.model.proofs.Laws.Lists.{all-app, all-left, all-right}
+use Rattle.model.proofs.Laws.Stores.{sets-fit}
+
+pub room-kept : (found room : List ℕ) → length (done found room .lent) ≡ length room
+room-kept found room = sym (ap length (sets-fit room found)) ∙ length-sets room 0 found
+
+module _ (Q : ℕ → Type 0) where
+  pub all-zeros : Q 0 → (n : ℕ) → All Q (replicate n 0)
+  all-zeros q zero = tt
+  all-zeros q (suc n) = (q, all-zeros q n)
+
+  pub all-take : (n : ℕ) (ps : List ℕ) → All Q ps → All Q (take n ps)
+  all-take n ps A = all-left Q (take n ps) (drop n ps) (subst (All Q) (sym (take-append-drop n ps)) A)
+
+  pub all-done : (found room : List ℕ) → All Q found → All Q room → All Q (done found room .lent)
+  all-done found room F R =
+      all-app Q (take (length room) found) (drop (length found) room) (all-take (length room) found F)
+      (all-right Q (take (length found) room) (drop (length found) room) (subst (All Q) (sym (take-append-drop (length found) room)) R))

@@ -1,19 +1,6 @@
 // The desk program (document 01): reads the files `rule` and `journal` of the current folder whole, every byte counting, and writes its report.
+use files::read_file;
 use report::report;
-ghost use Rattle.io.specs.Counts.{Counts};
-
-// The bytes of a file, as many as there is room for. "A file that can't be opened counts as empty."
-fn read_file(path: &[u8], bytes: &mut [u8]) -> usize
-    ensures { λ r. ⌜ Counts r (now (bytes .exit)) ⌝ }
-{
-    let file = os::open_read(path);
-    if file < 0 {
-        return 0;
-    }
-    let count = io::read_full(file, bytes);
-    libc::close(file);
-    count
-}
 
 // "No more than 1,025 bytes of the rule and 65,536 of the journal need be read." A report has at most 22,397 bytes.
 fn main() {

@@ -1,10 +1,12 @@
 -- WHAT WAS PUT INTO A ROOM: the room stays as long as it was, and what is said of all that was found, and of the room before, is said of what lies in it.
+-- Of build: done was said of an image that has room.
 use mathlib.Core.Path.{_≡_, sym, ap, _∙_, subst}
 use mathlib.Core.List.{List}
-use Prim.Native.Nat.{ℕ, zero, suc}
-use lib.ListN.{drop, length, replicate, take, take-append-drop}
+use Prim.Native.Nat.{ℕ, zero, suc, _≤_, _<_}
+use native.Mathlib.Omega.{arith}
+use lib.ListN.{drop, length, length-take, replicate, take, take-append-drop}
 use lib.Seq.{length-sets}
-use Rattle.model.specs.Answers.{done}
+use Rattle.model.specs.Answers.{Answer, BuildSays, built, done, no-room, not-a-rule, rule-too-long, too-deep, too-many-states}
 use Rattle.model.specs.Lists.{All}
 use Rattle.model.proofs.Laws.Lists.{all-app, all-left, all-right}
 use Rattle.model.proofs.Laws.Stores.{sets-fit}
@@ -24,3 +26,23 @@ module _ (Q : ℕ → Type 0) where
   all-done found room F R =
       all-app Q (take (length room) found) (drop (length found) room) (all-take (length room) found F)
       (all-right Q (take (length found) room) (drop (length found) room) (subst (All Q) (sym (take-append-drop (length found) room)) R))
+
+-- ---- the first n of what was lent
+pub record First (n : ℕ) (after : List ℕ) : Type 0 where
+  pub fits : n ≤ length after
+  pub counted : n ≡ length (take n after)
+
+pub first : {n room : ℕ} {after : List ℕ} → n ≤ room → length after ≡ room → First n after
+first {n} {room} {after} l e = record { fits = omega (arith, e); counted = omega (arith, length-take n after, e) }
+
+-- ---- an answer's number has one digit, and its count is within the room
+abbrev pub Fits : List ℕ → Answer → Type 0
+Fits before a = (a .number < 10) × (a .count ≤ length before)
+
+pub build-fits : {rule before : List ℕ} {a : Answer} → BuildSays rule before a → Fits before a
+build-fits (rule-too-long l e) = rw e (omega arith)
+build-fits (not-a-rule l f e) = rw e (omega arith)
+build-fits (too-many-states t l d m e) = rw e (omega arith)
+build-fits (too-deep t l d m k e) = rw e (omega arith)
+build-fits (no-room t l d m k n e) = rw e (omega arith)
+build-fits (built t l d m k n e) = rw e (omega arith)

@@ -10,9 +10,9 @@ use Rattle.model.proofs.Laws.Lists.{all-map, in-all}
 use Rattle.watcher.proofs.Laws.Ends.{end-within, ends-few}
 use Rattle.lines.specs.Lines.{endLines, line, refusedText, totalText}
 use Rattle.lines.proofs.Laws.Numbers.{ends-short, number-short}
-use Rattle.lines.proofs.Laws.Room.{all-done, all-take, all-zeros, room-kept}
+use Rattle.lines.proofs.Laws.Room.{all-done, all-take, all-zeros, build-fits, room-kept}
 use Rattle.report.specs.Desk.{built, DeskSays, found, foundText, Matches, put, ReadsBack, written}
-use Rattle.report.proofs.Laws.Stages.{build-fits, read-back-fits}
+use Rattle.report.proofs.Laws.Stages.{read-back-fits}
 
 refused-short : (n : ℕ) → n < 10 → length (refusedText n) ≤ 22397
 refused-short n l = omega (arith, number-short 0 n l)

@@ -3,7 +3,7 @@ use mathlib.Core.Path.{_≡_, refl, sym, ap, _∙_, subst}
 use mathlib.Core.List.{List}
 use Prim.Native.Nat.{ℕ, _≤_, _<_}
 use native.Mathlib.Omega.{arith}
-use lib.ListN.{length, length-replicate, length-take, replicate, take}
+use lib.ListN.{length, length-replicate, replicate, take}
 use Rattle.model.specs.Answers.{Answer, BuildSays, MatchSays, ReadBackSays}
 use Rattle.watcher.specs.Answers.{builtAnswer, matchedAnswer}
 use Rattle.watcher.specs.declared.Built.{Built}
@@ -14,25 +14,13 @@ use Rattle.writing.specs.Says.{writtenAnswer}
 use Rattle.writing.specs.declared.Written.{Written}
 use Rattle.writing.specs.declared.Written.the-variants as writes
 use Rattle.lines.specs.Lines.{refusedText, Reports}
+use Rattle.lines.proofs.Laws.Room.{build-fits, First, first, Fits}
 use Rattle.report.specs.Desk.{built, DeskSays, found, foundText, Matches, ReadsBack, written}
 
--- ---- an operation's number has one digit, and done was said of a whole that has room
-abbrev Fits : List ℕ → Answer → Type 0
-Fits before a = (a .number < 10) × (a .count ≤ length before)
-
-module _ {before : List ℕ} where
-  pub build-fits : {rule : List ℕ} {a : Answer} → BuildSays rule before a → Fits before a
-  build-fits (BuildSays.rule-too-long l e) = rw e (omega arith)
-  build-fits (BuildSays.not-a-rule l f e) = rw e (omega arith)
-  build-fits (BuildSays.too-many-states t l d m e) = rw e (omega arith)
-  build-fits (BuildSays.too-deep t l d m k e) = rw e (omega arith)
-  build-fits (BuildSays.no-room t l d m k n e) = rw e (omega arith)
-  build-fits (BuildSays.built t l d m k n e) = rw e (omega arith)
-
-  pub read-back-fits : {words : List ℕ} {a : Answer} → ReadBackSays words before a → Fits before a
-  read-back-fits (ReadBackSays.not-an-image n e) = rw e (omega arith)
-  read-back-fits (ReadBackSays.no-room t i l e) = rw e (omega arith)
-  read-back-fits (ReadBackSays.written t i l e) = rw e (omega arith)
+pub read-back-fits : {words before : List ℕ} {a : Answer} → ReadBackSays words before a → Fits before a
+read-back-fits (ReadBackSays.not-an-image n e) = rw e (omega arith)
+read-back-fits (ReadBackSays.no-room t i l e) = rw e (omega arith)
+read-back-fits (ReadBackSays.written t i l e) = rw e (omega arith)
 
 -- ---- REFUSALS, by the number of the answer's case; and what goes on
 module _ {words journal writing : List ℕ} {a : Answer} (M : MatchSays words journal (replicate 1000 0) a) where
@@ -53,13 +41,6 @@ module _ {rule journal : List ℕ} {a : Answer} (B : BuildSays rule (replicate 4
   build-refused n e l = DeskSays.refused a B (omega (arith, e)) (ap refusedText (sym e))
 
 -- ---- DONE: the first n of what was lent go on to the next stage
-pub record First (n : ℕ) (after : List ℕ) : Type 0 where
-  pub fits : n ≤ length after
-  pub counted : n ≡ length (take n after)
-
-first : {n room : ℕ} {after : List ℕ} → n ≤ room → length after ≡ room → First n after
-first {n} {room} {after} l e = record { fits = omega (arith, e); counted = omega (arith, length-take n after, e) }
-
 module _ {words : List ℕ} (m : Written) (after : List ℕ) {n : ℕ} (R : ReadBackSays words (replicate 16384 0) (writtenAnswer m after)) (d : m ≡ writes.Done n) where
   says-done : ReadBackSays words (replicate 16384 0) (writtenAnswer (writes.Done n) after)
   says-done = subst (λ (q : Written). ReadBackSays words (replicate 16384 0) (writtenAnswer q after)) d R

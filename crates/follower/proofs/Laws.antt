@@ -2,3 +2,5 @@
 pub mod Stages
 pub mod Short
 pub mod Onward
+pub mod Few
+pub mod Trace

@@ -54,5 +54,5 @@ pub data Writes (words : List ℕ) : (stretches : List (List ℕ)) → Next → 
 
 -- ALL THAT IS WRITTEN, one piece after another, with room for an image of 4,705 words
 pub data FollowSays (rule : List ℕ) (stretches : List (List ℕ)) : (text : List ℕ) → Type 0 where
-  follows : {n : ℕ} {image : List ℕ} {next : Next} {first rest : List ℕ} → Opens rule (replicate 4705 0) n image next first → Writes (take n image) stretches next rest
+  follows : {n : ℕ} {after : List ℕ} {next : Next} {first rest : List ℕ} → Opens rule (replicate 4705 0) n after next first → Writes (take n after) stretches next rest
       → FollowSays rule stretches (first ++ rest)

@@ -1,29 +1,25 @@
--- A WATCH THAT GOES ON HAS GONE BY THE LENGTH OF ITS STRETCH, and not past 4,294,967,295: so the program's loop ends.
+-- A PROGRAM THAT GOES ON has an image, and with each stretch its watch goes by as many places, not past 4,294,967,295: so its loop ends.
 use mathlib.Core.Path.{_≡_, sym, ap, _∙_}
 use mathlib.Core.Bool.{Bool, true}
 use mathlib.Core.List.{List}
 use Prim.Native.Nat.{ℕ, _+_, _≤_}
 use native.Mathlib.Omega.{arith}
 use lib.ListN.{length}
-use Rattle.model.specs.Watch.{BeginSays, begun, stepped, StepSays, stretch-too-long, text-too-long, Watch}
+use Rattle.model.specs.Watch.{stepped, StepSays, stretch-too-long, text-too-long, Watch}
+use Rattle.lines.proofs.Laws.Room.{build-fits}
 use Rattle.follower.specs.Follow.{built, Hears, Kept, Next, on, Opens, stopped, Told}
 use Rattle.follower.specs.Work.{keptIn, nextIf, nextIn}
 use Rattle.follower.specs.declared.Said.{Said}
 use Rattle.follower.specs.declared.Watching.{Watching}
 
 -- ---- where an answer's place is
-pub step-place : {words mask stretch lent : List ℕ} {place : ℕ} {a : Watch} → StepSays words mask place stretch lent a → a .number ≡ 0
+step-place : {words mask stretch lent : List ℕ} {place : ℕ} {a : Watch} → StepSays words mask place stretch lent a → a .number ≡ 0
     → (a .place ≡ place + length stretch) × (a .place ≤ 4294967295)
 step-place (StepSays.not-an-image f e) z = absurd (omega (arith, z, ap (λ (a : Watch). a .number) e))
 step-place (stretch-too-long t i l e) z = absurd (omega (arith, z, ap (λ (a : Watch). a .number) e))
 step-place (StepSays.not-a-mask t i l f e) z = absurd (omega (arith, z, ap (λ (a : Watch). a .number) e))
 step-place (text-too-long t i l f k e) z = absurd (omega (arith, z, ap (λ (a : Watch). a .number) e))
 step-place (stepped t after found I l M k A E e) z = omega (arith, ap (λ (a : Watch). a .place) e, k)
-
-begin-place : {words mask lent : List ℕ} {place : ℕ} {a : Watch} → BeginSays words mask place lent a → a .number ≡ 0 → a .place ≡ 0
-begin-place (BeginSays.not-an-image f e) z = absurd (omega (arith, z, ap (λ (a : Watch). a .number) e))
-begin-place (BeginSays.not-a-mask t i f e) z = absurd (omega (arith, z, ap (λ (a : Watch). a .number) e))
-begin-place (begun t first found I k A E e) z = ap (λ (a : Watch). a .place) e
 
 -- ---- where the program is that goes on
 abbrev placeOf : Next → ℕ
@@ -47,6 +43,7 @@ heard-place words w r e H =
     let t = told-place words r e (H .told) in
     omega (arith, t .1, step-place (H .says) (t .0))
 
-pub opened-place : (words : List ℕ) (r : Said) {rule lent after text : List ℕ} {n : ℕ} → r .on ≡ true → Opens rule lent n after (nextIn words r) text → r .watching .place ≡ 0
-opened-place words r e (built B b) = let t = told-place words r e (b .told) in t .1 ∙ begin-place (b .says) (t .0)
-opened-place words r e (Opens.refused a B l k n t) = absurd (never (sym (goes-on words r e) ∙ n))
+-- ---- an image that a watch is begun with lies in the words lent
+pub opened-words : (words : List ℕ) (r : Said) {rule lent after text : List ℕ} {n : ℕ} → r .on ≡ true → Opens rule lent n after (nextIn words r) text → n ≤ length lent
+opened-words words r e (built B b) = build-fits B .1
+opened-words words r e (Opens.refused a B l k n t) = absurd (never (sym (goes-on words r e) ∙ n))

@@ -1,4 +1,5 @@
--- NO TEXT IS LONGER THAN 45,056 BYTES: a place has at most ten digits, so what is written for a stretch has at most 4,096 lines of 11 bytes.
+-- NO TEXT IS LONGER THAN 45,056 BYTES, and none at the opening than 11: a place has at most ten digits, so what is written for a stretch has at most
+-- 4,096 lines of 11 bytes.
 use mathlib.Core.Path.{_≡_, ap}
 use mathlib.Core.List.{List, [], _∷_}
 use Prim.Native.Nat.{ℕ, _*_, _^_, _≤_, _<_}
@@ -55,8 +56,8 @@ told-short {w} k l S (Told.refused z n e) = omega (arith, ap length e, refused-s
 begins-short : {words : List ℕ} {next : Next} {text : List ℕ} → Begins words next text → length text ≤ 11
 begins-short B = told-short 1 (omega arith) (begin-short (B .says)) (B .told)
 
-pub opens-short : {rule lent after text : List ℕ} {n : ℕ} {next : Next} → Opens rule lent n after next text → length text ≤ 45056
-opens-short (built B b) = omega (arith, begins-short b)
+pub opens-short : {rule lent after text : List ℕ} {n : ℕ} {next : Next} → Opens rule lent n after next text → length text ≤ 11
+opens-short (built B b) = begins-short b
 opens-short (Opens.refused a B l k n e) = omega (arith, ap length e, refused-short (a .number) (omega (arith, build-fits B .0)))
 
 pub hears-short : {words stretch text : List ℕ} {kept : Kept} {next : Next} → Hears words kept stretch next text → length text ≤ 45056

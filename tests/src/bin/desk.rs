@@ -1,68 +1,20 @@
 //! The desk program, run in a folder for each case: what it writes must be, byte for byte, what the outside vector or the independent program says.
 //! Usage: desk VECTORS EXAMPLES PROGRAM FOLDER (tests/desk makes the program)
 
-use outside_checks::generate::{broken, nested, sized, small, Random};
+#[path = "../programs.rs"]
+mod programs;
+
 use outside_checks::independent::{desk, parse, writing};
 use outside_checks::texts::text;
 use outside_checks::{bytes, file, vectors};
-use std::fs;
-use std::path::{Path, PathBuf};
-use std::process::{exit, Command};
-
-/// What stands under a file's name.
-#[derive(Clone)]
-enum File {
-    Missing,
-    Folder,
-    Bytes(Vec<u8>),
-}
-
-impl File {
-    fn of(bytes: impl Into<Vec<u8>>) -> File {
-        File::Bytes(bytes.into())
-    }
-
-    /// What counts: a file that can't be opened or read counts as empty (docs/DECISIONS.md).
-    fn bytes(&self) -> &[u8] {
-        if let File::Bytes(bytes) = self { bytes } else { &[] }
-    }
-
-    fn put(&self, path: &Path) {
-        match self {
-            File::Missing => Ok(()),
-            File::Folder => fs::create_dir(path),
-            File::Bytes(bytes) => fs::write(path, bytes),
-        }
-        .unwrap_or_else(|e| panic!("{}: {e}", path.display()));
-    }
-}
-
-struct Checks {
-    program: String,
-    folder: PathBuf,
-    passed: usize,
-    failed: usize,
-}
+use programs::{generated, start, Checks, File};
+use std::path::Path;
+use std::process::exit;
 
 impl Checks {
-    fn note(&mut self, what: &str, well: bool) {
-        if well {
-            self.passed += 1;
-        } else {
-            self.failed += 1;
-            if self.failed <= 10 {
-                println!("desk: FAILED: {what}");
-            }
-        }
-    }
-
     /// What the program writes in a folder with these files.
     fn run(&self, rule: &File, journal: &File) -> Vec<u8> {
-        let _ = fs::remove_dir_all(&self.folder);
-        fs::create_dir_all(&self.folder).unwrap_or_else(|e| panic!("{}: {e}", self.folder.display()));
-        rule.put(&self.folder.join("rule"));
-        journal.put(&self.folder.join("journal"));
-        let output = Command::new(&self.program).current_dir(&self.folder).output().unwrap_or_else(|e| panic!("{}: {e}", self.program));
+        let output = self.command(&[("rule", rule), ("journal", journal)]).output().expect("the program");
         if output.status.code().is_none() {
             return b"(killed by a signal)".to_vec();
         }
@@ -71,7 +23,6 @@ impl Checks {
 
     fn same(&mut self, what: &str, rule: &File, journal: &File, expected: &[u8]) {
         let got = self.run(rule, journal);
-        let start = |bytes: &[u8]| bytes.iter().take(60).copied().collect::<Vec<u8>>().escape_ascii().to_string();
         let told = format!(
             "{what}: rule {}, {} bytes of journal ({}): wrote {} bytes ({}), expected {} ({})",
             rule.bytes().escape_ascii(),
@@ -91,12 +42,6 @@ impl Checks {
         self.note(&format!("{what}: the independent program begins with {begins:?}"), expected.starts_with(begins.as_bytes()));
         self.same(what, rule, journal, &expected);
     }
-
-    fn part(&mut self, name: &str, run: impl FnOnce(&mut Checks)) {
-        let (passed, failed) = (self.passed, self.failed);
-        run(self);
-        println!("desk: {name}: {} passed, {} failed", self.passed - passed, self.failed - failed);
-    }
 }
 
 fn outside(checks: &mut Checks, folder: &Path) {
@@ -106,18 +51,13 @@ fn outside(checks: &mut Checks, folder: &Path) {
     }
 }
 
-/// The shipped examples: folders with a rule, a journal and the report that is to come.
 fn examples(checks: &mut Checks, folder: &Path) {
-    let mut count = 0;
-    for entry in fs::read_dir(folder).unwrap_or_else(|e| panic!("{}: {e}", folder.display())) {
-        let example = entry.expect("an example").path();
-        let [rule, journal, report] = ["rule", "journal", "report"].map(|name| fs::read(example.join(name)));
-        let (Ok(rule), Ok(journal), Ok(report)) = (rule, journal, report) else { continue };
-        checks.note(&format!("{}: the independent program", example.display()), desk(&rule, &journal) == report);
-        checks.same(&example.display().to_string(), &File::Bytes(rule), &File::Bytes(journal), &report);
-        count += 1;
+    let shipped = programs::examples(folder);
+    checks.note("there are examples", !shipped.is_empty());
+    for example in shipped {
+        checks.note(&format!("{}: the independent program", example.name), desk(&example.rule, &example.journal) == example.report);
+        checks.same(&example.name, &File::Bytes(example.rule), &File::Bytes(example.journal), &example.report);
     }
-    checks.note("there are examples", count > 0);
 }
 
 fn files(checks: &mut Checks) {
@@ -169,14 +109,7 @@ fn limits(checks: &mut Checks) {
 fn seeds(checks: &mut Checks) {
     let mut numbers = [0; 9];
     for seed in 0..300 {
-        let mut r = Random::new(seed);
-        let (deep, wanted) = (r.between(1, 9), r.between(60, 515));
-        let rule = match seed {
-            0..170 => small(&mut r),
-            170..200 => broken(&mut r),
-            200..240 => nested(&mut r, deep),
-            _ => sized(&mut r, wanted, deep - 1),
-        };
+        let (mut r, rule) = generated(seed);
         let most = [3, 40, 400, 4000][r.below(4)];
         let journal = parse(&rule).map_or(b"aba".to_vec(), |tree| text(&mut r, &tree, most));
         let expected = desk(&rule, &journal);
@@ -207,13 +140,12 @@ fn main() {
         eprintln!("usage: desk VECTORS EXAMPLES PROGRAM FOLDER");
         exit(2);
     };
-    let mut checks = Checks { program: program.clone(), folder: PathBuf::from(folder), passed: 0, failed: 0 };
+    let mut checks = Checks::new("desk", program, folder);
     checks.part("shipped examples", |c| examples(c, Path::new(shipped)));
     checks.part("outside vectors", |c| outside(c, Path::new(vectors)));
     checks.part("faults planted in copies of an answer", faults);
     checks.part("files", files);
     checks.part("limits", limits);
     checks.part("rules and journals from seeds", seeds);
-    println!("desk: {} passed, {} failed", checks.passed, checks.failed);
-    exit(i32::from(checks.failed > 0));
+    checks.end();
 }

@@ -7,7 +7,7 @@ mod programs;
 
 use outside_checks::generate::Random;
 use outside_checks::independent::{build, ends, parse};
-use outside_checks::texts::text;
+use outside_checks::texts::{cut, text};
 use programs::{generated, start, Checks, File};
 use std::io::{BufRead, BufReader, Write};
 use std::path::Path;
@@ -119,19 +119,6 @@ impl Checks {
     }
 }
 
-/// A cutting from a seed.
-fn cut<'a>(r: &mut Random, journal: &'a [u8]) -> Vec<&'a [u8]> {
-    let most = [1, 3, 40, 700, 9000][r.below(5)];
-    let (mut pieces, mut left) = (Vec::new(), journal);
-    while !left.is_empty() && pieces.len() < 100 {
-        let (piece, rest) = left.split_at(r.between(1, most).min(left.len()));
-        pieces.push(piece);
-        left = rest;
-    }
-    pieces.push(left);
-    pieces
-}
-
 /// The desk program's report has the writing, the total and then the ends; here the total comes last.
 fn examples(checks: &mut Checks, folder: &Path) {
     let shipped = programs::examples(folder);
@@ -220,7 +207,7 @@ fn long_journals(checks: &mut Checks) {
         let right = expected(rule.as_bytes(), &journal);
         checks.note(&format!("{rule}: some place has six digits"), right.iter().any(|line| line.len() == 6));
         checks.fed("at once", rule.as_bytes(), &[&journal], &right);
-        checks.fed("in pieces", rule.as_bytes(), &cut(&mut r, &journal), &right);
+        checks.fed("in pieces", rule.as_bytes(), &cut(&mut r, &journal, 9000), &right);
     }
 }
 
@@ -230,7 +217,8 @@ fn seeds(checks: &mut Checks) {
         let most = [3, 40, 400, 4000][r.below(4)];
         let journal = parse(&rule).map_or(b"aba".to_vec(), |tree| text(&mut r, &tree, most));
         let right = expected(&rule, &journal);
-        checks.fed(&format!("seed {seed}"), &rule, &cut(&mut r, &journal), &right);
+        let longest = [1, 3, 40, 700][r.below(4)].max(journal.len() / 60);
+        checks.fed(&format!("seed {seed}"), &rule, &cut(&mut r, &journal, longest), &right);
     }
 }
 

@@ -5,7 +5,6 @@ ghost use Prim.Native.Nat.{min};
 ghost use lib.ListN.{take};
 ghost use Rattle.lines.specs.Lines.{decimal, endLines, line, refusedText, totalText};
 ghost use Rattle.lines.specs.Work.{PutAt, Puts};
-ghost use Rattle.model.specs.Bytes.{bytes as bytesOf};
 
 // Bytes one after another from a place on, and the place after them.
 fn put(text: &mut [u8], at: usize, bytes: &[u8]) -> usize

@@ -1,5 +1,5 @@
 -- A STRETCH HAS AT MOST AS MANY ENDS AS BYTES: they rise from its place to its end. So a room of as many places shows all of them.
-use mathlib.Core.Path.{_≡_, refl, ap}
+use mathlib.Core.Path.{_≡_, refl}
 use mathlib.Core.Logic.{inl, inr}
 use mathlib.Core.List.{List, [], _∷_}
 use Prim.Native.Nat.{ℕ, _+_, _≤_, _<_}

@@ -1,6 +1,6 @@
 -- NO TEXT IS LONGER THAN 45,056 BYTES, and none at the opening than 11: a place has at most ten digits, so what is written for a stretch has at most
 -- 4,096 lines of 11 bytes.
-use mathlib.Core.Path.{_≡_, ap}
+use mathlib.Core.Path.{ap}
 use mathlib.Core.List.{List, [], _∷_}
 use Prim.Native.Nat.{ℕ, _*_, _^_, _≤_, _<_}
 use native.Mathlib.Omega.{arith}

@@ -9,15 +9,13 @@ use Rattle.model.specs.Lists.{All, each}
 use Rattle.model.specs.Watch.{Call, Calls, endsOf, Fair, foundBy, StepSays, textOf, Watch}
 use Rattle.lines.specs.Lines.{endLines, totalText}
 use Rattle.lines.proofs.Laws.Puts.{lines-app}
-use Rattle.follower.specs.Follow.{ended, Hears, Kept, Next, nothing, on, stopped, Told, went-on, Writes}
+use Rattle.follower.specs.Follow.{ended, Kept, Next, on, Told, went-on, Writes}
 use Rattle.follower.proofs.Laws.Few.{step-few}
 
 abbrev pub joined : List (List ℕ) → List ℕ
 joined stretches = each (λ s. s) stretches
 
-abbrev pub Within : List (List ℕ) → Type 0
-Within stretches = All (λ s. length s ≤ 4096) stretches
-
+-- the calls of steps, one after another, each with room for its ends
 pub record Trace (words : List ℕ) (kept : Kept) (cs : List Call) : Type 0 where
   pub calls : Calls words (kept .mask) (kept .place) cs
   pub fair : All Fair cs
@@ -28,6 +26,12 @@ pub data Traced (words : List ℕ) (kept : Kept) (stretches : List (List ℕ)) (
   broken : (cs : List Call) → Trace words kept cs → length (textOf cs) ≤ length (joined stretches) → (All (λ c. c .gave .number ≡ 0) cs → ⊥)
       → Traced words kept stretches text
 
+-- lines before lines and a total
+pub lines-then : (ps qs : List ℕ) (m n : ℕ) {first rest : List ℕ} → first ≡ endLines ps → rest ≡ endLines qs ++ totalText m → m ≡ n
+    → first ++ rest ≡ endLines (ps ++ qs) ++ totalText n
+lines-then ps qs m n e u c =
+    ap₂ (λ (x y : List ℕ). x ++ y) e u ∙ sym (append-assoc (endLines ps) (endLines qs) (totalText m)) ∙ ap₂ (λ (x y : List ℕ). x ++ y) (sym (lines-app ps qs)) (ap totalText c)
+
 -- ---- one call
 abbrev call : List ℕ → Watch → Call
 call s w = record { stretch = s; lent = replicate 4096 0; gave = w }
@@ -36,42 +40,38 @@ abbrev after : Kept → Watch → Kept
 after kept w = record { mask = w .mask; place = w .place; total = (kept .total + w .count) % 2 ^ 64 }
 
 module _ (words : List ℕ) (kept : Kept) (s : List ℕ) (w : Watch) (S : StepSays words (kept .mask) (kept .place) s (replicate 4096 0) w) (l : length s ≤ 4096) where
-  first : {total : ℕ} {cs : List Call} → Trace words (record { mask = w .mask; place = w .place; total = total }) cs → Trace words kept (call s w ∷ cs)
-  first T = record {
+  first-of : {cs : List Call} → Trace words (after kept w) cs → Trace words kept (call s w ∷ cs)
+  first-of T = record {
     calls = (S, T .calls);
     fair = ((omega arith, omega (arith, step-few S l .0, length-replicate {A = ℕ} 4096 0)), T .fair);
   }
 
-  none : Trace words (after kept w) []
-  none = record { calls = tt; fair = tt }
-
   -- it is refused
   call-broken : {stretches : List (List ℕ)} {text : List ℕ} → 0 < w .number → Traced words kept (s ∷ stretches) text
   call-broken {stretches} n =
-      broken (call s w ∷ []) (first none) (omega (arith, length-append s [], length-append s (joined stretches))) (λ z. omega (arith, n, z .0))
+      broken (call s w ∷ []) (first-of (record { calls = tt; fair = tt })) (omega (arith, length-append s [], length-append s (joined stretches))) (λ z. omega (arith, n, z .0))
 
-  -- it is done, and others follow
+  -- it is done, and others follow; the total is below 2 ^ 64 for as many bytes as there are
   module _ (stretches : List (List ℕ)) (short : kept .total + length (joined (s ∷ stretches)) < 2 ^ 64) where
     long : length (joined (s ∷ stretches)) ≡ length s + length (joined stretches)
     long = length-append s (joined stretches)
 
-    fits : (kept .total + w .count) % 2 ^ 64 ≡ kept .total + w .count
+    fits : after kept w .total ≡ kept .total + w .count
     fits = omega (arith, short, long, step-few S l .0)
 
-    pub rest-short : after kept w .total + length (joined stretches) < 2 ^ 64
+    rest-short : after kept w .total + length (joined stretches) < 2 ^ 64
     rest-short = omega (arith, short, long, fits, step-few S l .0)
 
-    pub call-first : {rest : List ℕ} → Traced words (after kept w) stretches rest → Traced words kept (s ∷ stretches) (endLines (foundBy w) ++ rest)
-    call-first (broken cs T k f) =
-        broken (call s w ∷ cs) (first T) (omega (arith, k, long, length-append s (textOf cs))) (λ z. f (z .1))
-    call-first {rest} (whole cs T e u) =
-        whole (call s w ∷ cs) (first T) (ap (λ (x : List ℕ). s ++ x) e) (ap (λ (x : List ℕ). endLines (foundBy w) ++ x) u ∙ sym (append-assoc (endLines (foundBy w)) (endLines (endsOf cs)) _) ∙ ap₂ (λ (x y : List ℕ). x ++ y) (sym (lines-app (foundBy w) (endsOf cs))) (ap totalText count))
-      where
-        count : after kept w .total + length (endsOf cs) ≡ kept .total + length (foundBy w ++ endsOf cs)
-        count = omega (arith, fits, step-few S l .1, length-append (foundBy w) (endsOf cs))
+    call-first : {first rest : List ℕ} → first ≡ endLines (foundBy w) → Traced words (after kept w) stretches rest → Traced words kept (s ∷ stretches) (first ++ rest)
+    call-first e (broken cs T k f) =
+        broken (call s w ∷ cs) (first-of T) (omega (arith, k, long, length-append s (textOf cs))) (λ z. f (z .1))
+    call-first e (whole cs T j u) =
+        whole (call s w ∷ cs) (first-of T) (ap (λ (x : List ℕ). s ++ x) j)
+        (lines-then (foundBy w) (endsOf cs) (after kept w .total + length (endsOf cs)) (kept .total + length (foundBy w ++ endsOf cs)) e u
+        (omega (arith, fits, step-few S l .1, length-append (foundBy w) (endsOf cs))))
 
 -- ---- ALL THE CALLS
-pub traced : {words : List ℕ} (stretches : List (List ℕ)) (kept : Kept) {text : List ℕ} → Writes words stretches (on kept) text → Within stretches
+pub traced : {words : List ℕ} (stretches : List (List ℕ)) (kept : Kept) {text : List ℕ} → Writes words stretches (on kept) text → All (λ s. length s ≤ 4096) stretches
     → kept .total + length (joined stretches) < 2 ^ 64 → Traced words kept stretches text
 traced [] kept ended F b = whole [] (record { calls = tt; fair = tt }) refl (ap totalText (sym (add-zero (kept .total))))
 traced {words} (s ∷ stretches) kept (went-on {next = next} {first} {rest} H W) F b =
@@ -85,5 +85,4 @@ traced {words} (s ∷ stretches) kept (went-on {next = next} {first} {rest} H W)
         → Traced words kept (s ∷ stretches) (first ++ rest)
     go (Told.refused z n e) more = call-broken words kept s w (H .says) (F .0) z
     go (Told.found z n e) more =
-        let T = more (after kept w) n (rest-short words kept s w (H .says) (F .0) stretches b) in
-        subst (λ (x : List ℕ). Traced words kept (s ∷ stretches) (x ++ rest)) (sym e) (call-first words kept s w (H .says) (F .0) stretches b T)
+        call-first words kept s w (H .says) (F .0) stretches b e (more (after kept w) n (rest-short words kept s w (H .says) (F .0) stretches b))

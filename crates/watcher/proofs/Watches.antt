@@ -1,6 +1,6 @@
 -- THE WATCH OVER THE CONTRACTS of begin and step: what is given and lent settles their answers, and for every cutting of a text the ends joined and the last
 -- mask are document 01's for the whole text. They hold because each table gives one answer to an input (`begin-one`, `step-one`), and by `cutting`.
-use mathlib.Core.Path.{_≡_, refl, sym, ap, _∙_, subst}
+use mathlib.Core.Path.{_≡_, refl, sym, _∙_, subst}
 use mathlib.Core.Bool.{cond}
 use mathlib.Core.List.{List}
 use Prim.Native.Nat.{ℕ, _≤_}

@@ -1,5 +1,5 @@
--- A MASK'S WORDS AND ITS STATES: the words of a set have its states and no others, two masks of one set are equal, and words that are a mask are the mask
--- of their own states. Whether words are a mask shows in their number and in the last one.
+-- A MASK'S WORDS AND ITS STATES: the words of a set have its states and no others, and two masks of one set are equal. Whether words are a mask shows in
+-- their number and in the last one.
 use mathlib.Core.Path.{_≡_, refl, sym, ap, ap₂, _∙_, subst}
 use mathlib.Core.Logic.{_⊎_, inl, inr, _↔_}
 use mathlib.Core.Bool.{Bool, false}
@@ -48,9 +48,6 @@ module _ {m : ℕ} {D : ℕ → Type 0} {mask : List ℕ} (M : MaskOf m D mask) 
     none-past = λ q l h. row-past m (M .set) q l (subst (λ (w : List ℕ). In w q) (M .laid) h);
   }
 
-  pub mask-fits : Fit mask
-  mask-fits = subst Fit (sym (M .laid)) (held m (M .set) .near .fit)
-
   -- with the states of D, where those lie below m
   pub mask-in : ((q : ℕ) → D q → q < m) → (q : ℕ) → In mask q ↔ D q
   mask-in below q = (λ h. there (le-or-lt m q) (subst (λ (w : List ℕ). In w q) (M .laid) h), back)
@@ -75,17 +72,6 @@ mask-as e M = record { set = M .set; is = λ q l. (λ h. e q .0 (M .is q l .0 h)
 -- ---- a row that holds a set is its mask
 pub holds-mask : (m : ℕ) (xs : List ℕ) (f : ℕ → Bool) → Holds m (width m) xs f → xs ≡ row m f
 holds-mask m xs f H = holds-one m (width m) xs (row m f) f f H (held m f) (λ x l. refl)
-
--- WORDS THAT ARE A MASK ARE THAT OF THEIR OWN STATES: so a stretch of no bytes gives the mask back as it was
-pub mask-own : (m : ℕ) (mask : List ℕ) → Fit mask → IsMask m mask → MaskOf m (In mask) mask
-mask-own m mask F I = record {
-  set = λ q. bit (getD mask (q / 64) 0) (q % 64);
-  is = λ q l. (λ h. h, λ h. h);
-  laid = holds-mask m mask (λ q. bit (getD mask (q / 64) 0) (q % 64)) (record {
-    near = record { len = I .long; fit = F; bits = λ q l. row-bit mask q F };
-    none = λ q l. is-not (bit (value mask) q) (λ h. I .none-past q l (in-value mask F q .1 h));
-  });
-}
 
 -- ---- THE TEST OF A MASK
 module _ (m : ℕ) (some : 1 ≤ m) (mask : List ℕ) (F : Fit mask) where

@@ -1,11 +1,11 @@
 //! A watch fed in stretches: for any cutting of a text the ends joined and the last mask are those of the whole text, and the ends are match's.
 
 use crate::checks::{fresh, Checks};
-use crate::match_ends::{rule, EXAMPLES, LONGEST_TEXT};
+use crate::match_ends::{seeded, EXAMPLES, LONGEST_TEXT};
 use crate::seen::Seen;
 use outside_checks::driver::{Reply, Watched};
 use outside_checks::generate::{sized, small, Random};
-use outside_checks::independent::{depth, ends, parse, states, Edges, Sequence, Watch};
+use outside_checks::independent::{ends, parse, states, Edges, Sequence, Watch};
 use outside_checks::texts::{cut, text};
 
 pub fn all(checks: &mut Checks) {
@@ -111,12 +111,7 @@ fn examples(checks: &mut Checks) {
 fn seeds(checks: &mut Checks) {
     let mut seen = Seen::default();
     for seed in (0..1700).step_by(15).chain((1700..2100).step_by(4)).chain((2100..2300).step_by(2)) {
-        let mut r = Random::new(seed);
-        let rule = rule(&mut r, seed);
-        let tree = parse(&rule).expect("a rule");
-        if states(&tree) > 512 || depth(&tree) > 8 {
-            continue;
-        }
+        let Some((mut r, rule, tree)) = seeded(seed) else { continue };
         seen.tree(&tree);
         let Some(mut fed) = Fed::of(checks, &mut seen, &rule, &tree) else { continue };
         for most in [0, 12, 30, 3 * states(&tree)] {

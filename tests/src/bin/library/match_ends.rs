@@ -6,7 +6,7 @@ use crate::checks::{Checks, LONGEST};
 use crate::seen::Seen;
 use outside_checks::driver::{build_call, match_call, read_back_call, Answer};
 use outside_checks::generate::{nested, sized, small, Random};
-use outside_checks::independent::{build, depth, ends, image, parse, states};
+use outside_checks::independent::{build, depth, ends, image, parse, states, Sequence};
 use outside_checks::texts::text;
 use outside_checks::{bytes, file, vectors};
 use std::path::Path;
@@ -83,25 +83,24 @@ fn limits(checks: &mut Checks) {
 
 // ---- generated rules and texts
 
-/// A rule of a seed below 2,300: small ones, then deep ones, then large ones.
-pub fn rule(r: &mut Random, seed: u64) -> Vec<u8> {
+/// A rule of a seed below 2,300, its tree, and the numbers that go on from there: small ones, then deep ones, then large ones. None that passes document
+/// 01's limits.
+pub fn seeded(seed: u64) -> Option<(Random, Vec<u8>, Sequence)> {
+    let mut r = Random::new(seed);
     let (deep, wanted) = (r.below(9), [r.between(60, 70), r.between(71, 448), r.between(449, 512)][r.below(3)]);
-    match seed {
-        0..1700 => small(r),
-        1700..2100 => nested(r, deep.max(1)),
-        _ => sized(r, wanted, deep),
-    }
+    let rule = match seed {
+        0..1700 => small(&mut r),
+        1700..2100 => nested(&mut r, deep.max(1)),
+        _ => sized(&mut r, wanted, deep),
+    };
+    let tree = parse(&rule).expect("a rule");
+    (states(&tree) <= 512 && depth(&tree) <= 8).then_some((r, rule, tree))
 }
 
 fn seeds(checks: &mut Checks) {
     let mut seen = Seen::default();
     for seed in 0..2300 {
-        let mut r = Random::new(seed);
-        let rule = rule(&mut r, seed);
-        let tree = parse(&rule).expect("a rule");
-        if states(&tree) > 512 || depth(&tree) > 8 {
-            continue;
-        }
+        let Some((mut r, rule, tree)) = seeded(seed) else { continue };
         let Some(image) = checks.built(&format!("seed {seed}"), &rule) else { continue };
         seen.add("rules", 1);
         seen.tree(&tree);

@@ -2,11 +2,11 @@
 
 use crate::build::longest;
 use crate::checks::{fresh, Checks};
-use crate::match_ends::{rule, LONGEST_TEXT};
+use crate::match_ends::{seeded, LONGEST_TEXT};
 use crate::seen::Seen;
 use outside_checks::driver::{begin_call, step_call, Watched};
 use outside_checks::generate::Random;
-use outside_checks::independent::{depth, image, parse, states, step, Edges, Item, Watch, LAST_PLACE};
+use outside_checks::independent::{image, parse, states, step, Edges, Item, Watch, LAST_PLACE};
 use outside_checks::texts::text;
 
 pub fn all(checks: &mut Checks) {
@@ -210,12 +210,7 @@ fn any_place(r: &mut Random) -> u64 {
 fn seeds(checks: &mut Checks) {
     let mut seen = Seen::default();
     for seed in (0..1700).step_by(5).chain((1700..2100).step_by(2)).chain((2100..2300).step_by(2)) {
-        let mut r = Random::new(seed);
-        let rule = rule(&mut r, seed);
-        let tree = parse(&rule).expect("a rule");
-        if states(&tree) > 512 || depth(&tree) > 8 {
-            continue;
-        }
+        let Some((mut r, rule, tree)) = seeded(seed) else { continue };
         seen.tree(&tree);
         let words = image(&tree);
         for _ in 0..10 {

@@ -1,5 +1,4 @@
 -- `is_mask`: the number of words, and then the bits above the last state, as the model has them.
-use mathlib.Core.Path.{refl}
 use Prim.Native.Nat.{_+_, _-_, _/_}
 use native.Mathlib.Omega.{arith}
 use borrow.Author.Needs.{needs}

@@ -3,6 +3,7 @@
 pub mod Definitions
 pub mod Answers
 pub mod Watch
+pub mod Spelling
 pub mod Examples
 pub mod Reading
 pub mod Language

@@ -10,8 +10,9 @@ pub mod Live
 pub mod Ends
 pub mod Image
 pub mod Answers
--- Change requests: the watch (Wish 1).
+-- Change requests: the watch (Wish 1), spellings (Wish 9).
 pub mod Watch
+pub mod Spelling
 -- The worked examples, every one proved.
 pub mod Worked
 -- Models: what the code computes. The theorems in proofs/ tie each to the definitions above.

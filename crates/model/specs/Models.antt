@@ -6,3 +6,4 @@ pub mod Tokens
 pub mod LayOut
 pub mod Apart
 pub mod Verdict
+pub mod Leads

@@ -1,28 +1,36 @@
 // The watcher's operations as a library for C and firmware: a symbol for each, which trusts no caller. Each gives one 64-bit number, that of the
 // documents' tables times 2^32 plus the count.
+use proposer::Proposed;
+use spelling::Judged;
 use watch::Begun;
 use watch::Stepped;
 use watcher::Built;
 use watcher::Matched;
 use watcher::begin;
 use watcher::build;
+use watcher::check_spelling;
 use watcher::match_ends;
+use watcher::propose_spelling;
 use watcher::read_back;
 use watcher::step;
 use writing::Written;
+ghost use mathlib.Core.Bool.{cond};
 ghost use mathlib.Core.List.{[]};
 ghost use mathlib.Core.Path.{_≡_};
 ghost use Prim.Native.Nat.{_+_, _*_, _^_, _≤_, _<_};
 ghost use Rattle.model.specs.Answers.{BuildSays, MatchSays, ReadBackSays};
+ghost use Rattle.model.specs.Spelling.{CheckSays, ProposeSays};
 ghost use Rattle.model.specs.Watch.{BeginSays, StepSays};
+ghost use Rattle.proposer.specs.Answers.{proposedAnswer};
+ghost use Rattle.spelling.specs.Answers.{checkedNumber, checkedYes};
 ghost use Rattle.watch.specs.Answers.{begunAnswer, steppedAnswer};
 ghost use Rattle.writing.specs.Says.{writtenAnswer};
 ghost use Rattle.watcher.specs.Answers.{builtAnswer, matchedAnswer};
-ghost use Rattle.panel.specs.Says.{Gives, packed, WatchGives};
+ghost use Rattle.panel.specs.Says.{CheckGives, Gives, packed, ProposeGives, WatchGives};
 
 // The table's number and the count, in one.
 fn pack(number: u64, count: usize) -> u64
-    requires { ⌜ (number ≤ 10) × (count < 2 ^ 32) ⌝ }
+    requires { ⌜ (number ≤ 17) × (count < 2 ^ 32) ⌝ }
     ensures { λ r. ⌜ r ≡ number * 2 ^ 32 + count ⌝ }
 {
     number * 0x1_0000_0000 + count as u64
@@ -149,4 +157,59 @@ pub extern "C" fn lavumbishe_step(
 {
     let stepped = step(image, mask, place, stretch, ends);
     pack_stepped(stepped)
+}
+
+// What the check of a spelling answered: 1 for yes.
+fn pack_judged(judged: Judged) -> u64
+    ensures { λ r. ⌜ r ≡ checkedNumber judged * 2 ^ 32 + cond (checkedYes judged) 1 0 ⌝ }
+{
+    match judged {
+        Judged::NotAnImage => pack(6, 0),
+        Judged::TextTooLong => pack(7, 0),
+        Judged::No => pack(0, 0),
+        Judged::Yes => pack(0, 1),
+    }
+}
+
+// Whether a proposal is right: a start place, an end place, and for each byte between them the state that it enters.
+#[no_mangle]
+pub extern "C" fn lavumbishe_check_spelling(
+    image: &[u64],
+    text: &[u8],
+    start: u64,
+    end: u64,
+    states: &[u32],
+) -> u64
+    ensures { λ r. ⌜ CheckGives (CheckSays (now (image .entry)) (now (text .entry)) start end (now (states .entry))) r ⌝ }
+{
+    let judged = check_spelling(image, text, start as usize, end as usize, states);
+    pack_judged(judged)
+}
+
+// What the proposer answered.
+fn pack_proposed(proposed: Proposed) -> u64
+    requires { ⌜ proposedAnswer proposed [] .count < 2 ^ 32 ⌝ }
+    ensures { λ r. ⌜ r ≡ proposedAnswer proposed [] .number * 2 ^ 32 + proposedAnswer proposed [] .count ⌝ }
+{
+    match proposed {
+        Proposed::NotAnImage => pack(6, 0),
+        Proposed::TextTooLong => pack(7, 0),
+        Proposed::NoEnd => pack(16, 0),
+        Proposed::NoRoom => pack(17, 0),
+        Proposed::Done(_, count) => pack(0, count),
+    }
+}
+
+// A spelling for an end of a text: its states in lent 32-bit numbers; its start is the end less their number.
+#[no_mangle]
+pub extern "C" fn lavumbishe_propose_spelling(
+    image: &[u64],
+    text: &[u8],
+    end: u64,
+    states: &mut [u32],
+) -> u64
+    ensures { λ r. ⌜ ProposeGives (ProposeSays (now (image .entry)) (now (text .entry)) end (now (states .entry))) r end (now (states .exit)) ⌝ }
+{
+    let proposed = propose_spelling(image, text, end as usize, states);
+    pack_proposed(proposed)
 }

@@ -5,3 +5,4 @@ pub mod Carry
 pub mod Live
 pub mod Ends
 pub mod Stretch
+pub mod Reach

@@ -6,3 +6,5 @@ pub mod Passes
 pub mod Table
 pub mod Widths
 pub mod One
+pub mod Back
+pub mod Reached

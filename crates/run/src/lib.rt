@@ -2,6 +2,7 @@
 // states and the ends.
 pub mod ends;
 pub mod live;
+pub mod reach;
 mod rows;
 mod shape;
 mod steps;

@@ -1,19 +1,25 @@
-// The watcher's operations: document 01, "Numbers given back", and document 02's watch. No caller is trusted; a refusal changes nothing that was lent
-// and gives count 0. What each answer means, its number and its count, is defined in specs/Answers.antt, and for the watch in crates/watch.
+// The watcher's operations: document 01, "Numbers given back", and document 02's watch and spellings. No caller is trusted; a refusal changes nothing
+// that was lent and gives count 0. What each answer means, its number and its count, is defined in specs/Answers.antt, and for the watch and for
+// spellings in their crates.
 
 mod building;
 
 use crate::building::store_tree;
+use proposer::Proposed;
 use rule::Outcome;
 use rule::read_rule;
 use run::ends::find;
+use spelling::Judged;
 use verdict::Verdict;
 use verdict::check;
 use watch::Begun;
 use watch::Stepped;
 use writing::Written;
 ghost use Rattle.model.specs.Answers.{BuildSays, MatchSays, ReadBackSays};
+ghost use Rattle.model.specs.Spelling.{CheckSays, ProposeSays};
 ghost use Rattle.model.specs.Watch.{BeginSays, StepSays};
+ghost use Rattle.proposer.specs.Answers.{proposedAnswer};
+ghost use Rattle.spelling.specs.Answers.{checkedNumber, checkedYes};
 ghost use Rattle.watch.specs.Answers.{begunAnswer, steppedAnswer};
 ghost use Rattle.writing.specs.Says.{writtenAnswer};
 ghost use Rattle.watcher.specs.Answers.{builtAnswer, matchedAnswer};
@@ -95,4 +101,26 @@ pub fn step(
         (steppedAnswer r (now (mask .exit)) (now (place .exit)) (now (ends .exit))) ⌝ }
 {
     watch::step(image, mask, place, stretch, ends)
+}
+
+// Check a spelling that anyone proposes: a start place, an end place, and for each byte between them the state that it enters. The refusals are 6 and 7;
+// otherwise yes or no.
+pub fn check_spelling(
+    image: &[u64],
+    text: &[u8],
+    start: usize,
+    end: usize,
+    states: &[u32],
+) -> Judged
+    ensures { λ r. ⌜ CheckSays (now (image .entry)) (now (text .entry)) start end (now (states .entry)) (checkedNumber r) (checkedYes r) ⌝ }
+{
+    spelling::check_spelling(image, text, start, end, states)
+}
+
+// Propose a spelling for an end of a text: the latest start, and the states in lent words. The refusals are 6, 7, 16 and 17; done gives the start and the
+// number of states.
+pub fn propose_spelling(image: &[u64], text: &[u8], end: usize, states: &mut [u32]) -> Proposed
+    ensures { λ r. ⌜ ProposeSays (now (image .entry)) (now (text .entry)) end (now (states .entry)) (proposedAnswer r (now (states .exit))) ⌝ }
+{
+    proposer::propose_spelling(image, text, end, states)
 }

@@ -25,7 +25,7 @@ feed-app u [] y = refl
 feed-app u (b ∷ x) y = feed-app (b ∷ u) x y
 
 -- a text of P and then one of Q
-abbrev Then : Language → (List ℕ → Type 0) → Language
+abbrev pub Then : Language → (List ℕ → Type 0) → Language
 Then P Q w = (u : List ℕ) × (v : List ℕ) × (w ≡ feed u v) × P u × Q v
 
 -- ---- a letter
@@ -75,7 +75,7 @@ join P Q R w h =
     (m .0, m .1 ++ h .1, h .2 ∙ ap (λ (z : List ℕ). feed z (h .1)) (m .2) ∙ sym (feed-app (m .0) (m .1) (h .1)), m .3, (m .1, h .1, refl, m .4, h .4))
 
 mutual
-  after-out : (s : Seq) (P : Language) (w : List ℕ) → after s P w → Then P (Spells s) w
+  pub after-out : (s : Seq) (P : Language) (w : List ℕ) → after s P w → Then P (Spells s) w
   after-out end P w h = (w, [], refl, h, refl)
   after-out (letter c r s) P w h =
       let m = after-out s (afterLetter c r P) w h in

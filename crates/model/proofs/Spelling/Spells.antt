@@ -1,0 +1,143 @@
+-- WHAT A SPELLING SPELLS: bytes lead from 0 to the accepting state exactly if the rule spells them. So the latest start is the last place from which
+-- the bytes up to the end are spelled.
+use mathlib.Core.Path.{_≡_, refl, sym, ap, _∙_, subst}
+use mathlib.Core.Logic.{_⊎_, inl, inr, _↔_}
+use mathlib.Core.Bool.{true, false}
+use mathlib.Core.List.{List, [], _∷_, _++_, append-nil, reverse, reverse-reverse}
+use Prim.Native.Nat.{ℕ, suc, _≤_}
+use lib.Dec.{T}
+use lib.ListN.{length}
+use Rattle.model.specs.Lists.{_∈_, All}
+use Rattle.model.specs.Bits.{bit}
+use Rattle.model.specs.Tree.{Alts, canLoop, canSkip, end, last, letter, more, once, option, plus, Repeat, Seq, star, Tree, union}
+use Rattle.model.specs.Edges.{accepting, altsEnd, endsOf, seqEnd, startsOf, ways}
+use Rattle.model.specs.Ends.{AltsSpell, LetterSpells, Spells}
+use Rattle.model.specs.Live.{Free, itself, onward, Reached, Takes}
+use Rattle.model.specs.Models.Leads.{Leads}
+use Rattle.model.specs.Spelling.{between, Reaches, Spelled}
+use Rattle.model.proofs.Definitions.Free.{free-is}
+use Rattle.model.proofs.Definitions.Takes.{takes-is}
+use Rattle.model.proofs.Language.Arcs.{altsArcs, Arc, arc, arcs, Branch, branch-parts, Byte, forkArc, Letter, letter-parts, letterArc, loopArc, propagateArc, Still}
+use Rattle.model.proofs.Language.Carried.{carried, Carries}
+use Rattle.model.proofs.Language.Languages.{Language}
+use Rattle.model.proofs.Language.Stretches.{after-out, feed}
+use Rattle.model.proofs.Language.Texts.{at, end-of, start-of, Texts, texts-table, to}
+use Rattle.model.proofs.Laws.Lists.{all-in, all-left, all-right, In, in-all}
+use Rattle.model.proofs.Spelling.Ends.{spelled-leads}
+use Rattle.model.proofs.Spelling.Leads.{earlier}
+
+-- ---- a way along arcs from one state to another, by bytes
+data Goes (E : Arc → Type 0) : ℕ → List ℕ → ℕ → Type 0 where
+  here : {q : ℕ} → Goes E q [] q
+  still : {q p r : ℕ} {v : List ℕ} (e : Arc) → E e → Still (e .kind) (e .from) (e .to) q p → Goes E p v r → Goes E q v r
+  byte : {b q p r : ℕ} {v : List ℕ} (e : Arc) → E e → Byte b (e .kind) (e .from) (e .to) q p → Goes E p v r → Goes E q (b ∷ v) r
+
+module _ (E : Arc → Type 0) where
+  goes-on : {q p r : ℕ} {u v : List ℕ} → Goes E q u p → Goes E p v r → Goes E q (u ++ v) r
+  goes-on here h = h
+  goes-on (still e i m g) h = still e i m (goes-on g h)
+  goes-on (byte e i m g) h = byte e i m (goes-on g h)
+
+  -- ---- WHAT IS SPELLED IS A WAY
+  letter-goes : (c : ℕ) (r : Repeat) (s : Seq) (t k : ℕ) → Letter E c r s t k → (x : List ℕ) → LetterSpells c r x → Goes E t x (suc t)
+  letter-goes c r s t k A x h = go r (A .loops) (A .skips) h
+    where
+      one : (b : ℕ) (v : List ℕ) → T (bit c b) → Goes E (suc t) v (suc t) → Goes E t (b ∷ v) (suc t)
+      one b v k g = byte (arc (letterArc c) _ t (suc t)) (A .takes) (k, refl, refl) g
+
+      single : ((b : ℕ) × (x ≡ b ∷ []) × T (bit c b)) → Goes E t x (suc t)
+      single (b, e, k) = subst (λ (v : List ℕ). Goes E t v (suc t)) (sym e) (one b [] k here)
+
+      loop : (l : E (arc (loopArc c) k (suc t) (suc t))) (v : List ℕ) → All (λ b. T (bit c b)) v → Goes E (suc t) v (suc t)
+      loop l [] a = here
+      loop l (b ∷ v) a = byte (arc (loopArc c) k (suc t) (suc t)) l (a .0, refl, refl) (loop l v (a .1))
+
+      go : (r : Repeat) → (T (canLoop r) → E (arc (loopArc c) k (suc t) (suc t))) → (T (canSkip r) → E (arc propagateArc k t (suc t))) → LetterSpells c r x → Goes E t x (suc t)
+      go once l z h = single h
+      go option l z (inl e) = subst (λ (v : List ℕ). Goes E t v (suc t)) (sym e) (still (arc propagateArc k t (suc t)) (z tt) (refl, refl) here)
+      go option l z (inr h) = single h
+      go star l z h = many x h
+        where
+          many : (v : List ℕ) → All (λ b. T (bit c b)) v → Goes E t v (suc t)
+          many [] a = still (arc propagateArc k t (suc t)) (z tt) (refl, refl) here
+          many (b ∷ v) a = one b v (a .0) (loop (l tt) v (a .1))
+      go plus l z (b, y, e, k, a) = subst (λ (v : List ℕ). Goes E t v (suc t)) (sym e) (one b y k (loop (l tt) y a))
+
+  mutual
+    spells-goes : (s : Seq) (t k : ℕ) → All E (arcs s t k) → (v : List ℕ) → Spells s v → Goes E t v (seqEnd s t)
+    spells-goes end t k A v h = subst (λ (x : List ℕ). Goes E t x t) (sym h) here
+    spells-goes (letter c r s) t k A v (x, y, e, h, l) =
+        let B = letter-parts E c r s t k A in
+        subst (λ (w : List ℕ). Goes E t w (seqEnd s (suc t))) (sym e) (goes-on (letter-goes c r s t k B x h) (spells-goes s (suc t) k (B .rest) y l))
+    spells-goes (union a s) t k A v (x, y, e, h, l) =
+        let B = branch-parts E a s t k A in
+        let u = suc (altsEnd a t) in
+        let F = arc (forkArc (ways a t)) k t u in
+        let w = alts-goes a t k (B .alts) x h in
+        let on = goes-on (w .4) (still F (B .forks) (inr (w .3, refl)) here) in
+        subst (λ (z : List ℕ). Goes E t z (seqEnd s u)) (sym e)
+        (goes-on (subst (λ (z : List ℕ). Goes E t z u) (append-nil x) (still F (B .forks) (inl (refl, w .2)) on)) (spells-goes s u k (B .rest) y l))
+
+    -- from an alternative's start to its end
+    alts-goes : (a : Alts) (p k : ℕ) → All E (altsArcs a p k) → (v : List ℕ) → AltsSpell a v
+        → (i : ℕ) × (j : ℕ) × (i ∈ startsOf (ways a p)) × (j ∈ endsOf (ways a p)) × Goes E i v j
+    alts-goes (last s) p k A v h = (suc p, seqEnd s (suc p), inl refl, inl refl, spells-goes s (suc p) (suc k) A v h)
+    alts-goes (more s a) p k A v (inl h) =
+        let z = seqEnd s (suc p) in
+        (suc p, z, inl refl, inl refl, spells-goes s (suc p) (suc k) (all-left E (arcs s (suc p) (suc k)) (altsArcs a z k) A) v h)
+    alts-goes (more s a) p k A v (inr h) =
+        let z = seqEnd s (suc p) in
+        let w = alts-goes a z k (all-right E (arcs s (suc p) (suc k)) (altsArcs a z k) A) v h in
+        (w .0, w .1, inr (w .2), inr (w .3), w .4)
+
+module _ (t : Tree) where
+  abbrev Ways : ℕ → List ℕ → ℕ → Type 0
+  Ways = Goes (In (arcs t 0 0))
+
+  -- ---- a way to the accepting state leads there, and the other way round
+  goes-leads : {q r : ℕ} {v : List ℕ} → Ways q v r → r ≡ accepting t → Leads t v q
+  goes-leads (here {q}) e = itself (sym e)
+  goes-leads (still {q} {p} {v = v} a i m g) e = earlier t v (onward (itself refl) (free-is t q p .1 (a, i, m))) (goes-leads g e)
+  goes-leads (byte {b} {q} {p} a i m g) e = (q, itself refl, (p, takes-is t b q p .1 (a, i, m), goes-leads g e))
+
+  reaches-goes : {q p r : ℕ} {v : List ℕ} → Reaches t q p → Ways p v r → Ways q v r
+  reaches-goes {r = r} {v = v} (itself e) g = subst (λ (x : ℕ). Ways x v r) e g
+  reaches-goes (onward {q = x} {r = y} h e) g = let a = free-is t x y .0 e in reaches-goes h (still (a .0) (a .1) (a .2) g)
+
+  leads-goes : (v : List ℕ) (q : ℕ) → Leads t v q → Ways q v (accepting t)
+  leads-goes [] q h = reaches-goes h here
+  leads-goes (b ∷ v) q (p, h, (r, k, l)) = let a = takes-is t b p r .0 k in reaches-goes h (byte (a .0) (a .1) (a .2) (leads-goes v r l))
+
+  -- ---- A WAY IS SPELLED: every arc carries the languages of the states along, of texts that begin in state 0
+  abbrev None : Language
+  None w = w ≡ []
+
+  abbrev L : ℕ → Language
+  L = Texts t 0 None
+
+  carries : (e : Arc) → e ∈ arcs t 0 0 → Carries L e
+  carries = all-in (Carries L) (arcs t 0 0) (carried L t 0 0 None (texts-table t 0 None))
+
+  goes-text : {q r : ℕ} {v : List ℕ} (w : List ℕ) → Ways q v r → L q w → L r (feed w v)
+  goes-text w here l = l
+  goes-text w (still {q} {p} e i m g) l = goes-text w g (carries e i .still q p m w l)
+  goes-text w (byte {b} {q} {p} e i m g) l = goes-text (b ∷ w) g (carries e i .byte b q p m w l)
+
+  -- THE THEOREM: the bytes that lead from 0 to the accepting state are those that the rule spells
+  pub leads-spells : (v : List ℕ) → Leads t v 0 ↔ Spells t v
+  leads-spells v = (there, λ h. goes-leads (spells-goes (In (arcs t 0 0)) t 0 0 (in-all (arcs t 0 0)) v h) refl)
+    where
+      there : Leads t v 0 → Spells t v
+      there h =
+          let l = goes-text [] (leads-goes v 0 h) (to (start-of L t 0 None (texts-table t 0 None)) refl) in
+          let o = after-out t None (feed [] v) (at (end-of L t 0 None (texts-table t 0 None)) l) in
+          let e : feed [] v ≡ feed [] (o .1) = o .2 ∙ ap (λ (u : List ℕ). feed u (o .1)) (o .3) in
+          subst (Spells t) (sym (sym (reverse-reverse v) ∙ ap reverse e ∙ reverse-reverse (o .1))) (o .4)
+
+  -- so a spelling exists from one place to another exactly if the bytes between them are spelled
+  pub spelled-spells : (text : List ℕ) (start stop : ℕ)
+      → ((states : List ℕ) × Spelled t text start stop states) ↔ ((stop ≤ length text) × (start ≤ stop) × Spells t (between text start stop))
+  spelled-spells text start stop = (
+    λ s. let l = spelled-leads t text start stop .0 s in (l .0, l .1, leads-spells (between text start stop) .0 (l .2)),
+    λ (l, m, h). spelled-leads t text start stop .1 (l, m, leads-spells (between text start stop) .1 h),
+  )

@@ -1,0 +1,33 @@
+-- `choose`: the lowest state in both.
+use mathlib.Core.Path.{_≡_}
+use lib.ListN.{length}
+use Rattle.mask.proofs.Laws.Bits.{fit-row}
+use Rattle.proposer.proofs.Laws.Walk.{choose-says}
+use borrow.Author.Needs.{needs}
+use Rattle.proposer.proofs.write.choose.Statement.{statement}
+use Rattle.proposer.proofs.write.choose.Tie as tie
+
+enter-requires : tie.Need-enter-requires
+enter-requires c κs = search needs
+
+and-requires : tie.Need-and-requires
+and-requires c κs = search needs
+
+lowest-requires : tie.Need-lowest-requires
+lowest-requires c κs = search needs
+
+returns : tie.Need-returns
+returns c =
+    let s = c .before .before .before .before .before in
+    let a = s .args in
+    let n = c .before .before .before .enter in
+    let b = c .before .before .and in
+    let v = a .set in
+    let lo : length (n .result .words) ≡ 8 = search needs in
+    let ls : length v ≡ 8 = search needs in
+    let lb : length (b .result .words) ≡ 8 = search needs in
+    choose-says (a .image .now) (a .row) v (n .result .words) (b .result .words) (a .byte) (c .lowest .result) (n .ensures .1) lo ls lb
+    (fit-row (n .result .words) (λ i. search needs)) (fit-row v (λ i. search needs)) (b .ensures) (c .lowest .ensures)
+
+pub choose-spec : {M : Type 1} → statement M
+choose-spec = tie.close (tie.spec enter-requires and-requires lowest-requires returns)

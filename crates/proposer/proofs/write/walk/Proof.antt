@@ -1,0 +1,97 @@
+-- `walk`: each turn writes one state more.
+use native.Mathlib.Omega.{arith}
+use Prim.Native.Nat.{_-_}
+use Rattle.proposer.proofs.Laws.Walk.{Walking, walking-all, walking-more, walking-none}
+use borrow.Author.Needs.{needs}
+use Rattle.proposer.proofs.write.walk.Statement.{statement}
+use Rattle.proposer.proofs.write.walk.Tie as tie
+
+abbrev Inv-loop : tie.InvT-loop
+Inv-loop image text lo hi rows sets from start states₀ at₀ k₀ states at k = Walking image rows text lo hi sets from start states₀ k at states
+
+abbrev μ-loop : tie.MeasureT-loop
+μ-loop image text lo hi rows sets from start states₀ at₀ k₀ states at k = hi - k
+
+loop-holds : tie.Need-loop-holds Inv-loop μ-loop
+loop-holds c =
+    let s = c .before .before .before in
+    let a = s .args in
+    walking-none (a .image .now) (a .rows .now) (a .text .now) (a .lo) (a .hi) (a .sets .now) (a .from) (a .start) (a .states .now) (s .pre)
+
+mul-row : tie.Need-mul-row Inv-loop μ-loop
+mul-row c = search needs
+
+element-copy-out-row : tie.Need-element-copy-out-row Inv-loop μ-loop
+element-copy-out-row c = search needs
+
+sub-set : tie.Need-sub-set Inv-loop μ-loop
+sub-set c = search needs
+
+mul-set : tie.Need-mul-set Inv-loop μ-loop
+mul-set c = search needs
+
+element-copy-out-set : tie.Need-element-copy-out-set Inv-loop μ-loop
+element-copy-out-set c = search needs
+
+shared-slice-read-choose : tie.Need-shared-slice-read-choose Inv-loop μ-loop
+shared-slice-read-choose c = search needs
+
+choose-requires : tie.Need-choose-requires Inv-loop μ-loop
+choose-requires c κs = search needs
+
+cast-states : tie.Need-cast-states Inv-loop μ-loop
+cast-states c = search needs
+
+sub-states : tie.Need-sub-states Inv-loop μ-loop
+sub-states c = search needs
+
+mul-states : tie.Need-mul-states Inv-loop μ-loop
+mul-states c = search needs
+
+slice-write-states : tie.Need-slice-write-states Inv-loop μ-loop
+slice-write-states c = search needs
+
+add-k : tie.Need-add-k Inv-loop μ-loop
+add-k c = search needs
+
+loop-less : tie.Need-loop-less Inv-loop μ-loop
+loop-less c = search needs
+
+loop-again : tie.Need-loop-again Inv-loop μ-loop
+loop-again c =
+    let s = c .before .before .before .before .before .before .before .before .before in
+    let a = s .args in
+    walking-more (a .image .now) (a .rows .now) (a .text .now) (a .lo) (a .hi) (a .sets .now) (a .from) (a .start) (a .states .now) (s .pre) (c .before .before .before .before .before .loop .inv) (c .before .before .before .before .loop-test .taken) (c .choose .result) (c .choose .ensures)
+
+same-length : tie.Need-same-length Inv-loop μ-loop
+same-length c = search needs
+
+returns : tie.Need-returns Inv-loop μ-loop
+returns c =
+    let s = c .before .before .before .before .before in
+    let a = s .args in
+    walking-all (a .image .now) (a .rows .now) (a .text .now) (a .lo) (a .hi) (a .sets .now) (a .from) (a .start) (a .states .now) (s .pre) (c .before .loop .inv) (c .loop-test .left)
+
+pub walk-spec : {M : Type 1} → statement M
+walk-spec =
+    tie.close
+    (tie.spec
+    Inv-loop
+    μ-loop
+    loop-holds
+    mul-row
+    element-copy-out-row
+    sub-set
+    mul-set
+    element-copy-out-set
+    shared-slice-read-choose
+    choose-requires
+    cast-states
+    sub-states
+    mul-states
+    slice-write-states
+    add-k
+    loop-less
+    loop-again
+    same-length
+    returns)

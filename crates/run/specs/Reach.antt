@@ -1,34 +1,35 @@
--- WHAT EACH STATE REACHES, WHAT A BYTE ENTERS AND WHAT IT LEAVES: as words, and of words that are an image in the terms of document 01.
+-- WHAT A STATE REACHES, WHAT A BYTE ENTERS AND WHAT IT LEAVES: as words, and of words that are an image in the terms of document 01.
 use mathlib.Core.Path.{_≡_}
-use mathlib.Core.Bool.{false, _&&_, cond}
+use mathlib.Core.Bool.{true, false, cond}
 use mathlib.Core.List.{List, [], _∷_}
 use Prim.Native.Nat.{ℕ, suc, _+_, _*_, _/_, _%_, _^_, _≤_, _<_}
-use lib.Dec.{T, ltb}
+use lib.Dec.{T}
 use lib.ListN.{getD}
 use Rattle.model.specs.Answers.{ImageOf}
 use Rattle.model.specs.Bits.{bit}
 use Rattle.model.specs.Edges.{states}
 use Rattle.model.specs.Live.{Takes}
-use Rattle.model.specs.Models.Apart.{depthWord, stateWord}
+use Rattle.model.specs.Models.Apart.{depthWord}
 use Rattle.model.specs.Models.Run.{moveWords, passWords}
 use Rattle.model.specs.Models.Words.{andWords, orWords, putBit, value}
 use Rattle.model.specs.Tree.{Tree}
 use Rattle.model.specs.Spelling.{Reaches}
 use Rattle.word.specs.Shape.{shaped, widthOf}
 use Rattle.run.specs.Says.{StatesAre}
-use Rattle.run.specs.Work.{masksOf, noWords, rowAt}
+use Rattle.run.specs.Work.{Entered, masksOf, noWords, rowAt}
 
 -- each state back by one: the lowest bit of each word goes into the one before
 abbrev pub unshiftWords : List ℕ → List ℕ
 unshiftWords [] = []
 unshiftWords (x ∷ xs) = (x / 2 + getD xs 0 0 % 2 * 2 ^ 63) ∷ unshiftWords xs
 
+-- the masks of work of words with a shape
+abbrev pub WorkOf : List ℕ → List (List ℕ) → Type 0
+WorkOf ws table = shaped ws ≡ true → Entered ws (widthOf ws) (depthWord ws) table
+
 -- ---- as words; none where there is no shape
 abbrev pub reachWords : List ℕ → ℕ → List ℕ
-reachWords ws q = cond (shaped ws && ltb q (stateWord ws)) (passWords (masksOf ws) (depthWord ws) (putBit noWords q)) noWords
-
-abbrev pub ReachRows : List ℕ → List (List ℕ) → Type 0
-ReachRows ws rows = (q : ℕ) → q < 512 → getD rows q [] ≡ reachWords ws q
+reachWords ws q = cond (shaped ws) (passWords (masksOf ws) (depthWord ws) (putBit noWords q)) noWords
 
 abbrev pub lettersOf : List ℕ → ℕ → List ℕ
 lettersOf ws b = let W = widthOf ws in rowAt ws (5 + W * b) W
@@ -42,9 +43,9 @@ enterWords ws b live = cond (shaped ws) (moveWords (lettersOf ws b) (repeatsOf w
 abbrev pub leaveWords : List ℕ → ℕ → List ℕ → List ℕ
 leaveWords ws b set = cond (shaped ws) (orWords (unshiftWords (andWords set (lettersOf ws b))) (andWords set (repeatsOf ws b))) noWords
 
--- ---- of an image: row q has all that state q reaches without a letter
-abbrev pub ReachSays : List ℕ → List (List ℕ) → Type 0
-ReachSays image rows = (t : Tree) → ImageOf image t → (q : ℕ) → q < states t → StatesAre t (getD rows q []) (Reaches t q)
+-- ---- of an image: the words have all that state q reaches without a letter
+abbrev pub ReachSays : List ℕ → ℕ → List ℕ → Type 0
+ReachSays image q words = (t : Tree) → ImageOf image t → q < states t → StatesAre t words (Reaches t q)
 
 -- a mask of the tree's states
 abbrev pub Inside : Tree → List ℕ → Type 0

@@ -1,24 +1,24 @@
-// What each state reaches without a letter, what a byte enters from a set of states, and what it leaves into one: for spellings, which go
-// forward and back along single edges.
+// What a state reaches without a letter, what a byte enters from a set of states, and what it leaves into one: for spellings, which go forward and back
+// along single edges.
 use crate::rows::row_at;
 use crate::shape::width;
 use crate::steps::pass;
+use crate::table::Table;
 use crate::table::table;
 use mask::Mask;
-use mask::bits::row_with_bit;
+use mask::bits::with_bit;
 use mask::logic::and;
 use mask::logic::or;
 use moves::advance;
 use word::shape::depth;
 use word::shape::has_shape;
-use word::shape::states;
 ghost use mathlib.Core.Bool.{true};
 ghost use mathlib.Core.Path.{_≡_};
 ghost use Rattle.word.specs.Shape.{shaped};
-ghost use Rattle.run.specs.Reach.{EnterSays, enterWords, LeaveSays, leaveWords, lettersOf, ReachRows, ReachSays, repeatsOf, unshiftWords};
+ghost use Rattle.run.specs.Reach.{EnterSays, enterWords, LeaveSays, leaveWords, lettersOf, ReachSays, reachWords, repeatsOf, unshiftWords, WorkOf};
 
-// For each state a mask.
-pub type Reach = [[u64; 8]; 512];
+// The masks of work, as whoever goes along single edges keeps them.
+pub type Work = Table;
 
 // Each state back by one.
 fn unshift(a: [u64; 8]) -> [u64; 8]
@@ -34,36 +34,28 @@ fn unshift(a: [u64; 8]) -> [u64; 8]
     r
 }
 
-fn reach_in(image: &[u64]) -> Reach
-    requires { ⌜ shaped (now image) ≡ true ⌝ }
-    ensures { λ r. ⌜ ReachRows (now (image .entry)) r ⌝ }
-{
-    let none = [0u64; 8];
-    let mut r = [none; 512];
-    let deep = depth(image);
-    let masks = table(image, width(image), deep);
-    let count = states(image);
-    let mut q = 0;
-    while q < count {
-        let one = row_with_bit(none, q);
-        let all = pass(Mask { words: one }, deep, 8, &masks);
-        let row = all.words;
-        r[q] = row;
-        q += 1;
-    }
-    r
-}
-
-// Row q has all that state q reaches; past the states, and where the words have no shape, there is none.
-pub fn reach(image: &[u64]) -> Reach
-    ensures computed { λ r. ⌜ ReachRows (now (image .entry)) r ⌝ }
-    ensures reached { λ r. ⌜ ReachSays (now (image .entry)) r ⌝ }
+// The masks of work, made once for passes from many states; none where the words have no shape.
+pub fn work(image: &[u64]) -> Work
+    ensures { λ r. ⌜ WorkOf (now (image .entry)) r ⌝ }
 {
     if has_shape(image) {
-        return reach_in(image);
+        return table(image, width(image), depth(image));
     }
     let none = [0u64; 8];
-    [none; 512]
+    [none; 81]
+}
+
+// All that a state reaches without a letter.
+pub fn reach(image: &[u64], masks: &Work, q: usize) -> Mask
+    requires { ⌜ WorkOf (now image) (now masks) ⌝ }
+    ensures computed { λ r. ⌜ r .words ≡ reachWords (now (image .entry)) q ⌝ }
+    ensures reached { λ r. ⌜ ReachSays (now (image .entry)) q (r .words) ⌝ }
+{
+    if has_shape(image) {
+        let one = with_bit(mask::none(), q);
+        return pass(one, depth(image), 8, masks);
+    }
+    mask::none()
 }
 
 // The masks of a byte, of words with a shape.

@@ -1,17 +1,18 @@
-// Spellings (Wish 9): which bytes of a text did it, and by which states. A checker of proposals, whoever made them, and a proposer.
-// What each answer means is defined in specs/Answers.antt.
+// Spellings (document 02, Wish 9): which bytes of a text did it, and by which states. The check of a proposal, whoever made it; the crate `proposer` makes
+// one. What each answer means is defined in specs/Answers.antt.
 
 mod follow;
 
 use crate::follow::follow;
-use run::reach::reach;
+use run::reach::work;
 use verdict::Verdict;
 use verdict::check;
 use word::shape::states as states_of;
 ghost use Rattle.model.specs.Spelling.{CheckSays};
 ghost use Rattle.spelling.specs.Answers.{checkedNumber, checkedYes};
+ghost use Rattle.spelling.specs.Work.{IsImage, RightSays};
 
-// What the checker answers: the refusals 6 and 7, no or yes.
+// What the check answers: the refusals 6 and 7, no or yes.
 pub enum Judged {
     NotAnImage,
     TextTooLong,
@@ -38,19 +39,27 @@ pub fn check_spelling(
     if text.len() > 65535 {
         return Judged::TextTooLong;
     }
-    if end > text.len() {
-        return Judged::No;
-    }
-    if start > end {
-        return Judged::No;
-    }
-    if states.len() != end - start {
-        return Judged::No;
-    }
-    let rows = reach(image);
-    let last = states_of(image) - 1;
-    if follow(image, text, start, states, last, &rows) {
+    if is_right(image, text, start, end, states) {
         return Judged::Yes;
     }
     Judged::No
+}
+
+// Places and length first, and then the states. One pass for each byte: a short proposal costs little.
+fn is_right(image: &[u64], text: &[u8], start: usize, end: usize, states: &[u32]) -> bool
+    requires { ⌜ IsImage (now image) ⌝ }
+    ensures { λ r. ⌜ RightSays (now (image .entry)) (now (text .entry)) start end (now (states .entry)) r ⌝ }
+{
+    if end > text.len() {
+        return false;
+    }
+    if start > end {
+        return false;
+    }
+    if states.len() != end - start {
+        return false;
+    }
+    let masks = work(image);
+    let last = states_of(image) - 1;
+    follow(image, &masks, text, start, states, last)
 }

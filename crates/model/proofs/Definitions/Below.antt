@@ -1,11 +1,12 @@
--- EVERY EDGE LEADS TO ONE OF THE TREE'S STATES, for the arcs of a sequence end at or below the state in which it ends.
+-- EVERY EDGE LEADS TO ONE OF THE TREE'S STATES, for the arcs of a sequence end at or below the state in which it ends. One that takes a byte does not
+-- fall, and never enters state 0: it leads to the next state or to its own.
 use Prim.Native.Nat.{ℕ, suc, _≤_, _<_}
 use mathlib.Core.Logic.{inl, inr}
 use native.Mathlib.Omega.{arith}
 use Rattle.model.specs.Lists.{_∈_, All}
 use Rattle.model.specs.Tree.{Alts, end, last, letter, more, Seq, Tree, union}
 use Rattle.model.specs.Edges.{altsEnd, seqEnd, startsOf, states, ways}
-use Rattle.model.specs.Live.{Free, Takes}
+use Rattle.model.specs.Live.{Free, itself, onward, Reached, Takes}
 use Rattle.model.proofs.Definitions.Free.{free-is}
 use Rattle.model.proofs.Definitions.Takes.{takes-is}
 use Rattle.model.proofs.Language.Arcs.{altsArcs, Arc, arcs, branch-whole, Byte, forkArc, letter-whole, Still}
@@ -22,10 +23,10 @@ starts-below (more s a) p r (inr h) = starts-below a (seqEnd s (suc p)) r h
 -- the moves along an arc lead to a state or below it
 record To (top : ℕ) (e : Arc) : Type 0 where
   pub still : (q r : ℕ) → Still (e .kind) (e .from) (e .to) q r → r ≤ top
-  pub byte : (b q r : ℕ) → Byte b (e .kind) (e .from) (e .to) q r → r ≤ top
+  pub byte : (b q r : ℕ) → Byte b (e .kind) (e .from) (e .to) q r → (q ≤ r) × (0 < r) × (r ≤ top)
 
 higher : {top other : ℕ} → top ≤ other → (e : Arc) → To top e → To other e
-higher l e I = record { still = λ q r m. omega (arith, I .still q r m); byte = λ b q r m. omega (arith, I .byte b q r m) }
+higher l e I = record { still = λ q r m. omega (arith, I .still q r m); byte = λ b q r m. let k = I .byte b q r m in omega (arith, k .0, k .1, k .2) }
 
 mutual
   below : (s : Seq) (t k : ℕ) → All (To (seqEnd s t)) (arcs s t k)
@@ -33,8 +34,8 @@ mutual
   below (letter c r s) t k =
       let l = seqEnd-le s (suc t) in
       letter-whole (To (seqEnd s (suc t))) c r s t k (record {
-        takes = record { still = λ q r m. absurd m; byte = λ b q r m. omega (arith, m .2) };
-        loops = λ x. record { still = λ q r m. absurd m; byte = λ b q r m. omega (arith, m .2) };
+        takes = record { still = λ q r m. absurd m; byte = λ b q r m. omega (arith, m .1, m .2) };
+        loops = λ x. record { still = λ q r m. absurd m; byte = λ b q r m. omega (arith, m .1, m .2) };
         skips = λ x. record { still = λ q r m. omega (arith, m .1); byte = λ b q r m. absurd m };
         rest = below s (suc t) k;
       })
@@ -73,5 +74,16 @@ module _ (t : Tree) where
   free-below q r h = let a = free-is t q r .0 h in omega (arith, within (a .0) (a .1) .still q r (a .2))
 
   -- ONE THAT TAKES A BYTE
+  takes-between : (b q r : ℕ) → Takes t b q r → (q ≤ r) × (0 < r) × (r ≤ seqEnd t 0)
+  takes-between b q r h = let a = takes-is t b q r .0 h in within (a .0) (a .1) .byte b q r (a .2)
+
   pub takes-below : (b q r : ℕ) → Takes t b q r → r < states t
-  takes-below b q r h = let a = takes-is t b q r .0 h in omega (arith, within (a .0) (a .1) .byte b q r (a .2))
+  takes-below b q r h = omega (arith, takes-between b q r h .2)
+
+  pub takes-rises : (b q r : ℕ) → Takes t b q r → (q ≤ r) × (0 < r)
+  takes-rises b q r h = let k = takes-between b q r h in (k .0, k .1)
+
+  -- WHAT IS REACHED from some of them without a letter
+  pub reached-below : {D : ℕ → Type 0} → ((q : ℕ) → D q → q < states t) → (q : ℕ) → Reached (Free t) D q → q < states t
+  reached-below f q (itself h) = f q h
+  reached-below f q (onward {q = p} c e) = free-below p q e

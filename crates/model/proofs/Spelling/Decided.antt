@@ -8,25 +8,23 @@ use Prim.Native.Nat.{ℕ, zero, suc, _-_, _≤_, _<_}
 use native.Mathlib.Decide.{ℕ-discrete}
 use native.Mathlib.Nat.{eq-or-lt-of-le}
 use native.Mathlib.Omega.{arith}
-use lib.Dec.{T, eqb, eqb→eq, eqb-refl}
+use lib.Dec.{T}
 use lib.ListN.{drop, length}
 use Rattle.model.specs.Answers.{ImageOf}
-use Rattle.model.specs.Edges.{accepting, depth, states}
-use Rattle.model.specs.Live.{Free, itself, onward, Reached, Takes}
+use Rattle.model.specs.Edges.{accepting, states}
 use Rattle.model.specs.Models.Apart.{anyBelow}
 use Rattle.model.specs.Models.Leads.{Leads}
 use Rattle.model.specs.Models.Verdict.{verdict}
 use Rattle.model.specs.Spelling.{between, CheckSays, Follow, Latest, no-end, no-room, not-an-image, proposed, Proposal, ProposeSays, Reaches, refused, right, Spelled, text-too-long, wrong}
 use Rattle.model.specs.Tree.{Tree}
-use Rattle.model.proofs.Definitions.Live.{passed-is}
+use Rattle.model.proofs.Definitions.Below.{takes-below}
 use Rattle.model.proofs.Image.Decided.{rule-full, verdict-none, verdict-some}
 use Rattle.model.proofs.Laws.Bits.{below-in, below-out}
 use Rattle.model.proofs.Laws.Bool.{and-both, and-split, le-or-lt}
 use Rattle.model.proofs.Spelling.Ends.{spelled-end, spelled-leads}
 use Rattle.model.proofs.Spelling.Moves.{entered, entered-is, left, left-is}
-use Rattle.model.proofs.Spelling.Within.{reaches-rises, takes-rises}
+use Rattle.model.proofs.Spelling.Reach.{reach-set, reaches-below, reachSet}
 use Rattle.model.proofs.Words.Full.{Full}
-use Rattle.model.proofs.Words.Passes.{passed}
 
 -- a test decides
 test : {A : Type 0} (b : Bool) → T b ↔ A → A ⊎ (A → ⊥)
@@ -34,64 +32,49 @@ test true e = inl (e .0 tt)
 test false e = inr (λ a. e .1 a)
 
 module _ (t : Tree) (F : Full t) where
-  reachSet : ℕ → ℕ → Bool
-  reachSet q = passed t F (depth t) (λ x. eqb x q)
-
-  reach-set : (q x : ℕ) → T (reachSet q x) ↔ Reaches t q x
-  unfolding reachSet
-  reach-set q x = (λ h. there (passed-is t F (λ y. eqb y q) x .0 h), λ h. passed-is t F (λ y. eqb y q) x .1 (back h))
-    where
-      there : {x : ℕ} → Reached (Free t) (λ y. T (eqb y q)) x → Reaches t q x
-      there (itself {q = y} h) = itself (eqb→eq y q h)
-      there (onward h e) = onward (there h) e
-
-      back : {x : ℕ} → Reaches t q x → Reached (Free t) (λ y. T (eqb y q)) x
-      back (itself {q = y} e) = itself (subst (λ (z : ℕ). T (eqb y z)) e (eqb-refl y))
-      back (onward h e) = onward (back h) e
-
   -- ---- whether states follow
   follows : ℕ → List ℕ → List ℕ → Bool
-  follows q [] [] = reachSet q (accepting t)
+  follows q [] [] = reachSet t F q (accepting t)
   follows q [] (r ∷ rs) = false
   follows q (b ∷ bs) [] = false
-  follows q (b ∷ bs) (r ∷ rs) = entered t F b (reachSet q) r && follows r bs rs
+  follows q (b ∷ bs) (r ∷ rs) = entered t F b (reachSet t F q) r && follows r bs rs
 
   follows-is : (q : ℕ) (bs rs : List ℕ) → T (follows q bs rs) ↔ Follow t q bs rs
   unfolding follows
-  follows-is q [] [] = reach-set q (accepting t)
+  follows-is q [] [] = reach-set t F q (accepting t)
   follows-is q [] (r ∷ rs) = (λ h. h, λ h. h)
   follows-is q (b ∷ bs) [] = (λ h. h, λ h. h)
   follows-is q (b ∷ bs) (r ∷ rs) =
       let i = follows-is r bs rs in
-      let e = entered-is t F b (reachSet q) r in (
+      let e = entered-is t F b (reachSet t F q) r in (
         λ h.
-            let c = and-split (entered t F b (reachSet q) r) (follows r bs rs) h in
+            let c = and-split (entered t F b (reachSet t F q) r) (follows r bs rs) h in
             let m = e .0 (c .0) in
-            ((m .0, reach-set q (m .0) .0 (m .1), m .2), i .0 (c .1)),
-        λ ((p, h, k), f). and-both (entered t F b (reachSet q) r) (follows r bs rs) (e .1 (p, reach-set q p .1 h, k)) (i .1 f),
+            ((m .0, reach-set t F q (m .0) .0 (m .1), m .2), i .0 (c .1)),
+        λ ((p, h, k), f). and-both (entered t F b (reachSet t F q) r) (follows r bs rs) (e .1 (p, reach-set t F q p .1 h, k)) (i .1 f),
       )
 
   -- ---- from where bytes lead
   leadSet : List ℕ → ℕ → Bool
-  leadSet [] q = reachSet q (accepting t)
-  leadSet (b ∷ bs) q = anyBelow (states t) (λ p. reachSet q p && left t F b (leadSet bs) p)
+  leadSet [] q = reachSet t F q (accepting t)
+  leadSet (b ∷ bs) q = anyBelow (states t) (λ p. reachSet t F q p && left t F b (leadSet bs) p)
 
   lead-set : (bs : List ℕ) (q : ℕ) → q < states t → T (leadSet bs q) ↔ Leads t bs q
   unfolding leadSet
-  lead-set [] q l = reach-set q (accepting t)
+  lead-set [] q l = reach-set t F q (accepting t)
   lead-set (b ∷ bs) q l = (there (λ r k. lead-set bs r k .0), back (λ r k. lead-set bs r k .1))
     where
-      there : ((r : ℕ) → r < states t → T (leadSet bs r) → Leads t bs r) → T (anyBelow (states t) (λ p. reachSet q p && left t F b (leadSet bs) p)) → Leads t (b ∷ bs) q
+      there : ((r : ℕ) → r < states t → T (leadSet bs r) → Leads t bs r) → T (anyBelow (states t) (λ p. reachSet t F q p && left t F b (leadSet bs) p)) → Leads t (b ∷ bs) q
       there f h =
-          let o = below-out (states t) (λ p. reachSet q p && left t F b (leadSet bs) p) h in
-          let c = and-split (reachSet q (o .0)) (left t F b (leadSet bs) (o .0)) (o .2) in
+          let o = below-out (states t) (λ p. reachSet t F q p && left t F b (leadSet bs) p) h in
+          let c = and-split (reachSet t F q (o .0)) (left t F b (leadSet bs) (o .0)) (o .2) in
           let m = left-is t F b (leadSet bs) (o .0) .0 (c .1) in
-          (o .0, reach-set q (o .0) .0 (c .0), (m .0, m .2, f (m .0) (takes-rises t (m .2) .2) (m .1)))
+          (o .0, reach-set t F q (o .0) .0 (c .0), (m .0, m .2, f (m .0) (takes-below t b (o .0) (m .0) (m .2)) (m .1)))
 
-      back : ((r : ℕ) → r < states t → Leads t bs r → T (leadSet bs r)) → Leads t (b ∷ bs) q → T (anyBelow (states t) (λ p. reachSet q p && left t F b (leadSet bs) p))
+      back : ((r : ℕ) → r < states t → Leads t bs r → T (leadSet bs r)) → Leads t (b ∷ bs) q → T (anyBelow (states t) (λ p. reachSet t F q p && left t F b (leadSet bs) p))
       back f (p, h, (r, k, m)) =
-          below-in (states t) (λ p. reachSet q p && left t F b (leadSet bs) p) p (reaches-rises t h l .1)
-          (and-both (reachSet q p) (left t F b (leadSet bs) p) (reach-set q p .1 h) (left-is t F b (leadSet bs) p .1 (r, f r (takes-rises t k .2) m, k)))
+          below-in (states t) (λ p. reachSet t F q p && left t F b (leadSet bs) p) p (reaches-below t h l)
+          (and-both (reachSet t F q p) (left t F b (leadSet bs) p) (reach-set t F q p .1 h) (left-is t F b (leadSet bs) p .1 (r, f r (takes-below t b p r k) m, k)))
 
   -- ---- a proposal is right or not
   spelled-or-not : (text : List ℕ) (start stop : ℕ) (list : List ℕ) → Spelled t text start stop list ⊎ (Spelled t text start stop list → ⊥)

@@ -9,6 +9,7 @@ use native.Mathlib.Omega.{arith}
 use lib.Dec.{T, eqb, eqb→eq, eqb-refl}
 use Rattle.model.specs.Tree.{Tree}
 use Rattle.model.specs.Live.{Takes}
+use Rattle.model.proofs.Definitions.Below.{takes-rises}
 use Rattle.model.proofs.Definitions.Takes.{takes-is}
 use Rattle.model.proofs.Ends.Run.{letterSet, loopsByte, loopSet, Moved, moved, moved-in, moved-out}
 use Rattle.model.proofs.Language.Arcs.{Arc, ArcKind, arcs, Byte, forkArc, letterArc, loopArc, propagateArc}
@@ -16,7 +17,6 @@ use Rattle.model.proofs.Laws.Bool.{and-both, and-split, or-left, or-rig
 use Rattle.model.proofs.Laws.Lists.{any-out, In}
 use Rattle.model.proofs.Words.Full.{Full}
 use Rattle.model.proofs.Words.Operations.{next}
-use Rattle.model.proofs.Spelling.Within.{takes-rises}
 
 module _ (t : Tree) (F : Full t) (b : ℕ) where
   abbrev L : ℕ → Bool
@@ -53,7 +53,7 @@ module _ (t : Tree) (F : Full t) (b : ℕ) where
   no-loop h = let r = any-out (λ e. loopsByte b (e .kind) && eqb 0 (e .to)) (arcs t 0 0) h in
       let c = and-split (loopsByte b (r .0 .kind)) (eqb 0 (r .0 .to)) (r .2) in
       let e = eqb→eq 0 (r .0 .to) (c .1) in
-      omega (arith, takes-rises t (takes-is t b (r .0 .from) (r .0 .to) .1 (r .0, r .1, way (r .0 .kind) (r .0 .from) (r .0 .to) (c .0))) .1)
+      omega (arith, takes-rises t b (r .0 .from) (r .0 .to) (takes-is t b (r .0 .from) (r .0 .to) .1 (r .0, r .1, way (r .0 .kind) (r .0 .from) (r .0 .to) (c .0))) .1)
     where
       way : (w : ArcKind) (i j : ℕ) → T (loopsByte b w) → Byte b w i j i j
       way (letterArc c) i j h = absurd h
@@ -69,7 +69,7 @@ module _ (t : Tree) (F : Full t) (b : ℕ) where
     pub entered-is : (r : ℕ) → T (entered r) ↔ ((q : ℕ) × T (D q) × Takes t b q r)
     entered-is zero = (
       λ h. absurd (no-loop (and-split (D 0) (P 0) h .1)),
-      λ (q, d, k). absurd (omega (arith, takes-rises t k .1)),
+      λ (q, d, k). absurd (omega (arith, takes-rises t b q 0 k .1)),
     )
     entered-is (suc x) = (
       λ h. elim (or-split (D x && L (suc x)) (D (suc x) && P (suc x)) h) [
@@ -104,7 +104,7 @@ module _ (t : Tree) (F : Full t) (b : ℕ) where
         from x d (inr (e, h)) = subst (λ (z : ℕ). T (left z)) (sym e) (or-right (D (suc (suc x)) && L (suc (suc x))) (D (suc x) && P (suc x)) (and-both (D (suc x)) (P (suc x)) d h))
 
         to : (r : ℕ) → T (D r) → Takes t b q r → T (left q)
-        to zero d k = absurd (omega (arith, takes-rises t k .1))
+        to zero d k = absurd (omega (arith, takes-rises t b q 0 k .1))
         to (suc x) d k = from x d (takes-sets q x .0 k)
 
         back : (r : ℕ) × T (D r) × Takes t b q r → T (left q)

@@ -7,7 +7,7 @@ use native.Mathlib.Omega.{arith}
 use Rattle.model.specs.Edges.{states}
 use Rattle.model.specs.Live.{After, Before, Free, itself, LiveFrom, onward, Reached, Takes}
 use Rattle.model.specs.Tree.{Tree}
-use Rattle.model.proofs.Definitions.Below.{free-below, takes-below}
+use Rattle.model.proofs.Definitions.Below.{reached-below, takes-below}
 use Rattle.model.proofs.Definitions.Live.{live-map}
 
 module _ (t : Tree) where
@@ -24,15 +24,11 @@ module _ (t : Tree) where
   abbrev Below : (ℕ → Type 0) → Type 0
   Below D = (q : ℕ) → D q → q < states t
 
-  reached-below : {D : ℕ → Type 0} → Below D → Below (Reached (Free t) D)
-  reached-below f q (itself h) = f q h
-  reached-below f q (onward {q = p} c e) = free-below t p q e
-
   pub before-below : Below (Before t)
-  before-below = reached-below (λ q e. omega arith)
+  before-below = reached-below t (λ q e. omega arith)
 
   after-below : (b : ℕ) (D : ℕ → Type 0) → Below (After t b D)
-  after-below b D = reached-below go
+  after-below b D = reached-below t go
     where
       go : (r : ℕ) → (r ≡ 0) ⊎ ((q : ℕ) × D q × Takes t b q r) → r < states t
       go r (inl e) = omega arith

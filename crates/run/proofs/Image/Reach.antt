@@ -1,4 +1,4 @@
--- THE ROWS OF WHAT IS REACHED, ENTERED AND LEFT hold those sets of document 01's states, for words that are an image.
+-- THE WORDS OF WHAT IS REACHED, ENTERED AND LEFT hold those sets of document 01's states, for words that are an image.
 use mathlib.Core.Path.{_≡_, refl, sym, ap, ap₂, _∙_, subst}
 use mathlib.Core.Logic.{_⊎_, inl, inr, _↔_}
 use mathlib.Core.Bool.{Bool, true, false, _&&_, _||_, cond, or-false}
@@ -31,7 +31,8 @@ use Rattle.mask.proofs.Laws.Bits.{none-bit, none-fit}
 use Rattle.model.proofs.Words.RowBits.{row-past}
 use Rattle.model.specs.Spelling.{Reaches}
 use Rattle.model.proofs.Spelling.Moves.{entered, entered-is, left, left-is}
-use Rattle.run.specs.Reach.{enterWords, EnterSays, Inside, leaveWords, LeaveSays, lettersOf, ReachRows, ReachSays, reachWords, repeatsOf, unshiftWords}
+use Rattle.model.proofs.Spelling.Reach.{reach-set, reachSet}
+use Rattle.run.specs.Reach.{enterWords, EnterSays, Inside, leaveWords, LeaveSays, lettersOf, ReachSays, reachWords, repeatsOf, unshiftWords}
 use Rattle.run.specs.Says.{StatesAre}
 use Rattle.run.specs.Work.{masksOf, noWords}
 use Rattle.run.proofs.Image.Carry.{as-arcs, carried, image-shaped}
@@ -42,9 +43,6 @@ module _ (ws : List ℕ) (t : Tree) (I : ImageOf ws t) where
   F : Full t
   F = rule-full t (I .is-rule)
 
-  states-is : stateWord ws ≡ states t
-  states-is = ap stateWord (as-arcs ws t I)
-
   -- a row that has a set's bits everywhere
   states-are : (xs : List ℕ) (f : ℕ → Bool) (S : ℕ → Type 0) → ((q : ℕ) → T (f q) ↔ S q) → Holds (states t) 8 xs f → StatesAre t xs S
   states-are xs f S is H = record {
@@ -54,11 +52,10 @@ module _ (ws : List ℕ) (t : Tree) (I : ImageOf ws t) where
 
   -- ---- REACHED from one state
   module _ (q : ℕ) (l : q < states t) where
-    one : ℕ → Bool
+    abbrev one : ℕ → Bool
     one x = eqb x q
 
     one-holds : Holds (states t) 8 (putBit noWords q) one
-    unfolding one
     one-holds = record {
       near = record { len = put-length noWords q; fit = put-fit noWords q (none-fit 8); bits = λ x k. bits x };
       none = λ x k. bits x ∙ far x (omega arith);
@@ -74,28 +71,15 @@ module _ (ws : List ℕ) (t : Tree) (I : ImageOf ws t) where
             go true e = let z = eqb→eq x q (subst T (sym e) tt) in absurd (omega arith)
             go false e = e
 
-    reached-one : (x : ℕ) → T (passed t F (depth t) one x) ↔ Reaches t q x
-    unfolding one
-    reached-one x = (λ h. there (passed-is t F one x .0 h), λ h. passed-is t F one x .1 (back h))
-      where
-        there : {x : ℕ} → Reached (Free t) (λ y. T (eqb y q)) x → Reaches t q x
-        there (itself {q = y} h) = itself (eqb→eq y q h)
-        there (onward h e) = onward (there h) e
-
-        back : {x : ℕ} → Reaches t q x → Reached (Free t) (λ y. T (eqb y q)) x
-        back (itself {q = y} e) = itself (subst (λ (z : ℕ). T (eqb y z)) e (eqb-refl y))
-        back (onward h e) = onward (back h) e
-
     reach-row : reachWords ws q ≡ passWords (masksOf ws) (depth t) (putBit noWords q)
     reach-row =
-        ap₂ (λ (a b : Bool). cond (a && b) (passWords (masksOf ws) (depthWord ws) (putBit noWords q)) noWords) (image-shaped ws t I)
-        (is-true (ltb q (stateWord ws)) (lt→ltb q (stateWord ws) (omega (arith, states-is))))
+        ap (λ (b : Bool). cond b (passWords (masksOf ws) (depthWord ws) (putBit noWords q)) noWords) (image-shaped ws t I)
         ∙ ap (λ (n : ℕ). passWords (masksOf ws) n (putBit noWords q)) (depth-is ws t I)
 
     reach-is : StatesAre t (reachWords ws q) (Reaches t q)
     reach-is =
         subst (λ (xs : List ℕ). StatesAre t xs (Reaches t q)) (sym reach-row)
-        (states-are (passWords (masksOf ws) (depth t) (putBit noWords q)) (passed t F (depth t) one) (Reaches t q) reached-one
+        (states-are (passWords (masksOf ws) (depth t) (putBit noWords q)) (reachSet t F q) (Reaches t q) (reach-set t F q)
         (passes-words (states t) 8 t F (masksOf ws) (carried ws t I) (putBit noWords q) one one-holds))
 
   -- ---- ENTERED AND LEFT by a byte
@@ -185,8 +169,8 @@ module _ (ws : List ℕ) (t : Tree) (I : ImageOf ws t) where
         (states-are made (left t F b D) (λ q. (r : ℕ) × T (D r) × Takes t b q r) (left-is t F b D) leave-held)
 
 -- WHAT `reach`, `enter` AND `leave` SAY
-pub reach-says : (ws : List ℕ) (rows : List (List ℕ)) → ReachRows ws rows → ReachSays ws rows
-reach-says ws rows R t I q l = subst (λ (xs : List ℕ). StatesAre t xs (Reaches t q)) (sym (R q (omega (arith, I .few)))) (reach-is ws t I q l)
+pub reach-says : (ws : List ℕ) (q : ℕ) (words : List ℕ) → words ≡ reachWords ws q → ReachSays ws q words
+reach-says ws q words e t I l = subst (λ (xs : List ℕ). StatesAre t xs (Reaches t q)) (sym e) (reach-is ws t I q l)
 
 pub enter-says : (ws : List ℕ) (b : ℕ) (live words : List ℕ) → b < 256 → length live ≡ 8 → Fit live → words ≡ enterWords ws b live → EnterSays ws b live words
 enter-says ws b live words h l f e t I inside =

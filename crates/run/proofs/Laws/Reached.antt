@@ -1,63 +1,34 @@
--- THE LOOP OVER THE STATES: a pass from one state is that state's row, and past the states there is none. And what is entered and left, of all eight words.
-use mathlib.Core.Path.{_≡_, refl, sym, ap, ap₂, _∙_}
-use mathlib.Core.Logic.{_⊎_, inl, inr}
-use mathlib.Core.Bool.{Bool, true, false, _&&_, and-false, cond}
-use mathlib.Core.List.{List, []}
-use Prim.Native.Nat.{ℕ, _+_, _≤_, _<_}
+-- WHAT IS REACHED, ENTERED AND LEFT, of all eight words: by cases of whether the words have a shape.
+use mathlib.Core.Path.{_≡_, sym, ap, ap₂, _∙_}
+use mathlib.Core.Bool.{Bool, true, false, cond}
+use mathlib.Core.List.{List}
+use Prim.Native.Nat.{ℕ}
 use native.Mathlib.Omega.{arith}
-use lib.Dec.{ltb, ltb→lt, lt→ltb, T}
-use lib.ListN.{getD, getD-replicate, length, length-set, replicate, set, take}
-use lib.Seq.{getD-set-other, take-all}
-use Rattle.model.specs.Models.Apart.{depthWord, stateWord}
+use lib.ListN.{length, take}
+use lib.Seq.{take-all}
+use Rattle.model.specs.Models.Apart.{depthWord}
 use Rattle.model.specs.Models.Run.{moveWords, passWords}
 use Rattle.model.specs.Models.Words.{andWords, orWords, putBit}
-use Rattle.model.proofs.Laws.Bool.{is-not, is-true, le-or-lt}
 use Rattle.word.specs.Shape.{shaped}
-use Rattle.word.proofs.Laws.Nine.{entered-more}
-use Rattle.run.specs.Reach.{enterWords, leaveWords, lettersOf, ReachRows, reachWords, repeatsOf, unshiftWords}
+use Rattle.run.specs.Reach.{enterWords, leaveWords, lettersOf, reachWords, repeatsOf, unshiftWords}
 use Rattle.run.specs.Work.{masksOf, noWords}
+use Rattle.run.proofs.Laws.Widths.{pass-whole}
 
-module _ (ws : List ℕ) where
-  pub row-there : (q : ℕ) → shaped ws ≡ true → q < stateWord ws → reachWords ws q ≡ passWords (masksOf ws) (depthWord ws) (putBit noWords q)
-  row-there q s h =
-      ap₂ (λ (a b : Bool). cond (a && b) (passWords (masksOf ws) (depthWord ws) (putBit noWords q)) noWords) s
-      (is-true (ltb q (stateWord ws)) (lt→ltb q (stateWord ws) h))
+-- ---- REACHED
+module _ (ws : List ℕ) (q : ℕ) (r : List ℕ) where
+  abbrev whole : List ℕ
+  whole = passWords (masksOf ws) (depthWord ws) (putBit noWords q)
 
-  pub row-none : (q : ℕ) → stateWord ws ≤ q → reachWords ws q ≡ noWords
-  row-none q h =
-      ap (λ (b : Bool). cond (shaped ws && b) (passWords (masksOf ws) (depthWord ws) (putBit noWords q)) noWords)
-      (is-not (ltb q (stateWord ws)) (λ t. let l = ltb→lt q (stateWord ws) t in omega arith))
-      ∙ ap (λ (b : Bool). cond b (passWords (masksOf ws) (depthWord ws) (putBit noWords q)) noWords) (and-false (shaped ws))
+  pub reach-whole : (one : List ℕ) → length one ≡ 8 → length r ≡ 8 → shaped ws ≡ true → one ≡ putBit noWords q
+      → take 8 r ≡ take 8 (passWords (masksOf ws) (depthWord ws) one) → r ≡ reachWords ws q
+  reach-whole one ho hr s eo e =
+      pass-whole (masksOf ws) (depthWord ws) one r (omega arith) (omega arith) e ∙ ap (passWords (masksOf ws) (depthWord ws)) eo
+      ∙ sym (ap (λ (v : Bool). cond v whole noWords) s)
 
-  -- the rows below q are made, the others are empty
-  pub record Made (q : ℕ) (rows : List (List ℕ)) : Type 0 where
-    pub within : q ≤ stateWord ws
-    pub long : length rows ≡ 512
-    pub below : (x : ℕ) → x < q → getD rows x [] ≡ reachWords ws x
-    pub above : (x : ℕ) → q ≤ x → x < 512 → getD rows x [] ≡ noWords
+  pub reach-none : shaped ws ≡ false → r ≡ noWords → r ≡ reachWords ws q
+  reach-none s e = e ∙ sym (ap (λ (v : Bool). cond v whole noWords) s)
 
-  pub made-more : (q : ℕ) (rows : List (List ℕ)) (row : List ℕ) → Made q rows → q < 512 → q < stateWord ws → row ≡ reachWords ws q → Made (q + 1) (set rows q row)
-  made-more q rows row M h k e = record {
-    within = omega arith;
-    long = length-set rows q row ∙ M .long;
-    below = entered-more [] (λ (x : ℕ). reachWords ws x) rows q row (omega (arith, M .long)) (M .below) e;
-    above = λ x l m. getD-set-other rows q x row [] (λ p. omega arith) ∙ M .above x (omega arith) m;
-  }
-
-  pub made-all : (q : ℕ) (rows : List (List ℕ)) → Made q rows → stateWord ws ≤ q → ReachRows ws rows
-  made-all q rows M h x l = go (le-or-lt q x)
-    where
-      go : (q ≤ x) ⊎ (x < q) → getD rows x [] ≡ reachWords ws x
-      go (inl k) = M .above x k l ∙ sym (row-none x (omega arith))
-      go (inr k) = M .below x k
-
-  -- without a shape there is none at all
-  pub no-rows : shaped ws ≡ false → ReachRows ws (replicate 512 noWords)
-  no-rows s x l =
-      getD-replicate 512 x noWords [] l
-      ∙ sym (ap (λ (v : Bool). cond (v && ltb x (stateWord ws)) (passWords (masksOf ws) (depthWord ws) (putBit noWords x)) noWords) s)
-
--- ---- ENTERED AND LEFT, of all eight words
+-- ---- ENTERED AND LEFT
 module _ (ws : List ℕ) (b : ℕ) (live r : List ℕ) where
   pub enter-whole : (l p n : List ℕ) → length l ≡ 8 → length p ≡ 8 → length n ≡ 8 → length live ≡ 8 → length r ≡ 8 → shaped ws ≡ true
       → l ≡ lettersOf ws b → p ≡ repeatsOf ws b → n ≡ noWords → take 8 r ≡ moveWords (take 8 l) (take 8 p) (take 8 n) (take 8 live) → r ≡ enterWords ws b live

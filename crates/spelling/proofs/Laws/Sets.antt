@@ -1,12 +1,13 @@
--- ROWS THAT HOLD A SET OF THE TREE'S STATES: what a state reaches, and what a byte enters from there.
+-- WORDS THAT HOLD A SET OF THE TREE'S STATES: what a state reaches, and what a byte enters from there.
 use mathlib.Core.Path.{_≡_, refl, subst, sym}
 use mathlib.Core.Bool.{Bool, true, false, not}
 use mathlib.Core.Logic.{_⊎_, inl, inr, _↔_}
-use mathlib.Core.List.{List, []}
+use mathlib.Core.List.{List}
 use Prim.Native.Nat.{ℕ, _≤_, _<_}
 use native.Mathlib.Omega.{arith}
 use lib.Dec.{T}
-use lib.ListN.{getD, length}
+use lib.ListN.{length}
+use Rattle.model.specs.Answers.{ImageOf}
 use Rattle.model.specs.Bits.{bit}
 use Rattle.model.specs.Edges.{states}
 use Rattle.model.specs.Live.{Takes}
@@ -15,10 +16,10 @@ use Rattle.model.specs.Tree.{Tree}
 use Rattle.model.proofs.Laws.Bool.{le-or-lt}
 use Rattle.model.proofs.Words.RowBits.{row-past}
 use Rattle.model.specs.Spelling.{Reaches}
-use Rattle.model.proofs.Spelling.Within.{reaches-rises, takes-rises}
-use Rattle.run.specs.Reach.{EnterSays}
+use Rattle.model.proofs.Definitions.Below.{takes-below}
+use Rattle.model.proofs.Spelling.Reach.{reaches-below}
+use Rattle.run.specs.Reach.{EnterSays, ReachSays}
 use Rattle.run.specs.Says.{StatesAre}
-use Rattle.spelling.specs.Work.{Ready}
 
 -- a set whose states are all the tree's, at every place
 pub every : {t : Tree} {words : List ℕ} {S : ℕ → Type 0} → StatesAre t words S → ((q : ℕ) → S q → q < states t) → (q : ℕ) → T (bit (value words) q) ↔ S q
@@ -28,17 +29,16 @@ every {t} {words} {S} A l q = go (le-or-lt (states t) q)
     go (inl h) = (λ b. absurd (subst T (A .beyond q h) b), λ s. absurd (let k = l q s in omega arith))
     go (inr h) = A .within q h
 
-module _ {image : List ℕ} {rows : List (List ℕ)} {last : ℕ} {t : Tree} (R : Ready image rows last t) where
-  pub row-is : {q : ℕ} → q < states t → (p : ℕ) → T (bit (value (getD rows q [])) p) ↔ Reaches t q p
-  row-is {q} h = every (R .reached q h) (λ p k. reaches-rises t k h .1)
+module _ {image : List ℕ} {t : Tree} (I : ImageOf image t) {q : ℕ} (h : q < states t) {row : List ℕ} (R : ReachSays image q row) where
+  pub row-is : (p : ℕ) → T (bit (value row) p) ↔ Reaches t q p
+  row-is = every (R t I h) (λ p k. reaches-below t k h)
 
   -- what a byte enters from what a state reaches
-  pub entered-from : {q : ℕ} → q < states t → (b : ℕ) (on : List ℕ) → EnterSays image b (getD rows q []) on
-      → (r : ℕ) → T (bit (value on) r) ↔ ((p : ℕ) × Reaches t q p × Takes t b p r)
-  entered-from {q} h b on E r =
-      let e = every (E t (R .image-of) (R .reached q h .beyond)) (λ x k. takes-rises t (k .2) .2) r in (
-        λ k. let s = e .0 k in (s .0, row-is h (s .0) .0 (s .1), s .2),
-        λ k. e .1 (k .0, row-is h (k .0) .1 (k .1), k .2),
+  pub entered-from : (b : ℕ) (on : List ℕ) → EnterSays image b row on → (r : ℕ) → T (bit (value on) r) ↔ ((p : ℕ) × Reaches t q p × Takes t b p r)
+  entered-from b on E r =
+      let e = every (E t I (R t I h .beyond)) (λ x k. takes-below t b (k .0) x (k .2)) r in (
+        λ k. let s = e .0 k in (s .0, row-is (s .0) .0 (s .1), s .2),
+        λ k. e .1 (k .0, row-is (k .0) .1 (k .1), k .2),
       )
 
 -- ---- tests, and the bits of eight words

@@ -1,9 +1,15 @@
-use mathlib.Core.Path.{sym, _∙_}
-use lib.ListN.{replicate}
-use Rattle.run.specs.Reach.{ReachRows}
-use Rattle.run.specs.Work.{noWords}
+-- `reach`: a pass from the state alone, with the masks of work lent.
+use mathlib.Core.Path.{_≡_, sym, ap, _∙_}
+use Prim.Native.Nat.{ℕ}
+use native.Mathlib.Omega.{arith}
+use lib.ListN.{length}
+use Rattle.mask.proofs.Laws.Bits.{fit-row}
+use Rattle.model.specs.Models.Words.{putBit}
+use Rattle.word.proofs.Laws.Shape.{shape-of}
+use Rattle.run.specs.Reach.{reachWords}
 use Rattle.run.proofs.Image.Reach.{reach-says}
-use Rattle.run.proofs.Laws.Reached.{no-rows}
+use Rattle.run.proofs.Laws.Reached.{reach-none, reach-whole}
+use Rattle.run.proofs.Laws.Table.{pass-eight}
 use borrow.Author.Needs.{needs}
 use Rattle.run.proofs.reach.reach.Statement.{statement}
 use Rattle.run.proofs.reach.reach.Tie as tie
@@ -11,17 +17,51 @@ use Rattle.run.proofs.reach.reach.Tie as tie
 has-shape-requires : tie.Need-has-shape-requires
 has-shape-requires c κs = search needs
 
-reach-in-requires : tie.Need-reach-in-requires
-reach-in-requires c κs = sym (c .before .has-shape .ensures) ∙ c .if1 .taken
+none-requires : tie.Need-none-requires
+none-requires c κs = search needs
+
+with-bit-requires : tie.Need-with-bit-requires
+with-bit-requires c κs = search needs
+
+depth-requires : tie.Need-depth-requires
+depth-requires c κs = search needs
+
+pass-requires : tie.Need-pass-requires
+pass-requires c κs =
+    let h = c .before .before .before in
+    let a = h .before .before .before .args in
+    omega (arith, c .depth .ensures, shape-of (a .image .now) (sym (h .before .has-shape .ensures) ∙ h .if1 .taken) .shallow)
 
 returns : tie.Need-returns
-returns c = let r = c .reach-in in (r .ensures, reach-says (c .before .before .before .before .args .image .now) (r .result) (r .ensures))
+returns c =
+    let h = c .before .before .before .before in
+    let s = h .before .before .before in
+    let a = s .args in
+    let ws = a .image .now in
+    let o = c .before .before .with-bit in
+    let d = c .before .depth in
+    let r = c .pass .result .words in
+    let shape = sym (h .before .has-shape .ensures) ∙ h .if1 .taken in
+    let ho : length (o .result .words) ≡ 8 = search needs in
+    let hr : length r ≡ 8 = search needs in
+    let e : r ≡ reachWords ws (a .q) =
+    reach-whole ws (a .q) r (o .result .words) ho hr shape (o .ensures ∙ ap (λ w. putBit w (a .q)) (c .before .before .before .none .ensures))
+    (pass-eight ws (fit-row ws (h .before .before .shared-slice-known .given)) (shape-of ws shape) (a .masks .now) (s .pre shape) (d .ensures) (o .result .words) r (c .pass .ensures)) in
+    (e, reach-says ws (a .q) r e)
+
+none-requires-2 : tie.Need-none-requires-2
+none-requires-2 c κs = search needs
 
 returns-2 : tie.Need-returns-2
 returns-2 c =
-    let ws = c .before .before .before .args .image .now in
-    let R : ReachRows ws (replicate 512 noWords) = no-rows ws (sym (c .before .has-shape .ensures) ∙ c .if1 .left) in
-    (R, reach-says ws (replicate 512 noWords) R)
+    let h = c .before in
+    let a = h .before .before .before .args in
+    let ws = a .image .now in
+    let r = c .none2 .result .words in
+    let e : r ≡ reachWords ws (a .q) = reach-none ws (a .q) r (sym (h .before .has-shape .ensures) ∙ h .if1 .left) (c .none2 .ensures) in
+    (e, reach-says ws (a .q) r e)
 
 pub reach-spec : {M : Type 1} → statement M
-reach-spec = tie.close (tie.spec has-shape-requires reach-in-requires returns returns-2)
+reach-spec =
+    tie.close
+    (tie.spec has-shape-requires none-requires with-bit-requires depth-requires pass-requires returns none-requires-2 returns-2)

@@ -1,32 +1,26 @@
 -- `follow`: each turn leaves less to follow, or shows that nothing can.
-use mathlib.Core.Path.{_≡_, sym, _∙_, subst}
+use mathlib.Core.Path.{sym, _∙_, subst}
 use native.Mathlib.Omega.{arith}
 use Prim.Native.Nat.{_-_}
 use lib.Dec.{T}
-use lib.ListN.{getD, length}
-use Rattle.mask.proofs.Laws.Bits.{fit-row}
-use Rattle.model.specs.Bits.{bit}
-use Rattle.model.specs.Models.Words.{value}
+use lib.ListN.{length}
 use Rattle.spelling.proofs.Laws.Follow.{Going, going-ends, going-more, going-none, going-stops}
-use Rattle.spelling.proofs.Laws.Sets.{bit-below, not-false, not-true}
+use Rattle.spelling.proofs.Laws.Sets.{not-false, not-true}
 use borrow.Author.Needs.{needs}
 use Rattle.spelling.proofs.follow.follow.Statement.{statement}
 use Rattle.spelling.proofs.follow.follow.Tie as tie
 
 abbrev Inv-loop : tie.InvT-loop
-Inv-loop image text start states last rows q₀ i₀ q i = Going image rows last text start states q i
+Inv-loop image masks text start states last q₀ i₀ q i = Going image last text start states q i
 
 abbrev μ-loop : tie.MeasureT-loop
-μ-loop image text start states last rows q₀ i₀ q i = length states - i
+μ-loop image masks text start states last q₀ i₀ q i = length states - i
 
 loop-holds : tie.Need-loop-holds Inv-loop μ-loop
-loop-holds c = let a = c .before .before .before .args in going-none (a .image .now) (a .rows .now) (a .last) (a .text .now) (a .start) (a .states .now)
+loop-holds c = let a = c .before .before .before .args in going-none (a .image .now) (a .last) (a .text .now) (a .start) (a .states .now)
 
-mul-row : tie.Need-mul-row Inv-loop μ-loop
-mul-row c = omega (arith, c .before .loop .inv .state)
-
-element-copy-out-row : tie.Need-element-copy-out-row Inv-loop μ-loop
-element-copy-out-row c = c .before .loop .inv .state
+reach-requires : tie.Need-reach-requires Inv-loop μ-loop
+reach-requires c κs = c .before .before .before .before .before .pre .0
 
 add-enter : tie.Need-add-enter Inv-loop μ-loop
 add-enter c = search needs
@@ -51,11 +45,12 @@ has-bit-requires c κs = search needs
 
 returns : tie.Need-returns Inv-loop μ-loop
 returns c =
-    let s = c .before .before .before .before .before .before .before .before .before .before .before in
+    let n = c .before .before .before in
+    let l = n .before .before .before in
+    let s = l .before .before .before .before .before in
     let a = s .args in
-    let n = c .before .before .before .enter in
-    going-stops (a .image .now) (a .rows .now) (a .last) (a .text .now) (a .start) (a .states .now) (s .pre) (c .before .before .before .before .before .before .before .loop .inv) (c .before .before .before .before .before .before .loop-test .taken) (n .result .words) (n .ensures .1)
-    (sym (c .before .has-bit .ensures) ∙ not-true (c .before .has-bit .result) (c .if1 .taken))
+    going-stops (a .image .now) (a .last) (a .text .now) (a .start) (a .states .now) (s .pre .1) (l .before .loop .inv) (l .loop-test .taken) (n .before .before .reach .ensures .1)
+    (n .enter .result .words) (n .enter .ensures .1) (sym (c .before .has-bit .ensures) ∙ not-true (c .before .has-bit .result) (c .if1 .taken))
 
 add-i : tie.Need-add-i Inv-loop μ-loop
 add-i c = search needs
@@ -65,28 +60,26 @@ loop-less c = omega (arith, c .before .before .before .before .before .before .l
 
 loop-again : tie.Need-loop-again Inv-loop μ-loop
 loop-again c =
-    let s = c .before .before .before .before .before .before .before .before .before .before .before in
+    let n = c .before .before .before in
+    let l = n .before .before .before in
+    let s = l .before .before .before .before .before in
     let a = s .args in
-    let n = c .before .before .before .enter in
-    let long : length (n .result .words) ≡ 8 = search needs in
-    let b : T (bit (value (n .result .words)) (getD (a .states .now) (c .before .before .before .before .before .before .before .loop .i) 0)) = subst T (c .before .has-bit .ensures) (subst T (sym (not-false (c .before .has-bit .result) (c .if1 .left))) tt) in
-    going-more (a .image .now) (a .rows .now) (a .last) (a .text .now) (a .start) (a .states .now) (s .pre) (c .before .before .before .before .before .before .before .loop .inv) (c .before .before .before .before .before .before .loop-test .taken) (n .result .words) (n .ensures .1) b
-    (bit-below (n .result .words) (getD (a .states .now) (c .before .before .before .before .before .before .before .loop .i) 0) (fit-row (n .result .words) (λ k. search needs)) long b)
+    going-more (a .image .now) (a .last) (a .text .now) (a .start) (a .states .now) (s .pre .1) (l .before .loop .inv) (l .loop-test .taken) (n .before .before .reach .ensures .1)
+    (n .enter .result .words) (n .enter .ensures .1) (subst T (sym (not-false (c .before .has-bit .result) (c .if1 .left)) ∙ c .before .has-bit .ensures) tt)
 
-mul-row-2 : tie.Need-mul-row-2 Inv-loop μ-loop
-mul-row-2 c = omega (arith, c .before .loop .inv .state)
+reach-requires-2 : tie.Need-reach-requires-2 Inv-loop μ-loop
+reach-requires-2 c κs = c .before .before .before .before .before .pre .0
 
-element-copy-out-row-2 : tie.Need-element-copy-out-row-2 Inv-loop μ-loop
-element-copy-out-row-2 c = c .before .loop .inv .state
-
-row-has-bit-requires : tie.Need-row-has-bit-requires Inv-loop μ-loop
-row-has-bit-requires c κs = search needs
+has-bit-requires-2 : tie.Need-has-bit-requires-2 Inv-loop μ-loop
+has-bit-requires-2 c κs = search needs
 
 returns-2 : tie.Need-returns-2 Inv-loop μ-loop
 returns-2 c =
-    let s = c .before .before .before .before .before .before .before in
+    let l = c .before .before in
+    let s = l .before .before .before .before .before in
     let a = s .args in
-    going-ends (a .image .now) (a .rows .now) (a .last) (a .text .now) (a .start) (a .states .now) (s .pre) (c .before .before .before .loop .inv) (c .before .before .loop-test .left) (c .row-has-bit .result) (c .row-has-bit .ensures)
+    going-ends (a .image .now) (a .last) (a .text .now) (a .start) (a .states .now) (s .pre .1) (l .before .loop .inv) (l .loop-test .left) (c .before .reach2 .ensures .1)
+    (c .has-bit2 .result) (c .has-bit2 .ensures)
 
 pub follow-spec : {M : Type 1} → statement M
 follow-spec =
@@ -95,8 +88,7 @@ follow-spec =
     Inv-loop
     μ-loop
     loop-holds
-    mul-row
-    element-copy-out-row
+    reach-requires
     add-enter
     shared-slice-read-enter
     enter-requires
@@ -108,7 +100,6 @@ follow-spec =
     add-i
     loop-less
     loop-again
-    mul-row-2
-    element-copy-out-row-2
-    row-has-bit-requires
+    reach-requires-2
+    has-bit-requires-2
     returns-2)

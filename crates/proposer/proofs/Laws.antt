@@ -1,6 +1,6 @@
--- What the proofs of the functions cite. Meets: rows with a state in common. Into: the loop over the states. Back: the sets that go back from an end.
-pub mod Meets
-pub mod Into
+-- Sets: rows as sets of states. Origins: what reaches a state. Back: one byte back. Search: the latest start. Walk, Write: the states. Propose: the table.
+pub mod Sets
+pub mod Origins
 pub mod Back
 pub mod Search
 pub mod Walk

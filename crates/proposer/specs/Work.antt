@@ -1,20 +1,19 @@
--- WHAT THE PARTS SAY, of words that are an image and with the rows of what each of its states reaches.
+-- WHAT THE PARTS SAY: of sets as rows of words, of what reaches a state, and of words that are an image.
 use mathlib.Core.Path.{_≡_}
 use mathlib.Core.Logic.{_⊎_, _↔_}
-use mathlib.Core.Bool.{Bool}
 use mathlib.Core.List.{List, [], _∷_}
 use Prim.Native.Nat.{ℕ, suc, _+_, _-_, _*_, _%_, _≤_, _<_}
 use lib.Dec.{T}
 use lib.ListN.{drop, getD, length, take}
 use Rattle.model.specs.Bits.{bit}
-use Rattle.model.specs.Edges.{states}
+use Rattle.model.specs.Answers.{ImageOf}
+use Rattle.model.specs.Edges.{accepting, states}
 use Rattle.model.specs.Models.Words.{value}
 use Rattle.model.specs.Tree.{Tree}
 use Rattle.model.specs.Models.Leads.{Chain, Leads}
-use Rattle.model.specs.Spelling.{between, Follow}
-use Rattle.run.specs.Reach.{EnterSays}
+use Rattle.model.specs.Spelling.{between, Follow, Reaches}
+use Rattle.run.specs.Reach.{EnterSays, ReachSays, reachWords}
 use Rattle.run.specs.Says.{StatesAre}
-use Rattle.spelling.specs.Work.{Ready}
 use Rattle.proposer.specs.declared.search.Found.{Found}
 use Rattle.proposer.specs.declared.search.Found.the-variants as search
 
@@ -22,17 +21,33 @@ use Rattle.proposer.specs.declared.search.Found.the-variants as search
 abbrev pub Has : List ℕ → ℕ → Type 0
 Has row x = T (bit (value row) x)
 
-abbrev pub Common : (a b : List ℕ) → Type 0
-Common a b = (x : ℕ) × Has a x × Has b x
+abbrev pub WithSays : List ℕ → ℕ → List ℕ → Type 0
+WithSays row q r = (x : ℕ) → Has r x ↔ (Has row x ⊎ (x ≡ q))
 
-abbrev pub MeetSays : (a b : List ℕ) → Bool → Type 0
-MeetSays a b r = T r ↔ Common a b
-
-abbrev pub IntoSays : List (List ℕ) → ℕ → List ℕ → List ℕ → Type 0
-IntoSays rows count row r = (q : ℕ) → Has r q ↔ ((q < count) × Common (getD rows q []) row)
+abbrev pub EitherSays : (a b r : List ℕ) → Type 0
+EitherSays a b r = (x : ℕ) → Has r x ↔ (Has a x ⊎ Has b x)
 
 abbrev pub LowestSays : List ℕ → ℕ → Type 0
 LowestSays row r = (r < 512) × ((x : ℕ) → Has row x → Has row r)
+
+-- ---- what reaches a state
+-- state q is put into the rows of what it reaches
+pub record NoteSays (before : List (List ℕ)) (q : ℕ) (reached : List ℕ) (count : ℕ) (after : List (List ℕ)) : Type 0 where
+  pub long : length after ≡ length before
+  pub rows : (p : ℕ) → p < count → (x : ℕ) → Has (getD after p []) x ↔ (Has (getD before p []) x ⊎ ((x ≡ q) × Has reached p))
+
+-- row p has the states below count that reach p
+abbrev pub OriginsSays : List ℕ → ℕ → List (List ℕ) → Type 0
+OriginsSays image count origins = (p : ℕ) → p < count → (q : ℕ) → Has (getD origins p []) q ↔ ((q < count) × Has (reachWords image q) p)
+
+abbrev pub IntoSays : List (List ℕ) → ℕ → List ℕ → List ℕ → Type 0
+IntoSays origins count row r = (q : ℕ) → Has r q ↔ ((p : ℕ) × (p < count) × Has row p × Has (getD origins p []) q)
+
+-- the words are the tree's image, row p has what reaches state p, and the accepting state is known
+pub record Ready (image : List ℕ) (origins : List (List ℕ)) (last : ℕ) (t : Tree) : Type 0 where
+  pub image-of : ImageOf image t
+  pub reached : (p : ℕ) → p < states t → (q : ℕ) → Has (getD origins p []) q ↔ ((q < states t) × Reaches t q p)
+  pub accepts : last ≡ accepting t
 
 -- ---- the sets that go back from an end
 abbrev pub SetOf : Tree → List ℕ → List ℕ → Type 0
@@ -42,10 +57,10 @@ abbrev pub SetAt : Tree → List ℕ → (end k : ℕ) → List ℕ → Type 0
 SetAt t text end k words = SetOf t (between text k end) words
 
 abbrev pub EndingSays : List ℕ → List (List ℕ) → ℕ → List ℕ → Type 0
-EndingSays image rows last r = (t : Tree) → Ready image rows last t → SetOf t [] r
+EndingSays image origins last r = (t : Tree) → Ready image origins last t → SetOf t [] r
 
 abbrev pub BackSays : List ℕ → List (List ℕ) → ℕ → List ℕ → ℕ → List ℕ → Type 0
-BackSays image rows last set byte r = (t : Tree) → Ready image rows last t → (bytes : List ℕ) → SetOf t bytes set → SetOf t (byte ∷ bytes) r
+BackSays image origins last set byte r = (t : Tree) → Ready image origins last t → (bytes : List ℕ) → SetOf t bytes set → SetOf t (byte ∷ bytes) r
 
 -- ---- the latest start
 pub record Asked (text : List ℕ) (end last : ℕ) : Type 0 where
@@ -69,9 +84,9 @@ abbrev pub Within : ℕ → Found → Type 0
 Within end (search.At k) = k ≤ end
 Within end search.Nowhere = Unit
 
-pub record StartSays (image : List ℕ) (rows : List (List ℕ)) (last : ℕ) (text : List ℕ) (end : ℕ) (kept : List (List ℕ)) (r : Found) : Type 0 where
+pub record StartSays (image : List ℕ) (origins : List (List ℕ)) (last : ℕ) (text : List ℕ) (end : ℕ) (kept : List (List ℕ)) (r : Found) : Type 0 where
   pub within : Within end r
-  pub starts : (t : Tree) → Ready image rows last t → Started t text end kept r
+  pub starts : (t : Tree) → Ready image origins last t → Started t text end kept r
 
 -- ---- the states from the start to the end
 -- the sets of the places after lo up to hi, that of place j + 1 in row j - lo
@@ -83,13 +98,15 @@ pub record Stretch (text : List ℕ) (lo hi : ℕ) : Type 0 where
   pub short : hi ≤ lo + 256
   pub inside : hi ≤ length text
 
-abbrev pub FillSays : List ℕ → List (List ℕ) → ℕ → List ℕ → (lo hi : ℕ) → List ℕ → List (List ℕ) → Type 0
-FillSays image rows last text lo hi set sets =
-    (t : Tree) → Ready image rows last t → (end : ℕ) → hi ≤ end → end ≤ length text → SetAt t text end hi set → SetsOf t text end lo hi sets
+pub record FillSays (image : List ℕ) (origins : List (List ℕ)) (last : ℕ) (text : List ℕ) (lo hi : ℕ) (set : List ℕ) (sets : List (List ℕ)) : Type 0 where
+  pub long : length sets ≡ 256
+  pub fills : (t : Tree) → Ready image origins last t → (end : ℕ) → hi ≤ end → end ≤ length text → SetAt t text end hi set → SetsOf t text end lo hi sets
 
--- a state that the byte enters from the row and that is in the set, if there is one
-pub record ChooseSays (image row set : List ℕ) (byte r : ℕ) : Type 0 where
+-- a state that the byte enters from what a state reaches and that is in the set, if there is one
+pub record ChooseSays (image : List ℕ) (at : ℕ) (set : List ℕ) (byte r : ℕ) : Type 0 where
   pub state : r < 512
+  pub row : List ℕ
+  pub reaches : ReachSays image at row
   pub entered : List ℕ
   pub enters : EnterSays image byte row entered
   pub chosen : (x : ℕ) → Has entered x → Has set x → Has entered r × Has set r
@@ -106,11 +123,11 @@ pub record WalkAsks (text : List ℕ) (lo hi from start : ℕ) (list : List ℕ)
   pub after : start ≤ lo
   pub room : hi - start ≤ length list
 
-pub record WalkSays (image : List ℕ) (rows : List (List ℕ)) (text : List ℕ) (lo hi : ℕ) (sets : List (List ℕ)) (from start : ℕ) (before : List ℕ) (r : ℕ) (after : List ℕ) : Type 0 where
+pub record WalkSays (image text : List ℕ) (lo hi : ℕ) (sets : List (List ℕ)) (from start : ℕ) (before : List ℕ) (r : ℕ) (after : List ℕ) : Type 0 where
   pub state : r < 512
   pub long : length after ≡ length before
   pub rest : (n : ℕ) → hi - start ≤ n → drop n after ≡ drop n before
-  pub walks : (t : Tree) (last end : ℕ) → Ready image rows last t → hi ≤ end → end ≤ length text → SetsOf t text end lo hi sets
+  pub walks : (t : Tree) (end : ℕ) → ImageOf image t → hi ≤ end → end ≤ length text → SetsOf t text end lo hi sets
       → Walked t text start end lo before from → Walked t text start end hi after r
 
 -- where a stretch stops
@@ -121,8 +138,8 @@ pub record StopSays (k end r : ℕ) : Type 0 where
   pub where-to : (r ≡ end) ⊎ (r % 256 ≡ 0)
 
 abbrev pub SetSays : List ℕ → List (List ℕ) → (last end : ℕ) → List (List ℕ) → ℕ → List ℕ → Type 0
-SetSays image rows last end kept stop r =
-    (t : Tree) (text : List ℕ) (start : ℕ) → Ready image rows last t → KeptFrom t text end start kept → start ≤ stop → stop ≤ end → (stop ≡ end) ⊎ (stop % 256 ≡ 0)
+SetSays image origins last end kept stop r =
+    (t : Tree) (text : List ℕ) (start : ℕ) → Ready image origins last t → KeptFrom t text end start kept → start ≤ stop → stop ≤ end → (stop ≡ end) ⊎ (stop % 256 ≡ 0)
     → SetAt t text end stop r
 
 pub record WriteAsks (text : List ℕ) (start end last : ℕ) (list : List ℕ) : Type 0 where
@@ -130,8 +147,8 @@ pub record WriteAsks (text : List ℕ) (start end last : ℕ) (list : List ℕ) 
   pub ordered : start ≤ end
   pub room : end - start ≤ length list
 
-pub record WriteSays (image : List ℕ) (rows : List (List ℕ)) (last : ℕ) (text : List ℕ) (start end : ℕ) (kept : List (List ℕ)) (before after : List ℕ) : Type 0 where
+pub record WriteSays (image : List ℕ) (origins : List (List ℕ)) (last : ℕ) (text : List ℕ) (start end : ℕ) (kept : List (List ℕ)) (before after : List ℕ) : Type 0 where
   pub long : length after ≡ length before
   pub rest : drop (end - start) after ≡ drop (end - start) before
-  pub follows : (t : Tree) → Ready image rows last t → KeptFrom t text end start kept → Leads t (between text start end) 0
+  pub follows : (t : Tree) → Ready image origins last t → KeptFrom t text end start kept → Leads t (between text start end) 0
       → Follow t 0 (between text start end) (take (end - start) after)

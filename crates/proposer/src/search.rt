@@ -1,8 +1,9 @@
 // The latest start of a spelling that stops at a place.
 use crate::back::back;
 use crate::back::ending;
+use crate::origins::Origins;
 use mask::bits::row_has_bit;
-use run::reach::Reach;
+use mask::bits::same_rows;
 ghost use mathlib.Core.Path.{_≡_};
 ghost use lib.ListN.{length};
 ghost use Rattle.proposer.specs.Work.{Asked, StartSays};
@@ -15,19 +16,20 @@ pub enum Found {
     Nowhere,
 }
 
-// Goes back from the end until state 0 leads there, and keeps the set of each 256th place.
+// Goes back from the end until state 0 leads there, or no state does, and keeps the set of each 256th place.
 pub fn find_start(
     image: &[u64],
     text: &[u8],
     end: usize,
     last: usize,
-    rows: &Reach,
+    origins: &Origins,
     kept: &mut Kept,
 ) -> Found
     requires { ⌜ Asked (now text) end last × (length (now kept) ≡ 256) ⌝ }
-    ensures { λ r. ⌜ StartSays (now (image .entry)) (now (rows .entry)) last (now (text .entry)) end (now (kept .exit)) r ⌝ }
+    ensures { λ r. ⌜ StartSays (now (image .entry)) (now (origins .entry)) last (now (text .entry)) end (now (kept .exit)) r ⌝ }
 {
-    let mut set = ending(image, last, rows);
+    let none = [0u64; 8];
+    let mut set = ending(image, last, origins);
     let mut k = end;
     loop {
         if row_has_bit(set, 0) {
@@ -36,8 +38,11 @@ pub fn find_start(
         if k == 0 {
             return Found::Nowhere;
         }
+        if same_rows(set, none) {
+            return Found::Nowhere;
+        }
         k -= 1;
-        let before = back(image, last, rows, set, text[k]);
+        let before = back(image, last, origins, set, text[k]);
         set = before;
         if k % 256 == 0 {
             kept[k / 256] = set;

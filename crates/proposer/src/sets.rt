@@ -1,40 +1,25 @@
-// Sets of states as rows of eight words: whether two meet, which states reach one of a set, a state of a set.
+// Sets of states as rows of eight words: one state more, the states of either of two, a state of one.
+use mask::Mask;
 use mask::bits::row_has_bit;
 use mask::bits::row_with_bit;
-use run::reach::Reach;
-ghost use Prim.Native.Nat.{_≤_};
-ghost use Rattle.proposer.specs.Work.{IntoSays, LowestSays, MeetSays};
+use mask::logic::or;
+ghost use Prim.Native.Nat.{_<_};
+ghost use Rattle.proposer.specs.Work.{EitherSays, LowestSays, WithSays};
 
-// Whether two rows have a state in common.
-pub fn meets(a: [u64; 8], b: [u64; 8]) -> bool
-    ensures { λ r. ⌜ MeetSays a b r ⌝ }
+// The row with one state more.
+pub fn with_state(row: [u64; 8], q: usize) -> [u64; 8]
+    requires { ⌜ q < 512 ⌝ }
+    ensures { λ r. ⌜ WithSays row q r ⌝ }
 {
-    let mut i = 0;
-    while i < 8 {
-        if a[i] & b[i] != 0 {
-            return true;
-        }
-        i += 1;
-    }
-    false
+    row_with_bit(row, q)
 }
 
-// The states below count that reach a state of a row.
-pub fn into(rows: &Reach, count: usize, row: [u64; 8]) -> [u64; 8]
-    requires { ⌜ count ≤ 512 ⌝ }
-    ensures { λ r. ⌜ IntoSays (now (rows .entry)) count row r ⌝ }
+// The states of either row.
+pub fn either(a: [u64; 8], b: [u64; 8]) -> [u64; 8]
+    ensures { λ r. ⌜ EitherSays a b r ⌝ }
 {
-    let mut r = [0u64; 8];
-    let mut q = 0;
-    while q < count {
-        let from = rows[q];
-        if meets(from, row) {
-            let more = row_with_bit(r, q);
-            r = more;
-        }
-        q += 1;
-    }
-    r
+    let r = or(Mask { words: a }, Mask { words: b }, 8);
+    r.words
 }
 
 // The lowest state of a row; 0 where it has none.

@@ -1,14 +1,18 @@
 // The states of a spelling, from its start to its end: stretch by stretch of at most 256 bytes, whose sets are computed anew from a kept one.
 use crate::back::back;
 use crate::back::ending;
+use crate::origins::Origins;
 use crate::search::Kept;
 use crate::sets::lowest;
 use mask::Mask;
 use mask::logic::and;
-use run::reach::Reach;
+use run::reach::Work;
 use run::reach::enter;
+use run::reach::reach;
 ghost use mathlib.Core.Path.{_≡_};
 ghost use Prim.Native.Nat.{_≤_, _<_};
+ghost use lib.ListN.{length};
+ghost use Rattle.run.specs.Reach.{WorkOf};
 ghost use Rattle.proposer.specs.Work.{ChooseSays, FillSays, SetSays, StopSays, Stretch, WalkAsks, WalkSays, WriteAsks, WriteSays};
 
 // The sets of the places after lo up to hi, from that of hi.
@@ -18,30 +22,30 @@ fn fill(
     lo: usize,
     hi: usize,
     last: usize,
-    rows: &Reach,
+    origins: &Origins,
     set: [u64; 8],
-) -> Kept
-    requires { ⌜ Stretch (now text) lo hi × (last < 512) ⌝ }
-    ensures { λ r. ⌜ FillSays (now (image .entry)) (now (rows .entry)) last (now (text .entry)) lo hi set r ⌝ }
+    sets: &mut Kept,
+)
+    requires { ⌜ Stretch (now text) lo hi × (last < 512) × (length (now sets) ≡ 256) ⌝ }
+    ensures { λ _. ⌜ FillSays (now (image .entry)) (now (origins .entry)) last (now (text .entry)) lo hi set (now (sets .exit)) ⌝ }
 {
-    let none = [0u64; 8];
-    let mut r = [none; 256];
     let mut here = set;
     let mut k = hi;
     while k > lo {
         k -= 1;
-        r[k - lo] = here;
-        let before = back(image, last, rows, here, text[k]);
+        sets[k - lo] = here;
+        let before = back(image, last, origins, here, text[k]);
         here = before;
     }
-    r
 }
 
-// Of the states that a byte enters from those of a row the lowest that is in the set.
-fn choose(image: &[u64], row: [u64; 8], set: [u64; 8], byte: u8) -> usize
-    ensures { λ r. ⌜ ChooseSays (now (image .entry)) row set byte r ⌝ }
+// Of the states that a byte enters from what a state reaches, the lowest that is in the set.
+fn choose(image: &[u64], masks: &Work, at: usize, set: [u64; 8], byte: u8) -> usize
+    requires { ⌜ WorkOf (now image) (now masks) ⌝ }
+    ensures { λ r. ⌜ ChooseSays (now (image .entry)) at set byte r ⌝ }
 {
-    let entered = enter(image, Mask { words: row }, byte);
+    let from = reach(image, masks, at);
+    let entered = enter(image, from, byte);
     let both = and(entered, Mask { words: set }, 8);
     let words = both.words;
     lowest(words)
@@ -50,24 +54,23 @@ fn choose(image: &[u64], row: [u64; 8], set: [u64; 8], byte: u8) -> usize
 // The states that the bytes from lo to hi enter, after the state `from`: each one from which the other bytes lead on.
 fn walk(
     image: &[u64],
+    masks: &Work,
     text: &[u8],
     lo: usize,
     hi: usize,
-    rows: &Reach,
     sets: &Kept,
     from: usize,
     start: usize,
     states: &mut [u32],
 ) -> usize
-    requires { ⌜ WalkAsks (now text) lo hi from start (now states) ⌝ }
-    ensures { λ r. ⌜ WalkSays (now (image .entry)) (now (rows .entry)) (now (text .entry)) lo hi (now (sets .entry)) from start (now (states .entry)) r (now (states .exit)) ⌝ }
+    requires { ⌜ WorkOf (now image) (now masks) × WalkAsks (now text) lo hi from start (now states) ⌝ }
+    ensures { λ r. ⌜ WalkSays (now (image .entry)) (now (text .entry)) lo hi (now (sets .entry)) from start (now (states .entry)) r (now (states .exit)) ⌝ }
 {
     let mut at = from;
     let mut k = lo;
     while k < hi {
-        let row = rows[at];
         let set = sets[k - lo];
-        at = choose(image, row, set, text[k]);
+        at = choose(image, masks, at, set, text[k]);
         states[k - start] = at as u32;
         k += 1;
     }
@@ -88,39 +91,43 @@ fn set_at(
     image: &[u64],
     end: usize,
     last: usize,
-    rows: &Reach,
+    origins: &Origins,
     kept: &Kept,
     stop: usize,
 ) -> [u64; 8]
     requires { ⌜ (stop ≤ 65535) × (last < 512) ⌝ }
-    ensures { λ r. ⌜ SetSays (now (image .entry)) (now (rows .entry)) last end (now (kept .entry)) stop r ⌝ }
+    ensures { λ r. ⌜ SetSays (now (image .entry)) (now (origins .entry)) last end (now (kept .entry)) stop r ⌝ }
 {
     if stop == end {
-        return ending(image, last, rows);
+        return ending(image, last, origins);
     }
     kept[stop / 256]
 }
 
+// The states of the spelling from start to end, into the first words of the list.
 pub fn write(
     image: &[u64],
+    masks: &Work,
     text: &[u8],
     start: usize,
     end: usize,
     last: usize,
-    rows: &Reach,
+    origins: &Origins,
     kept: &Kept,
     states: &mut [u32],
 )
-    requires { ⌜ WriteAsks (now text) start end last (now states) ⌝ }
-    ensures { λ _. ⌜ WriteSays (now (image .entry)) (now (rows .entry)) last (now (text .entry)) start end (now (kept .entry)) (now (states .entry)) (now (states .exit)) ⌝ }
+    requires { ⌜ WorkOf (now image) (now masks) × WriteAsks (now text) start end last (now states) ⌝ }
+    ensures { λ _. ⌜ WriteSays (now (image .entry)) (now (origins .entry)) last (now (text .entry)) start end (now (kept .entry)) (now (states .entry)) (now (states .exit)) ⌝ }
 {
+    let none = [0u64; 8];
+    let mut sets = [none; 256];
     let mut at: usize = 0;
     let mut k = start;
     while k < end {
         let stop = stop_after(k, end);
-        let set = set_at(image, end, last, rows, kept, stop);
-        let sets = fill(image, text, k, stop, last, rows, set);
-        at = walk(image, text, k, stop, rows, &sets, at, start, states);
+        let set = set_at(image, end, last, origins, kept, stop);
+        fill(image, text, k, stop, last, origins, set, &mut sets);
+        at = walk(image, masks, text, k, stop, &sets, at, start, states);
         k = stop;
     }
 }

@@ -6,12 +6,13 @@ use mathlib.Core.List.{List, [], _∷_, _++_, append-assoc}
 use Prim.Native.Nat.{ℕ, suc, _+_, _-_, _≤_, _<_}
 use native.Mathlib.Omega.{arith}
 use lib.ListN.{drop, getD, length, length-append, length-drop, take, take-append-drop}
-use lib.Seq.{drop-append-seam, drop-cons, getD-drop, length-take-le, take-add, take-at, take-suc}
+use lib.Seq.{drop-append-seam, drop-cons, drop-drop, getD-drop, length-take-le, take-add, take-at, take-suc}
 use Rattle.model.specs.Tree.{Tree}
-use Rattle.model.specs.Edges.{accepting}
+use Rattle.model.specs.Edges.{accepting, states}
 use Rattle.model.specs.Live.{Free, itself, onward, Reached, Takes}
 use Rattle.model.specs.Models.Leads.{Chain, Leads}
 use Rattle.model.specs.Spelling.{between, Follow, Reaches}
+use Rattle.model.proofs.Definitions.Below.{takes-below}
 
 -- what is reached from a set is reached from one of its states
 pub origin : {R : ℕ → ℕ → Type 0} {D : ℕ → Type 0} {q : ℕ} → Reached R D q → (x : ℕ) × D x × Reached R (λ y. y ≡ x) q
@@ -42,6 +43,11 @@ module _ (t : Tree) where
   pub earlier : (bs : List ℕ) {p q : ℕ} → Reaches t q p → Leads t bs p → Leads t bs q
   earlier [] h l = joined h l
   earlier (b ∷ bs) h (p, k, l) = (p, joined h k, l)
+
+  -- what leads on leads on after some of the bytes too, from one of the tree's states
+  pub leads-later : (u v : List ℕ) (q : ℕ) → q < states t → Leads t (u ++ v) q → (r : ℕ) × (r < states t) × Leads t v r
+  leads-later [] v q h l = (q, h, l)
+  leads-later (b ∷ u) v q h (p, k, (r, m, l)) = leads-later u v r (takes-below t b p r m) l
 
   -- one state for each byte
   pub follow-long : (bs rs : List ℕ) (q : ℕ) → Follow t q bs rs → length rs ≡ length bs
@@ -76,6 +82,14 @@ between-one text k end l m =
     let e : end - k ≡ suc (end - suc k) = omega arith in
     let h : k < length text = omega arith in
     ap (take (end - k)) (drop-cons text k 0 h) ∙ ap (λ (n : ℕ). take n (getD text k 0 ∷ drop (suc k) text)) e
+
+-- those up to a place between them, and those from there on
+pub between-split : (text : List ℕ) (start k end : ℕ) → start ≤ k → k ≤ end → between text start end ≡ between text start k ++ between text k end
+between-split text start k end l m =
+    let e : end - start ≡ (k - start) + (end - k) = omega arith in
+    let d : start + (k - start) ≡ k = omega arith in
+    ap (λ (n : ℕ). take n (drop start text)) e ∙ take-add (k - start) (end - k) (drop start text)
+    ∙ ap (λ (xs : List ℕ). between text start k ++ take (end - k) xs) (drop-drop (k - start) start text ∙ ap (λ (n : ℕ). drop n text) d)
 
 -- those before, and these
 pub take-between : (text : List ℕ) (start end : ℕ) → start ≤ end → take end text ≡ take start text ++ between text start end

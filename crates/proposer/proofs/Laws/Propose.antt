@@ -7,14 +7,15 @@ use native.Mathlib.Omega.{arith}
 use lib.ListN.{drop, length, take, take-append-drop}
 use lib.Seq.{length-take-le}
 use Rattle.model.specs.Answers.{ImageOf}
-use Rattle.model.specs.Ends.{End}
+use Rattle.model.specs.Edges.{accepting}
+use Rattle.model.specs.Models.Apart.{stateWord}
 use Rattle.model.specs.Tree.{Tree}
 use Rattle.model.proofs.Laws.Bool.{le-or-lt}
 use Rattle.model.specs.Models.Leads.{Leads}
 use Rattle.model.specs.Spelling.{between, Latest, no-end, no-room, Proposal, proposed, ProposeSays, refused, Spelled}
 use Rattle.model.proofs.Spelling.Ends.{spelled-end, spelled-leads}
-use Rattle.spelling.specs.Work.{Ready}
-use Rattle.proposer.specs.Work.{Asked, StartSays, WriteAsks, WriteSays}
+use Rattle.spelling.proofs.Laws.Check.{states-is}
+use Rattle.proposer.specs.Work.{Ready, StartSays, WriteSays}
 use Rattle.proposer.specs.declared.search.Found.{Found}
 use Rattle.proposer.specs.declared.search.Found.the-variants as search
 
@@ -22,20 +23,24 @@ module _ (words text : List ℕ) (end : ℕ) (before : List ℕ) (t : Tree) (I :
   abbrev Says : Proposal → Type 0
   Says = ProposeSays words text end before
 
+  -- the accepting state is the last
+  pub last-is : {n : ℕ} → n ≡ stateWord words → n - 1 ≡ accepting t
+  last-is e = omega (arith, e, states-is words t I)
+
   -- an end lies in the text
   pub past-text : length text < end → Says (refused 16 before)
   past-text h = no-end t I short (λ e. let s = spelled-end t (I .is-rule) text end .1 e in omega (arith, s .2 .inside)) refl
 
-  module _ (inside : end ≤ length text) (rows : List (List ℕ)) (last : ℕ) (R : Ready words rows last t) (kept : List (List ℕ)) (r : Found) (S : StartSays words rows last text end kept r) where
+  module _ (inside : end ≤ length text) (origins : List (List ℕ)) (last : ℕ) (R : Ready words origins last t) (kept : List (List ℕ)) (r : Found) (S : StartSays words origins last text end kept r) where
     pub nowhere : r ≡ search.Nowhere → Says (refused 16 before)
-    nowhere e = no-end t I short (λ d. go (subst (StartSays words rows last text end kept) e S) (spelled-end t (I .is-rule) text end .1 d)) refl
+    nowhere e = no-end t I short (λ d. go (subst (StartSays words origins last text end kept) e S) (spelled-end t (I .is-rule) text end .1 d)) refl
       where
-        go : StartSays words rows last text end kept search.Nowhere → (start : ℕ) × (states : List ℕ) × Spelled t text start end states → ⊥
+        go : StartSays words origins last text end kept search.Nowhere → (start : ℕ) × (states : List ℕ) × Spelled t text start end states → ⊥
         go N (i, rs, s) = let l = spelled-leads t text i end .0 (rs, s) in N .starts t R i (l .1) (l .2)
 
     module _ (start : ℕ) (e : r ≡ search.At start) where
-      at : StartSays words rows last text end kept (search.At start)
-      at = subst (StartSays words rows last text end kept) e S
+      at : StartSays words origins last text end kept (search.At start)
+      at = subst (StartSays words origins last text end kept) e S
 
       pub ordered : start ≤ end
       ordered = at .within
@@ -53,7 +58,7 @@ module _ (words text : List ℕ) (end : ℕ) (before : List ℕ) (t : Tree) (I :
       pub too-short : length before < end - start → Says (refused 17 before)
       too-short h = no-room t start I short latest h refl
 
-      pub written : end - start ≤ length before → (after : List ℕ) → WriteSays words rows last text start end kept before after
+      pub written : end - start ≤ length before → (after : List ℕ) → WriteSays words origins last text start end kept before after
           → Says (record { number = 0; start = start; count = end - start; lent = after })
       written h after W =
           proposed t start (take (end - start) after) I short latest h

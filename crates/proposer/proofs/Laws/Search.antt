@@ -11,15 +11,15 @@ use lib.ListN.{getD, length, length-set, set}
 use lib.Seq.{getD-set-other, getD-set-same}
 use Rattle.model.specs.Bits.{bit}
 use Rattle.model.specs.Models.Words.{value}
+use Rattle.model.proofs.Laws.Bool.{le-or-lt}
 use Rattle.model.specs.Tree.{Tree}
 use Rattle.model.specs.Models.Leads.{Leads}
 use Rattle.model.specs.Spelling.{between}
-use Rattle.model.proofs.Spelling.Leads.{between-none, between-one}
-use Rattle.spelling.specs.Work.{Ready}
-use Rattle.proposer.specs.Work.{Asked, BackSays, EndingSays, Has, KeptFrom, NoneAfter, SetAt, SetOf, StartSays}
+use Rattle.model.proofs.Spelling.Leads.{between-none, between-one, between-split, leads-later}
+use Rattle.proposer.specs.Work.{Asked, BackSays, EndingSays, Has, KeptFrom, NoneAfter, Ready, SetAt, SetOf, StartSays}
 use Rattle.proposer.specs.declared.search.Found.the-variants as search
 
-module _ (image : List ℕ) (rows : List (List ℕ)) (last : ℕ) (text : List ℕ) (end : ℕ) where
+module _ (image : List ℕ) (origins : List (List ℕ)) (last : ℕ) (text : List ℕ) (end : ℕ) where
   pub record Place (t : Tree) (k : ℕ) (here : List ℕ) (kept : List (List ℕ)) : Type 0 where
     pub set-at : SetAt t text end k here
     pub none-after : NoneAfter t text end k
@@ -28,10 +28,10 @@ module _ (image : List ℕ) (rows : List (List ℕ)) (last : ℕ) (text : List �
   pub record Backed (k : ℕ) (here : List ℕ) (kept : List (List ℕ)) : Type 0 where
     pub within : k ≤ end
     pub long : length kept ≡ 256
-    pub place : (t : Tree) → Ready image rows last t → Place t k here kept
+    pub place : (t : Tree) → Ready image origins last t → Place t k here kept
 
   module _ (A : Asked text end last) where
-    pub backed-end : (here : List ℕ) (kept : List (List ℕ)) → length kept ≡ 256 → EndingSays image rows last here → Backed end here kept
+    pub backed-end : (here : List ℕ) (kept : List (List ℕ)) → length kept ≡ 256 → EndingSays image origins last here → Backed end here kept
     backed-end here kept l E = record {
       within = omega arith;
       long = l;
@@ -44,8 +44,8 @@ module _ (image : List ℕ) (rows : List (List ℕ)) (last : ℕ) (text : List �
 
     -- ---- one place back
     module _ {k : ℕ} {here : List ℕ} {kept : List (List ℕ)} (K : Backed k here kept) (some : 0 < k) (out : bit (value here) 0 ≡ false)
-        (before : List ℕ) (S : BackSays image rows last here (getD text (k - 1) 0) before) where
-      module _ (t : Tree) (R : Ready image rows last t) where
+        (before : List ℕ) (S : BackSays image origins last here (getD text (k - 1) 0) before) where
+      module _ (t : Tree) (R : Ready image origins last t) where
         set-before : SetAt t text end (k - 1) before
         set-before =
             let e : suc (k - 1) ≡ k = omega arith in
@@ -75,7 +75,7 @@ module _ (image : List ℕ) (rows : List (List ℕ)) (last : ℕ) (text : List �
         };
       }
         where
-          go : (t : Tree) → Ready image rows last t → (j : ℕ) → 256 * j < end → (k - 1 ≡ 256 * j) ⊎ (k - 1 < 256 * j) → SetAt t text end (256 * j) (getD kept j [])
+          go : (t : Tree) → Ready image origins last t → (j : ℕ) → 256 * j < end → (k - 1 ≡ 256 * j) ⊎ (k - 1 < 256 * j) → SetAt t text end (256 * j) (getD kept j [])
           go t R j m (inl e) = absurd (f (omega arith))
           go t R j m (inr x) = K .place t R .kept-from j (omega arith) m
 
@@ -94,7 +94,7 @@ module _ (image : List ℕ) (rows : List (List ℕ)) (last : ℕ) (text : List �
           i : ℕ
           i = (k - 1) / 256
 
-          go : (t : Tree) → Ready image rows last t → (j : ℕ) → 256 * j < end → (k - 1 ≡ 256 * j) ⊎ (k - 1 < 256 * j) → SetAt t text end (256 * j) (getD (set kept i before) j [])
+          go : (t : Tree) → Ready image origins last t → (j : ℕ) → 256 * j < end → (k - 1 ≡ 256 * j) ⊎ (k - 1 < 256 * j) → SetAt t text end (256 * j) (getD (set kept i before) j [])
           go t R j m (inl x) =
               let d : i ≡ j = omega arith in
               subst (λ (w : List ℕ). SetAt t text end (256 * j) w)
@@ -104,15 +104,25 @@ module _ (image : List ℕ) (rows : List (List ℕ)) (last : ℕ) (text : List �
               subst (λ (w : List ℕ). SetAt t text end (256 * j) w) (sym (getD-set-other kept i j before [] (λ q. omega arith))) (K .place t R .kept-from j (omega arith) m)
 
     -- ---- the ways out
-    pub backed-here : {k : ℕ} {here : List ℕ} {kept : List (List ℕ)} → Backed k here kept → T (bit (value here) 0) → StartSays image rows last text end kept (search.At k)
+    pub backed-here : {k : ℕ} {here : List ℕ} {kept : List (List ℕ)} → Backed k here kept → T (bit (value here) 0) → StartSays image origins last text end kept (search.At k)
     backed-here K h = record {
       within = K .within;
       starts = λ t R. let P = K .place t R in (P .set-at .within 0 (omega arith) .0 h, P .none-after, P .kept-from);
     }
 
-    pub backed-nowhere : {k : ℕ} {here : List ℕ} {kept : List (List ℕ)} → Backed k here kept → bit (value here) 0 ≡ false → k ≡ 0 → StartSays image rows last text end kept search.Nowhere
+    -- where no state leads on from a place, none does from any before it
+    pub backed-empty : {k : ℕ} {here : List ℕ} {kept : List (List ℕ)} → Backed k here kept → ((x : ℕ) → Has here x → ⊥) → StartSays image origins last text end kept search.Nowhere
+    backed-empty {k} {here} K f = record { within = tt; starts = λ t R j m l. go t R j m l (le-or-lt j k) }
+      where
+        go : (t : Tree) → Ready image origins last t → (j : ℕ) → j ≤ end → Leads t (between text j end) 0 → (j ≤ k) ⊎ (k < j) → ⊥
+        go t R j m l (inl h) =
+            let g = leads-later t (between text j k) (between text k end) 0 (omega arith) (subst (λ (bs : List ℕ). Leads t bs 0) (between-split text j k end h (K .within)) l) in
+            f (g .0) (K .place t R .set-at .within (g .0) (g .1) .1 (g .2))
+        go t R j m l (inr h) = K .place t R .none-after j h m l
+
+    pub backed-nowhere : {k : ℕ} {here : List ℕ} {kept : List (List ℕ)} → Backed k here kept → bit (value here) 0 ≡ false → k ≡ 0 → StartSays image origins last text end kept search.Nowhere
     backed-nowhere {k} {here} K h e = record { within = tt; starts = λ t R j m l. go t R j m l (eq-or-lt-of-le (let x : k ≤ j = omega arith in x)) }
       where
-        go : (t : Tree) → Ready image rows last t → (j : ℕ) → j ≤ end → Leads t (between text j end) 0 → (k ≡ j) ⊎ (k < j) → ⊥
+        go : (t : Tree) → Ready image origins last t → (j : ℕ) → j ≤ end → Leads t (between text j end) 0 → (k ≡ j) ⊎ (k < j) → ⊥
         go t R j m l (inl d) = subst T h (K .place t R .set-at .within 0 (omega arith) .1 (subst (λ (n : ℕ). Leads t (between text n end) 0) (sym d) l))
         go t R j m l (inr d) = K .place t R .none-after j d m l

@@ -9,36 +9,31 @@ use native.Mathlib.Omega.{arith}
 use lib.Dec.{T}
 use lib.ListN.{drop, getD, length, length-set, set, take}
 use lib.Seq.{drop-set-lt, getD-set-other, getD-set-same, take-all, take-suc-set}
-use Rattle.model.specs.Bits.{bit}
+use Rattle.model.specs.Answers.{ImageOf}
 use Rattle.model.specs.Edges.{states}
-use Rattle.model.specs.Models.Words.{andWords, Fit, value}
 use Rattle.model.specs.Tree.{Tree}
-use Rattle.model.proofs.Laws.Bool.{and-both, and-split}
-use Rattle.model.proofs.Words.Holds.{Near}
-use Rattle.model.proofs.Words.Operations.{near-and}
 use Rattle.model.specs.Models.Leads.{Chain, Leads}
 use Rattle.model.specs.Spelling.{between}
 use Rattle.model.proofs.Spelling.Leads.{between-more, between-one, chain-more}
-use Rattle.model.proofs.Spelling.Within.{takes-rises}
-use Rattle.run.specs.Reach.{EnterSays}
-use Rattle.spelling.specs.Work.{Ready}
+use Rattle.model.proofs.Definitions.Below.{takes-below}
+use Rattle.run.specs.Reach.{EnterSays, ReachSays}
 use Rattle.spelling.proofs.Laws.Sets.{entered-from}
-use Rattle.proposer.specs.Work.{BackSays, ChooseSays, FillSays, Has, LowestSays, SetAt, SetOf, SetsOf, Stretch, WalkAsks, Walked, WalkSays}
+use Rattle.proposer.specs.Work.{BackSays, ChooseSays, FillSays, Has, LowestSays, Ready, SetAt, SetOf, SetsOf, Stretch, WalkAsks, Walked, WalkSays}
 
 -- ---- THE SETS OF A STRETCH, from its last place down
-module _ (image : List ℕ) (rows : List (List ℕ)) (last : ℕ) (text : List ℕ) (lo hi : ℕ) (first : List ℕ) where
+module _ (image : List ℕ) (origins : List (List ℕ)) (last : ℕ) (text : List ℕ) (lo hi : ℕ) (first : List ℕ) where
   pub record Filling (k : ℕ) (here : List ℕ) (sets : List (List ℕ)) : Type 0 where
     pub above : lo ≤ k
     pub below : k ≤ hi
     pub long : length sets ≡ 256
-    pub holds : (t : Tree) → Ready image rows last t → (end : ℕ) → hi ≤ end → end ≤ length text → SetAt t text end hi first
+    pub holds : (t : Tree) → Ready image origins last t → (end : ℕ) → hi ≤ end → end ≤ length text → SetAt t text end hi first
         → SetAt t text end k here × ((j : ℕ) → k ≤ j → j < hi → SetAt t text end (suc j) (getD sets (j - lo) []))
 
   pub filling-none : (sets : List (List ℕ)) → length sets ≡ 256 → lo ≤ hi → Filling hi first sets
   filling-none sets l h = record { above = h; below = le-refl hi; long = l; holds = λ t R end m n S. (S, λ j x y. absurd (omega arith)) }
 
   pub filling-more : (S : Stretch text lo hi) {k : ℕ} {here : List ℕ} {sets : List (List ℕ)} → Filling k here sets → lo < k
-      → (before : List ℕ) → BackSays image rows last here (getD text (k - 1) 0) before → Filling (k - 1) before (set sets (k - 1 - lo) here)
+      → (before : List ℕ) → BackSays image origins last here (getD text (k - 1) 0) before → Filling (k - 1) before (set sets (k - 1 - lo) here)
   filling-more S {k} {here} {sets} F h before B = record {
     above = omega arith;
     below = omega (arith, F .below);
@@ -49,7 +44,7 @@ module _ (image : List ℕ) (rows : List (List ℕ)) (last : ℕ) (text : List �
       e : suc (k - 1) ≡ k
       e = omega arith
 
-      one : (t : Tree) → Ready image rows last t → (end : ℕ) → hi ≤ end → end ≤ length text → SetAt t text end k here → SetAt t text end (k - 1) before
+      one : (t : Tree) → Ready image origins last t → (end : ℕ) → hi ≤ end → end ≤ length text → SetAt t text end k here → SetAt t text end (k - 1) before
       one t R end m n A =
           subst (λ (bs : List ℕ). SetOf t bs before)
           (sym (between-one text (k - 1) end (omega (arith, F .below)) n ∙ ap (λ (x : ℕ). getD text (k - 1) 0 ∷ between text x end) e))
@@ -64,49 +59,37 @@ module _ (image : List ℕ) (rows : List (List ℕ)) (last : ℕ) (text : List �
       go t end j A H y (inr d) =
           subst (λ (w : List ℕ). SetAt t text end (suc j) w) (sym (getD-set-other sets (k - 1 - lo) (j - lo) here [] (λ q. omega arith))) (H j (omega arith) y)
 
-  pub filling-all : {k : ℕ} {here : List ℕ} {sets : List (List ℕ)} → Filling k here sets → k ≤ lo → FillSays image rows last text lo hi first sets
-  filling-all F h t R end m n S j x y = F .holds t R end m n S .1 j (omega (arith, F .above)) y
+  pub filling-all : {k : ℕ} {here : List ℕ} {sets : List (List ℕ)} → Filling k here sets → k ≤ lo → FillSays image origins last text lo hi first sets
+  filling-all F h = record { long = F .long; fills = λ t R end m n S j x y. F .holds t R end m n S .1 j (omega (arith, F .above)) y }
 
--- ---- a state in both of two rows
-both-has : (a b r : List ℕ) → length a ≡ 8 → length b ≡ 8 → length r ≡ 8 → Fit a → Fit b → take 8 r ≡ andWords (take 8 a) (take 8 b)
-    → (x : ℕ) → Has r x ↔ (Has a x × Has b x)
-both-has a b r la lb lr fa fb e x = (
-  λ h. and-split (bit (value a) x) (bit (value b) x) (subst T is h),
-  λ h. subst T (sym is) (and-both (bit (value a) x) (bit (value b) x) (h .0) (h .1)),
-)
-  where
-    whole : r ≡ andWords a b
-    whole = sym (take-all 8 r (omega arith)) ∙ e ∙ ap₂ andWords (take-all 8 a (omega arith)) (take-all 8 b (omega arith))
-
-    self : (w : List ℕ) → length w ≡ 8 → Fit w → Near (suc x) 8 w (λ y. bit (value w) y)
-    self w l f = record { len = l; fit = f; bits = λ y k. refl }
-
-    is : bit (value r) x ≡ (bit (value a) x && bit (value b) x)
-    is = ap (λ (w : List ℕ). bit (value w) x) whole
-        ∙ near-and (suc x) 8 a b (λ y. bit (value a) y) (λ y. bit (value b) y) (self a la fa) (self b lb fb) .bits x (le-refl (suc x))
-
-pub choose-says : (image row set on both : List ℕ) (b r : ℕ) → EnterSays image b row on → length on ≡ 8 → length set ≡ 8 → length both ≡ 8 → Fit on → Fit set
-    → take 8 both ≡ andWords (take 8 on) (take 8 set) → LowestSays both r → ChooseSays image row set b r
-choose-says image row set on both b r E lo ls lb fo fs e L =
-    let M = both-has on set both lo ls lb fo fs e in
-    record { state = L .0; entered = on; enters = E; chosen = λ x h k. M r .0 (L .1 x (M x .1 (h, k))) }
+-- ---- a state to go on with
+pub choose-says : (image : List ℕ) (at : ℕ) (row set on both : List ℕ) (b r : ℕ) → ReachSays image at row → EnterSays image b row on
+    → ((x : ℕ) → Has both x ↔ (Has on x × Has set x)) → LowestSays both r → ChooseSays image at set b r
+choose-says image at row set on both b r R E M L = record {
+  state = L .0;
+  row = row;
+  reaches = R;
+  entered = on;
+  enters = E;
+  chosen = λ x h k. M r .0 (L .1 x (M x .1 (h, k)));
+}
 
 -- ---- ONE STATE MORE
-module _ (image : List ℕ) (rows : List (List ℕ)) (text : List ℕ) (lo hi : ℕ) (sets : List (List ℕ)) (from start : ℕ) (before : List ℕ) where
+module _ (image text : List ℕ) (lo hi : ℕ) (sets : List (List ℕ)) (from start : ℕ) (before : List ℕ) where
   pub record Walking (k at : ℕ) (list : List ℕ) : Type 0 where
     pub above : lo ≤ k
     pub below : k ≤ hi
     pub state : at < 512
     pub long : length list ≡ length before
     pub rest : (n : ℕ) → hi - start ≤ n → drop n list ≡ drop n before
-    pub holds : (t : Tree) (last end : ℕ) → Ready image rows last t → hi ≤ end → end ≤ length text → SetsOf t text end lo hi sets
+    pub holds : (t : Tree) (end : ℕ) → ImageOf image t → hi ≤ end → end ≤ length text → SetsOf t text end lo hi sets
         → Walked t text start end lo before from → Walked t text start end k list at
 
   module _ (A : WalkAsks text lo hi from start before) where
     pub walking-none : Walking lo from before
-    walking-none = record { above = le-refl lo; below = A .stretch .ordered; state = A .state; long = refl; rest = λ n h. refl; holds = λ t last end R m n S W. W }
+    walking-none = record { above = le-refl lo; below = A .stretch .ordered; state = A .state; long = refl; rest = λ n h. refl; holds = λ t end I m n S W. W }
 
-    pub walking-more : {k at : ℕ} {list : List ℕ} → Walking k at list → k < hi → (r : ℕ) → ChooseSays image (getD rows at []) (getD sets (k - lo) []) (getD text k 0) r
+    pub walking-more : {k at : ℕ} {list : List ℕ} → Walking k at list → k < hi → (r : ℕ) → ChooseSays image at (getD sets (k - lo) []) (getD text k 0) r
         → Walking (k + 1) r (set list (k - start) r)
     walking-more {k} {at} {list} W h r C = record {
       above = omega (arith, W .above);
@@ -114,23 +97,23 @@ module _ (image : List ℕ) (rows : List (List ℕ)) (text : List ℕ) (lo hi : 
       state = C .state;
       long = length-set list (k - start) r ∙ W .long;
       rest = λ n l. drop-set-lt n list (k - start) r (omega (arith, W .above, A .after)) ∙ W .rest n l;
-      holds = λ t last end R m n S Z. subst (λ (x : ℕ). Walked t text start end x (set list (k - start) r) r) (sym up) (one t last end R m n S (W .holds t last end R m n S Z));
+      holds = λ t end I m n S Z. subst (λ (x : ℕ). Walked t text start end x (set list (k - start) r) r) (sym up) (one t end I m n S (W .holds t end I m n S Z));
     }
       where
         up : k + 1 ≡ suc k
         up = omega arith
 
-        one : (t : Tree) (last end : ℕ) → Ready image rows last t → hi ≤ end → end ≤ length text → SetsOf t text end lo hi sets
+        one : (t : Tree) (end : ℕ) → ImageOf image t → hi ≤ end → end ≤ length text → SetsOf t text end lo hi sets
             → Walked t text start end k list at → Walked t text start end (suc k) (set list (k - start) r) r
-        one t last end R m n S Z =
+        one t end I m n S Z =
             let b = getD text k 0 in
             let l = subst (λ (bs : List ℕ). Leads t bs at) (between-one text k end (omega arith) n) (Z .leads) in
             let H = S k (W .above) h in
             let s = l .2 in
-            let from-here = entered-from R (Z .state) b (C .entered) (C .enters) in
-            let g = C .chosen (s .0) (from-here (s .0) .1 (l .0, l .1, s .1)) (H .within (s .0) (takes-rises t (s .1) .2) .1 (s .2)) in
+            let from-here = entered-from I (Z .state) (C .reaches) b (C .entered) (C .enters) in
+            let g = C .chosen (s .0) (from-here (s .0) .1 (l .0, l .1, s .1)) (H .within (s .0) (takes-below t b (l .0) (s .0) (s .1)) .1 (s .2)) in
             let p = from-here r .0 (g .0) in
-            let low = takes-rises t (p .2) .2 in
+            let low = takes-below t b (p .0) r (p .2) in
             let d : suc k - start ≡ suc (k - start) = omega (arith, W .above, A .after) in
             record {
               state = low;
@@ -142,10 +125,10 @@ module _ (image : List ℕ) (rows : List (List ℕ)) (text : List ℕ) (lo hi : 
                   (chain-more t (between text start k) (take (k - start) list) 0 at (Z .chain) b (p .0) r (p .1) (p .2)));
             }
 
-    pub walking-all : {k at : ℕ} {list : List ℕ} → Walking k at list → hi ≤ k → WalkSays image rows text lo hi sets from start before at list
+    pub walking-all : {k at : ℕ} {list : List ℕ} → Walking k at list → hi ≤ k → WalkSays image text lo hi sets from start before at list
     walking-all {k} {at} {list} W h = record {
       state = W .state;
       long = W .long;
       rest = W .rest;
-      walks = λ t last end R m n S Z. let e : k ≡ hi = omega (arith, W .below) in subst (λ (x : ℕ). Walked t text start end x list at) e (W .holds t last end R m n S Z);
+      walks = λ t end I m n S Z. let e : k ≡ hi = omega (arith, W .below) in subst (λ (x : ℕ). Walked t text start end x list at) e (W .holds t end I m n S Z);
     }

@@ -12,19 +12,18 @@ use Rattle.model.proofs.Laws.Bool.{le-or-lt}
 use Rattle.model.specs.Models.Leads.{Chain, Leads}
 use Rattle.model.specs.Spelling.{between, Follow}
 use Rattle.model.proofs.Spelling.Leads.{between-none, chain-ends}
-use Rattle.spelling.specs.Work.{Ready}
-use Rattle.proposer.specs.Work.{EndingSays, FillSays, KeptFrom, SetAt, SetOf, SetSays, StopSays, Stretch, WalkAsks, Walked, WalkSays, WriteAsks, WriteSays}
+use Rattle.proposer.specs.Work.{EndingSays, FillSays, KeptFrom, Ready, SetAt, SetOf, SetSays, StopSays, Stretch, WalkAsks, Walked, WalkSays, WriteAsks, WriteSays}
 
 -- ---- the set of a place at which a stretch stops
-pub set-ending : (image : List ℕ) (rows : List (List ℕ)) (last end : ℕ) (kept : List (List ℕ)) (stop : ℕ) (r : List ℕ) → stop ≡ end → EndingSays image rows last r
-    → SetSays image rows last end kept stop r
-set-ending image rows last end kept stop r e E t text start R K l m w =
+pub set-ending : (image : List ℕ) (origins : List (List ℕ)) (last end : ℕ) (kept : List (List ℕ)) (stop : ℕ) (r : List ℕ) → stop ≡ end → EndingSays image origins last r
+    → SetSays image origins last end kept stop r
+set-ending image origins last end kept stop r e E t text start R K l m w =
     subst (λ (n : ℕ). SetAt t text end n r) (sym e) (subst (λ (bs : List ℕ). SetOf t bs r) (sym (between-none text end)) (E t R))
 
-pub set-kept : (image : List ℕ) (rows : List (List ℕ)) (last end : ℕ) (kept : List (List ℕ)) (stop : ℕ) → (stop ≡ end → ⊥)
-    → SetSays image rows last end kept stop (getD kept (stop / 256) [])
-set-kept image rows last end kept stop f t text start R K l m (inl e) = absurd (f e)
-set-kept image rows last end kept stop f t text start R K l m (inr e) =
+pub set-kept : (image : List ℕ) (origins : List (List ℕ)) (last end : ℕ) (kept : List (List ℕ)) (stop : ℕ) → (stop ≡ end → ⊥)
+    → SetSays image origins last end kept stop (getD kept (stop / 256) [])
+set-kept image origins last end kept stop f t text start R K l m (inl e) = absurd (f e)
+set-kept image origins last end kept stop f t text start R K l m (inr e) =
     let d : 256 * (stop / 256) ≡ stop = omega arith in
     let h : stop < end = go (le-or-lt end stop) in
     subst (λ (n : ℕ). SetAt t text end n (getD kept (stop / 256) [])) d (K (stop / 256) (omega arith) (omega arith))
@@ -34,14 +33,14 @@ set-kept image rows last end kept stop f t text start R K l m (inr e) =
     go (inr x) = x
 
 -- ---- the states written so far
-module _ (image : List ℕ) (rows : List (List ℕ)) (last : ℕ) (text : List ℕ) (start end : ℕ) (kept : List (List ℕ)) (before : List ℕ) where
+module _ (image : List ℕ) (origins : List (List ℕ)) (last : ℕ) (text : List ℕ) (start end : ℕ) (kept : List (List ℕ)) (before : List ℕ) where
   pub record Writing (k at : ℕ) (list : List ℕ) : Type 0 where
     pub above : start ≤ k
     pub below : k ≤ end
     pub state : at < 512
     pub long : length list ≡ length before
     pub rest : drop (end - start) list ≡ drop (end - start) before
-    pub holds : (t : Tree) → Ready image rows last t → KeptFrom t text end start kept → Leads t (between text start end) 0 → Walked t text start end k list at
+    pub holds : (t : Tree) → Ready image origins last t → KeptFrom t text end start kept → Leads t (between text start end) 0 → Walked t text start end k list at
 
   module _ (A : WriteAsks text start end last before) where
     pub writing-none : Writing start 0 before
@@ -66,8 +65,8 @@ module _ (image : List ℕ) (rows : List (List ℕ)) (last : ℕ) (text : List �
       pub walk-asks : WalkAsks text k stop at start list
       walk-asks = record { stretch = stretch; state = W .state; after = W .above; room = omega (arith, W .long, A .room, S .within) }
 
-      pub writing-more : (here : List ℕ) → SetSays image rows last end kept stop here → (sets : List (List ℕ)) → FillSays image rows last text k stop here sets
-          → (r : ℕ) (after : List ℕ) → WalkSays image rows text k stop sets at start list r after → Writing stop r after
+      pub writing-more : (here : List ℕ) → SetSays image origins last end kept stop here → (sets : List (List ℕ)) → FillSays image origins last text k stop here sets
+          → (r : ℕ) (after : List ℕ) → WalkSays image text k stop sets at start list r after → Writing stop r after
       writing-more here H sets F r after Z = record {
         above = omega (arith, W .above, S .past);
         below = S .within;
@@ -75,11 +74,11 @@ module _ (image : List ℕ) (rows : List (List ℕ)) (last : ℕ) (text : List �
         long = Z .long ∙ W .long;
         rest = Z .rest (end - start) (omega (arith, S .within)) ∙ W .rest;
         holds = λ t R K L.
-            Z .walks t last end R (S .within) (A .asked .inside)
-            (F t R end (S .within) (A .asked .inside) (H t text start R K (omega (arith, W .above, S .past)) (S .within) (S .where-to))) (W .holds t R K L);
+            Z .walks t end (R .image-of) (S .within) (A .asked .inside)
+            (F .fills t R end (S .within) (A .asked .inside) (H t text start R K (omega (arith, W .above, S .past)) (S .within) (S .where-to))) (W .holds t R K L);
       }
 
-    pub writing-all : {k at : ℕ} {list : List ℕ} → Writing k at list → end ≤ k → WriteSays image rows last text start end kept before list
+    pub writing-all : {k at : ℕ} {list : List ℕ} → Writing k at list → end ≤ k → WriteSays image origins last text start end kept before list
     writing-all {k} {at} {list} W h = record {
       long = W .long;
       rest = W .rest;

@@ -4,8 +4,8 @@ use borrow.Author.Needs.{needs}
 use Rattle.proposer.proofs.back.ending.Statement.{statement}
 use Rattle.proposer.proofs.back.ending.Tie as tie
 
-row-with-bit-requires : tie.Need-row-with-bit-requires
-row-with-bit-requires c κs = search needs
+with-state-requires : tie.Need-with-state-requires
+with-state-requires c κs = search needs
 
 add-into : tie.Need-add-into
 add-into c = search needs
@@ -16,8 +16,8 @@ into-requires c κs = search needs
 returns : tie.Need-returns
 returns c =
     let a = c .before .before .before .args in
-    let r = c .before .row-with-bit in
-    ending-says (a .image .now) (a .rows .now) (a .last) (c .before .before .before .pre) (r .result) (c .into .result) (r .ensures) (c .into .ensures)
+    let w = c .before .with-state in
+    ending-says (a .image .now) (a .origins .now) (a .last) (w .result) (c .into .result) (w .ensures) (c .into .ensures)
 
 pub ending-spec : {M : Type 1} → statement M
-ending-spec = tie.close (tie.spec row-with-bit-requires add-into into-requires returns)
+ending-spec = tie.close (tie.spec with-state-requires add-into into-requires returns)

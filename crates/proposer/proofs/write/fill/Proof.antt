@@ -1,5 +1,3 @@
-use mathlib.Core.Path.{refl}
-use lib.ListN.{replicate}
 -- `fill`: from the last place down, each turn has one set more.
 use native.Mathlib.Omega.{arith}
 use Rattle.proposer.proofs.Laws.Walk.{Filling, filling-all, filling-more, filling-none}
@@ -8,28 +6,28 @@ use Rattle.proposer.proofs.write.fill.Statement.{statement}
 use Rattle.proposer.proofs.write.fill.Tie as tie
 
 abbrev Inv-loop : tie.InvT-loop
-Inv-loop image text lo hi last rows r₀ here₀ k₀ r here k = Filling image rows last text lo hi here₀ k here r
+Inv-loop image text lo hi last origins sets₀ here₀ k₀ sets here k = Filling image origins last text lo hi here₀ k here sets
 
 abbrev μ-loop : tie.MeasureT-loop
-μ-loop image text lo hi last rows r₀ here₀ k₀ r here k = k
+μ-loop image text lo hi last origins sets₀ here₀ k₀ sets here k = k
 
 loop-holds : tie.Need-loop-holds Inv-loop μ-loop
 loop-holds c =
     let s = c .before .before in
     let a = s .args in
-    filling-none (a .image .now) (a .rows .now) (a .last) (a .text .now) (a .lo) (a .hi) (a .set) (replicate 256 (replicate 8 0)) refl (s .pre .0 .ordered)
+    filling-none (a .image .now) (a .origins .now) (a .last) (a .text .now) (a .lo) (a .hi) (a .set) (a .sets .now) (s .pre .2) (s .pre .0 .ordered)
 
 sub-k : tie.Need-sub-k Inv-loop μ-loop
 sub-k c = search needs
 
-sub-r : tie.Need-sub-r Inv-loop μ-loop
-sub-r c = search needs
+sub-here : tie.Need-sub-here Inv-loop μ-loop
+sub-here c = search needs
 
-mul-r : tie.Need-mul-r Inv-loop μ-loop
-mul-r c = search needs
+mul-here : tie.Need-mul-here Inv-loop μ-loop
+mul-here c = search needs
 
-array-set-from-r : tie.Need-array-set-from-r Inv-loop μ-loop
-array-set-from-r c = search needs
+element-set-from-here : tie.Need-element-set-from-here Inv-loop μ-loop
+element-set-from-here c = search needs
 
 shared-slice-read-back : tie.Need-shared-slice-read-back Inv-loop μ-loop
 shared-slice-read-back c = search needs
@@ -44,13 +42,13 @@ loop-again : tie.Need-loop-again Inv-loop μ-loop
 loop-again c =
     let s = c .before .before .before .before .before .before in
     let a = s .args in
-    filling-more (a .image .now) (a .rows .now) (a .last) (a .text .now) (a .lo) (a .hi) (a .set) (s .pre .0) (c .before .before .before .loop .inv) (c .before .before .loop-test .taken) (c .back .result) (c .back .ensures)
+    filling-more (a .image .now) (a .origins .now) (a .last) (a .text .now) (a .lo) (a .hi) (a .set) (s .pre .0) (c .before .before .before .loop .inv) (c .before .before .loop-test .taken) (c .back .result) (c .back .ensures)
 
 returns : tie.Need-returns Inv-loop μ-loop
 returns c =
     let s = c .before .before .before .before in
     let a = s .args in
-    filling-all (a .image .now) (a .rows .now) (a .last) (a .text .now) (a .lo) (a .hi) (a .set) (c .before .loop .inv) (c .loop-test .left)
+    filling-all (a .image .now) (a .origins .now) (a .last) (a .text .now) (a .lo) (a .hi) (a .set) (c .before .loop .inv) (c .loop-test .left)
 
 pub fill-spec : {M : Type 1} → statement M
 fill-spec =
@@ -60,9 +58,9 @@ fill-spec =
     μ-loop
     loop-holds
     sub-k
-    sub-r
-    mul-r
-    array-set-from-r
+    sub-here
+    mul-here
+    element-set-from-here
     shared-slice-read-back
     back-requires
     loop-less

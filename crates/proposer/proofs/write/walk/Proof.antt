@@ -7,22 +7,16 @@ use Rattle.proposer.proofs.write.walk.Statement.{statement}
 use Rattle.proposer.proofs.write.walk.Tie as tie
 
 abbrev Inv-loop : tie.InvT-loop
-Inv-loop image text lo hi rows sets from start states₀ at₀ k₀ states at k = Walking image rows text lo hi sets from start states₀ k at states
+Inv-loop image masks text lo hi sets from start states₀ at₀ k₀ states at k = Walking image text lo hi sets from start states₀ k at states
 
 abbrev μ-loop : tie.MeasureT-loop
-μ-loop image text lo hi rows sets from start states₀ at₀ k₀ states at k = hi - k
+μ-loop image masks text lo hi sets from start states₀ at₀ k₀ states at k = hi - k
 
 loop-holds : tie.Need-loop-holds Inv-loop μ-loop
 loop-holds c =
     let s = c .before .before .before in
     let a = s .args in
-    walking-none (a .image .now) (a .rows .now) (a .text .now) (a .lo) (a .hi) (a .sets .now) (a .from) (a .start) (a .states .now) (s .pre)
-
-mul-row : tie.Need-mul-row Inv-loop μ-loop
-mul-row c = search needs
-
-element-copy-out-row : tie.Need-element-copy-out-row Inv-loop μ-loop
-element-copy-out-row c = search needs
+    walking-none (a .image .now) (a .text .now) (a .lo) (a .hi) (a .sets .now) (a .from) (a .start) (a .states .now) (s .pre .1)
 
 sub-set : tie.Need-sub-set Inv-loop μ-loop
 sub-set c = search needs
@@ -37,7 +31,7 @@ shared-slice-read-choose : tie.Need-shared-slice-read-choose Inv-loop μ-loop
 shared-slice-read-choose c = search needs
 
 choose-requires : tie.Need-choose-requires Inv-loop μ-loop
-choose-requires c κs = search needs
+choose-requires c κs = c .before .before .before .before .before .before .before .pre .0
 
 cast-states : tie.Need-cast-states Inv-loop μ-loop
 cast-states c = search needs
@@ -59,9 +53,10 @@ loop-less c = search needs
 
 loop-again : tie.Need-loop-again Inv-loop μ-loop
 loop-again c =
-    let s = c .before .before .before .before .before .before .before .before .before in
+    let l = c .before .before .before in
+    let s = l .before .before .before .before .before in
     let a = s .args in
-    walking-more (a .image .now) (a .rows .now) (a .text .now) (a .lo) (a .hi) (a .sets .now) (a .from) (a .start) (a .states .now) (s .pre) (c .before .before .before .before .before .loop .inv) (c .before .before .before .before .loop-test .taken) (c .choose .result) (c .choose .ensures)
+    walking-more (a .image .now) (a .text .now) (a .lo) (a .hi) (a .sets .now) (a .from) (a .start) (a .states .now) (s .pre .1) (l .before .loop .inv) (l .loop-test .taken) (c .choose .result) (c .choose .ensures)
 
 same-length : tie.Need-same-length Inv-loop μ-loop
 same-length c = search needs
@@ -70,7 +65,7 @@ returns : tie.Need-returns Inv-loop μ-loop
 returns c =
     let s = c .before .before .before .before .before in
     let a = s .args in
-    walking-all (a .image .now) (a .rows .now) (a .text .now) (a .lo) (a .hi) (a .sets .now) (a .from) (a .start) (a .states .now) (s .pre) (c .before .loop .inv) (c .loop-test .left)
+    walking-all (a .image .now) (a .text .now) (a .lo) (a .hi) (a .sets .now) (a .from) (a .start) (a .states .now) (s .pre .1) (c .before .loop .inv) (c .loop-test .left)
 
 pub walk-spec : {M : Type 1} → statement M
 walk-spec =
@@ -79,8 +74,6 @@ walk-spec =
     Inv-loop
     μ-loop
     loop-holds
-    mul-row
-    element-copy-out-row
     sub-set
     mul-set
     element-copy-out-set

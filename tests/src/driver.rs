@@ -78,6 +78,22 @@ impl Judged {
     }
 }
 
+/// What the proposer gave. Its states are free: answers that differ in them alone do not differ, and it is for the checkers to judge them.
+#[derive(Clone, PartialEq, Eq, Debug)]
+pub struct Proposed(pub Answer<u32>);
+
+impl Proposed {
+    pub fn of((number, count): (u64, usize), room: usize) -> Proposed {
+        Proposed(Answer { number, count: count as u64, lent: (0..room).map(u32::before).collect() })
+    }
+
+    /// What is proposed for an end, if anything is.
+    pub fn proposal(&self, end: u64) -> Option<Proposal> {
+        let start = end.checked_sub(self.0.count).filter(|_| self.0.number == 0)?;
+        Some(Proposal { start, end, states: self.0.written().to_vec() })
+    }
+}
+
 /// An answer as the driver writes it.
 pub trait Reply: Sized {
     fn read(fields: &[&str]) -> Option<Self>;
@@ -119,6 +135,19 @@ impl Reply for Judged {
 
     fn difference(&self, expected: &Judged) -> Option<String> {
         other("number", self.number, expected.number).or_else(|| other("yes", self.yes, expected.yes))
+    }
+}
+
+impl Reply for Proposed {
+    fn read(fields: &[&str]) -> Option<Proposed> {
+        Answer::read(fields).map(Proposed)
+    }
+
+    fn difference(&self, expected: &Proposed) -> Option<String> {
+        let mut expected = expected.0.clone();
+        let states = expected.written().len().min(self.0.lent.len());
+        expected.lent[..states].copy_from_slice(&self.0.lent[..states]);
+        self.0.difference(&expected)
     }
 }
 

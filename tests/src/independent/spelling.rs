@@ -26,10 +26,10 @@ impl<'a> Checker<'a> {
         Checker { edges, reached }
     }
 
-    /// Whether a byte enters a state by an edge or a loop that leaves a state reached without a letter from the one before.
-    fn enters(&self, before: usize, byte: u8, state: usize) -> bool {
+    /// The states that a byte enters by an edge or a loop that leaves a state reached without a letter from the one before.
+    pub fn entered(&self, before: usize, byte: u8) -> impl Iterator<Item = usize> + '_ {
         let leaving = self.reached[before].iter().flat_map(|from| &self.edges.letters[*from]);
-        leaving.copied().any(|(class, to)| to == state && class.0[byte as usize])
+        leaving.filter(move |(class, _)| class.0[byte as usize]).map(|(_, to)| *to)
     }
 
     pub fn right(&self, text: &[u8], Proposal { start, end, states }: &Proposal) -> bool {
@@ -38,10 +38,8 @@ impl<'a> Checker<'a> {
         }
         let mut before = 0;
         for (byte, state) in text[*start as usize..*end as usize].iter().zip(states) {
-            if !self.enters(before, *byte, *state as usize) {
-                return false;
-            }
-            before = *state as usize;
+            let Some(state) = self.entered(before, *byte).find(|to| *to == *state as usize) else { return false };
+            before = state;
         }
         self.reached[before].contains(&(self.reached.len() - 1))
     }

@@ -129,8 +129,8 @@ static inline size_t lavumbishe_mask_len(const uint64_t *image, size_t image_len
  * end itself. There is a proposal exactly for the ends that match finds; any other place, also one past the text, gives 16. Where the states of that
  * start don't fit it gives 17; text_len of them always do. Which states are chosen, where there is a choice, may change with the library.
  *
- * Both check the image in the same call, as match does; beyond that the work grows with the stretch alone, from start to end, and not with what lies
- * before or after it. A place that is no end can cost propose all of the text before it. */
+ * Both check the image in the same call, as match does; beyond what the image costs the work grows with the stretch from start to end, and not with
+ * what lies before or after it. A place that is no end can cost propose all of the text before it. */
 uint64_t lavumbishe_check_spelling(const uint64_t *image, size_t image_len, const uint8_t *text, size_t text_len, uint64_t start, uint64_t end,
                                    const uint32_t *states, size_t states_len);
 

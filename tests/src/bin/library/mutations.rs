@@ -104,7 +104,7 @@ fn states(r: &mut Random, base: &Proposal, m: u32) -> Vec<(&'static str, Proposa
         ("a state at or past m", with(&|s| s[at] = past)),
         ("a state with a high bit", with(&|s| s[at] |= bit)),
         ("state 0", with(&|s| s[at] = 0)),
-        ("a state left out", with(&|s| drop(s.remove(at)))),
+        ("a state left out", with(&|s| s.splice(at..=at, []).for_each(drop))),
         ("two states exchanged", with(&|s| s.swap(at, other))),
         ("a state as the one beside it", with(&|s| s[at] = s[other])),
         ("no states", with(&|s| s.clear())),

@@ -6,11 +6,10 @@
 // library's time is that of the whole call, the check of the image included.
 #define _POSIX_C_SOURCE 199309L
 #include "lavumbishe.h"
-#include <fcntl.h>
+#include "load.h"
 #include <stdio.h>
 #include <string.h>
 #include <time.h>
-#include <unistd.h>
 
 uint64_t baseline_run(const uint64_t *image, uint64_t words, const uint8_t *text, uint64_t length, uint32_t *places, uint64_t room);
 
@@ -46,20 +45,6 @@ static size_t run(int which) {
     if (which == PROVED)
         return lavumbishe_count(lavumbishe_match(image, words, text, length, ends, LAVUMBISHE_ENDS));
     return which == C ? (size_t)baseline_run(image, words, text, length, ends, LAVUMBISHE_ENDS) : hyperscan_run();
-}
-
-static size_t load(const char *folder, const char *name, void *bytes, size_t most) {
-    char path[4096];
-    size_t start = strlen(folder), got = 0;
-    if (start + strlen(name) + 2 > sizeof path)
-        return 0;
-    memcpy(path, folder, start);
-    path[start] = '/';
-    memcpy(path + start + 1, name, strlen(name) + 1);
-    int file = open(path, O_RDONLY);
-    for (long n; file >= 0 && (n = read(file, (char *)bytes + got, most - got)) > 0;)
-        got += (size_t)n;
-    return got;
 }
 
 static void load_all(const char *folder) {

@@ -1,4 +1,4 @@
-/* Lavumbishe for C and C++: build, read back and match, and the watch: begin and step.
+/* Lavumbishe for C and C++: build, read back and match; the watch: begin and step; spellings: check and propose.
  *
  * A rule becomes an image, tables of bit masks in 64-bit words. The image is what the panel stores and runs; the rule is not needed again. What
  * each function does is proved for every input, whatever the words and bytes are (docs/PROMISES.md); the rules' grammar is document 01's.
@@ -18,9 +18,9 @@
  * What a caller provides:
  *  - Areas. Each is a pointer and a length in elements, not in bytes. The area to be written must not overlap one to be read. A
  *    pointer must be aligned for its type and must not be null, also where the length is 0.
- *  - Stack: 1 MiB for build, since the readers nest as deep as the rule's brackets may; 16 KiB for read back, 64 KiB for match, begin and step. The
- *    tests measure some 802,000, 8,700 and 14,900 bytes on x86-64. Build may be left to the desk: a panel that gets images needs match alone, or
- *    begin and step.
+ *  - Stack: 1 MiB for build, since the readers nest as deep as the rule's brackets may; 16 KiB for read back, 64 KiB for match, begin, step and check,
+ *    128 KiB for propose. The tests measure some 802,000 bytes on x86-64 for build, 8,700 for read back and 14,900 for match. Build may be left to the
+ *    desk: a panel that gets images needs match alone, or begin and step.
  *  - memcpy, memmove and memset, which the compiler may call. Nothing else is called.
  *
  * No heap and no variable data outside the stack is used, so calls from several threads or from an interrupt are safe as long as none writes an
@@ -38,17 +38,19 @@ extern "C" {
 
 /* The numbers, in the order of the checks. */
 enum {
-    LAVUMBISHE_DONE = 0,            /* all:                           done */
-    LAVUMBISHE_RULE_TOO_LONG = 1,   /* build:                         the rule has more than 1,024 bytes */
-    LAVUMBISHE_NOT_A_RULE = 2,      /* build:                         the rule is not in the grammar (a closing newline is enough) */
-    LAVUMBISHE_TOO_MANY_STATES = 3, /* build:                         more than 512 states */
-    LAVUMBISHE_TOO_DEEP = 4,        /* build:                         unions nested more than 8 deep */
-    LAVUMBISHE_IMAGE_NO_ROOM = 5,   /* build:                         the image is longer than the words lent */
-    LAVUMBISHE_NOT_AN_IMAGE = 6,    /* read back, match, begin, step: the words are not exactly the image of a rule */
-    LAVUMBISHE_TEXT_TOO_LONG = 7,   /* match, step:                   the text or the stretch has more than 65,535 bytes */
-    LAVUMBISHE_WRITING_NO_ROOM = 8, /* read back:                     the plain writing is longer than the bytes lent */
-    LAVUMBISHE_NOT_A_MASK = 9,      /* begin, step:                   not as many words as a mask has; step: or a bit that is no state's */
-    LAVUMBISHE_JOURNAL_FULL = 10    /* step:                          the place would pass 4,294,967,295 */
+    LAVUMBISHE_DONE = 0,            /* all:                         done */
+    LAVUMBISHE_RULE_TOO_LONG = 1,   /* build:                       the rule has more than 1,024 bytes */
+    LAVUMBISHE_NOT_A_RULE = 2,      /* build:                       the rule is not in the grammar (a closing newline is enough) */
+    LAVUMBISHE_TOO_MANY_STATES = 3, /* build:                       more than 512 states */
+    LAVUMBISHE_TOO_DEEP = 4,        /* build:                       unions nested more than 8 deep */
+    LAVUMBISHE_IMAGE_NO_ROOM = 5,   /* build:                       the image is longer than the words lent */
+    LAVUMBISHE_NOT_AN_IMAGE = 6,    /* all but build:               the words are not exactly the image of a rule */
+    LAVUMBISHE_TEXT_TOO_LONG = 7,   /* match, step, check, propose: the text or the stretch has more than 65,535 bytes */
+    LAVUMBISHE_WRITING_NO_ROOM = 8, /* read back:                   the plain writing is longer than the bytes lent */
+    LAVUMBISHE_NOT_A_MASK = 9,      /* begin, step:                 not as many words as a mask has; step: or a bit that is no state's */
+    LAVUMBISHE_JOURNAL_FULL = 10,   /* step:                        the place would pass 4,294,967,295 */
+    LAVUMBISHE_NOT_AN_END = 16,     /* propose:                     the place is no end of the text */
+    LAVUMBISHE_STATES_NO_ROOM = 17  /* propose:                     the spelling has more states than are lent */
 };
 
 /* The largest sizes: every image fits into so many words and every mask into so many, and no text has more ends than places, 0 to its length. */
@@ -110,6 +112,30 @@ uint64_t lavumbishe_step(const uint64_t *image, size_t image_len, uint64_t *mask
 static inline size_t lavumbishe_mask_len(const uint64_t *image, size_t image_len) {
     return image_len > 2 && image[2] <= LAVUMBISHE_MASK_WORDS ? (size_t)image[2] : 0;
 }
+
+/* A spelling: which bytes of a text did it, and how. A proposal is a start, an end and a list of states. Start and end are places of the text, and the
+ * list has one state for each byte from start to end: the one that the byte enters, by a letter's edge or its loop.
+ *
+ *     uint64_t found = lavumbishe_propose_spelling(image, image_len, text, text_len, end, states, states_len);
+ *     size_t states_count = lavumbishe_count(found);        the start is end less so many
+ *
+ * Check says whether a proposal is right, whoever made it. Numbers 0, 6, 7; the count is 1 for yes and 0 for no. It is yes exactly if start is at most
+ * end and end at most text_len, states_len is end less start, the first state is entered by its byte from one that state 0 reaches without a letter,
+ * each next one from one that the state before reaches so, and the last (state 0, where there are no bytes) so reaches the accepting state. Whatever
+ * else the places and states are is a no, also where a place is past the text or a state past the image's.
+ *
+ * Propose writes a proposal that gets yes, of all for this end one with the latest start: no stretch that is spelled and stops there is shorter. Numbers
+ * 0, 6, 7, 16, 17. The count is the number of states, which are the first ones of those lent; of a rule that can be empty it is 0, and the start is the
+ * end itself. There is a proposal exactly for the ends that match finds; any other place, also one past the text, gives 16. Where the states of that
+ * start don't fit it gives 17; text_len of them always do. Which states are chosen, where there is a choice, may change with the library.
+ *
+ * Both check the image in the same call, as match does; beyond what the image costs the work grows with the stretch from start to end, and not with
+ * what lies before or after it. A place that is no end can cost propose all of the text before it. */
+uint64_t lavumbishe_check_spelling(const uint64_t *image, size_t image_len, const uint8_t *text, size_t text_len, uint64_t start, uint64_t end,
+                                   const uint32_t *states, size_t states_len);
+
+uint64_t lavumbishe_propose_spelling(const uint64_t *image, size_t image_len, const uint8_t *text, size_t text_len, uint64_t end, uint32_t *states,
+                                     size_t states_len);
 
 /* The two halves of a result. */
 static inline unsigned lavumbishe_number(uint64_t result) { return (unsigned)(result >> 32); }

@@ -5,21 +5,23 @@
 //     match IMAGE TEXT ROOM                 lavumbishe_match with ROOM lent ends
 //     begin IMAGE MASK PLACE ROOM           lavumbishe_begin with ROOM lent ends; the mask and the place that are lent hold these words
 //     step IMAGE MASK PLACE STRETCH ROOM    lavumbishe_step likewise
+//     check IMAGE TEXT START END STATES     lavumbishe_check_spelling
+//     propose IMAGE TEXT END ROOM           lavumbishe_propose_spelling with ROOM lent states
 //     stack CALL                            one of these calls; answers how many bytes of stack it went down
 //     spoil given AREA PLACE CALL           not the call: changes, in the area of that number, what is given to be read
 //     spoil lent AREA PLACE CALL            likewise what is lent at PLACE, or just outside (-1, ROOM); both so that a check can be seen to fail
 //
-// RULE, IMAGE, TEXT, STRETCH, MASK and PLACE are values in hex between commas, `-` for none; N*V is N times the value V. A call is answered by NUMBER
-// COUNT and, for each area lent, LENT: all of it as it is after the call, in the same form, `=` for an element of the pattern. Before the call those
-// of ROOM hold the pattern, and so do the elements on both sides of every area lent: element i is the highest bytes of (i + 1) * PATTERN, its highest
-// bit set (which no end of a match has, and no byte of a plain writing). If one on the sides has changed, the answer is `outside lent`, the area and
-// the place; if what was given to be read has, `outside given` and the area.
+// RULE, IMAGE, TEXT, STRETCH, MASK, PLACE and STATES are values in hex between commas, `-` for none; N*V is N times the value V. START and END are one
+// value each. A call is answered by NUMBER COUNT and, for each area lent, LENT: all of it as it is after the call, in the same form, `=` for an element
+// of the pattern. Before the call those of ROOM hold the pattern, and so do the elements on both sides of every area lent: element i is the highest
+// bytes of (i + 1) * PATTERN, its highest bit set (which no end of a match has, no state, and no byte of a plain writing). If one on the sides has
+// changed, the answer is `outside lent`, the area and the place; if what was given to be read has, `outside given` and the area.
 #include "lavumbishe.h"
 #include <string.h>
 #include <unistd.h>
 
 #define PATTERN 0x9e3779b97f4a7c15u
-#define MOST_GIVEN (1l << 17)
+#define MOST_GIVEN (1l << 19)
 #define MOST_LENT (1l << 19)
 #define GUARD 128l
 
@@ -159,16 +161,21 @@ static void take_values(struct area *area, long most) {
     at += *at == ' ';
 }
 
-// ---- what is given to be read, and copies to compare it with
-static uint64_t given_at[2][MOST_GIVEN / 8], copy_at[2][MOST_GIVEN / 8];
-static struct area given[2];
-static int givens;
+// ---- what is given to be read, and copies to compare it with; places are given by value
+static uint64_t given_at[3][MOST_GIVEN / 8], copy_at[3][MOST_GIVEN / 8], places[2];
+static struct area given[3];
+static int givens, place_count;
 
 static void take_given(long size) {
     struct area *area = &given[givens];
     *area = (struct area){given_at[givens], size, 0};
     take_values(area, MOST_GIVEN / size);
     memcpy(copy_at[givens++], area->at, (size_t)(size * area->length));
+}
+
+static void take_place(void) {
+    places[place_count++] = take_digits(16);
+    at += *at == ' ';
 }
 
 // ---- what is lent: in the pattern, or with values
@@ -292,27 +299,40 @@ static uint64_t step(void) {
                            (uint32_t *)lent[2].at, length(lent[2]));
 }
 
-// An operation's name and, in the order of its fields, its areas: b and w bytes and words to be read; B, W and E bytes, words and ends lent in the
-// pattern, V words lent with values.
-static const struct operation {
-    const char *name, *areas;
-    uint64_t (*call)(void);
-} operations[] = {{"build", "bW", build}, {"readback", "wB", read_back}, {"match", "wbE", match}, {"begin", "wVVE", begin}, {"step", "wVVbE", step}};
+static uint64_t check(void) {
+    return lavumbishe_check_spelling(given[0].at, length(given[0]), (uint8_t *)given[1].at, length(given[1]), places[0], places[1],
+                                     (uint32_t *)given[2].at, length(given[2]));
+}
 
-static void take_area(char kind) {
-    long size = kind == 'b' || kind == 'B' ? 1 : kind == 'E' ? 4 : 8;
-    if (kind == 'b' || kind == 'w')
+static uint64_t propose(void) {
+    return lavumbishe_propose_spelling(given[0].at, length(given[0]), (uint8_t *)given[1].at, length(given[1]), places[0], (uint32_t *)lent[0].at,
+                                       length(lent[0]));
+}
+
+// An operation's name and its fields in their order: b, w and s bytes, words and states to be read; p a place; B, W and E bytes, words and ends or
+// states lent in the pattern, V words lent with values.
+static const struct operation {
+    const char *name, *fields;
+    uint64_t (*call)(void);
+} operations[] = {{"build", "bW", build},   {"readback", "wB", read_back}, {"match", "wbE", match},      {"begin", "wVVE", begin},
+                  {"step", "wVVbE", step}, {"check", "wbpps", check},     {"propose", "wbpE", propose}};
+
+static void take_field(char kind) {
+    long size = kind == 'b' || kind == 'B' ? 1 : kind == 's' || kind == 'E' ? 4 : 8;
+    if (kind == 'p')
+        take_place();
+    else if (kind == 'b' || kind == 'w' || kind == 's')
         take_given(size);
     else
         take_lent(size, kind == 'V');
 }
 
 static const struct operation *take_call(void) {
-    givens = lents = 0;
+    givens = lents = place_count = 0;
     for (size_t i = 0; i < sizeof operations / sizeof operations[0]; i++)
         if (take(operations[i].name)) {
-            for (const char *kind = operations[i].areas; *kind; kind++)
-                take_area(*kind);
+            for (const char *kind = operations[i].fields; *kind; kind++)
+                take_field(*kind);
             return &operations[i];
         }
     put_text("unknown");

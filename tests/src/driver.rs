@@ -1,6 +1,6 @@
 //! The library for C, called through tests/driver.c: its head says what lines it takes and what it answers.
 
-use crate::independent::Watch;
+use crate::independent::{Proposal, Watch};
 use std::fmt::LowerHex;
 use std::io::{BufRead, BufReader, Write};
 use std::process::{Child, ChildStdin, ChildStdout, Command, Stdio};
@@ -11,8 +11,8 @@ pub trait Lent: Copy + PartialEq + LowerHex {
     /// The low bits of a word.
     fn cut(word: u64) -> Self;
 
-    /// What the driver lends at a place before the call: another one at nearly every place, never a byte of a plain writing and never an end of a
-    /// match.
+    /// What the driver lends at a place before the call: another one at nearly every place, never a byte of a plain writing, an end of a match or a
+    /// state.
     fn before(place: usize) -> Self {
         let mixed = (place as u64 + 1).wrapping_mul(0x9e37_79b9_7f4a_7c15);
         Self::cut(mixed >> (64 - Self::BITS) | 1 << (Self::BITS - 1))
@@ -65,6 +65,35 @@ impl Watched {
     }
 }
 
+/// What a check of a spelling gave: the number, and 1 for yes.
+#[derive(Clone, PartialEq, Eq, Debug)]
+pub struct Judged {
+    pub number: u64,
+    pub yes: u64,
+}
+
+impl Judged {
+    pub fn of((number, yes): (u64, bool)) -> Judged {
+        Judged { number, yes: u64::from(yes) }
+    }
+}
+
+/// What the proposer gave. Its states are free: answers that differ in them alone do not differ, and it is for the checkers to judge them.
+#[derive(Clone, PartialEq, Eq, Debug)]
+pub struct Proposed(pub Answer<u32>);
+
+impl Proposed {
+    pub fn of((number, count): (u64, usize), room: usize) -> Proposed {
+        Proposed(Answer { number, count: count as u64, lent: (0..room).map(u32::before).collect() })
+    }
+
+    /// What is proposed for an end, if anything is.
+    pub fn proposal(&self, end: u64) -> Option<Proposal> {
+        let start = end.checked_sub(self.0.count).filter(|_| self.0.number == 0)?;
+        Some(Proposal { start, end, states: self.0.written().to_vec() })
+    }
+}
+
 /// An answer as the driver writes it.
 pub trait Reply: Sized {
     fn read(fields: &[&str]) -> Option<Self>;
@@ -95,6 +124,30 @@ impl Reply for Watched {
         let found = self.found.difference(&expected.found);
         let place = || other("place", self.watch.place, expected.watch.place);
         found.or_else(|| other_lent("the mask", &self.watch.mask, &expected.watch.mask)).or_else(place)
+    }
+}
+
+impl Reply for Judged {
+    fn read(fields: &[&str]) -> Option<Judged> {
+        let [number, yes] = fields else { return None };
+        Some(Judged { number: number.parse().ok()?, yes: yes.parse().ok()? })
+    }
+
+    fn difference(&self, expected: &Judged) -> Option<String> {
+        other("number", self.number, expected.number).or_else(|| other("yes", self.yes, expected.yes))
+    }
+}
+
+impl Reply for Proposed {
+    fn read(fields: &[&str]) -> Option<Proposed> {
+        Answer::read(fields).map(Proposed)
+    }
+
+    fn difference(&self, expected: &Proposed) -> Option<String> {
+        let mut expected = expected.0.clone();
+        let states = expected.written().len().min(self.0.lent.len());
+        expected.lent[..states].copy_from_slice(&self.0.lent[..states]);
+        self.0.difference(&expected)
     }
 }
 
@@ -150,6 +203,14 @@ pub fn begin_call(image: &[u64], lent: &Watch, room: usize) -> String {
 
 pub fn step_call(image: &[u64], lent: &Watch, stretch: &[u8], room: usize) -> String {
     format!("step {} {} {:x} {} {room}", listed(image), listed(&lent.mask), lent.place, listed(stretch))
+}
+
+pub fn check_call(image: &[u64], text: &[u8], Proposal { start, end, states }: &Proposal) -> String {
+    format!("check {} {} {start:x} {end:x} {}", listed(image), listed(text), listed(states))
+}
+
+pub fn propose_call(image: &[u64], text: &[u8], end: u64, room: usize) -> String {
+    format!("propose {} {} {end:x} {room}", listed(image), listed(text))
 }
 
 /// The driver, running.

@@ -4,6 +4,7 @@
 pub mod driver;
 pub mod generate;
 pub mod independent;
+pub mod spellings;
 pub mod texts;
 pub mod watches;
 

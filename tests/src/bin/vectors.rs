@@ -1,6 +1,7 @@
 //! The independent program against the outside vectors: every number, count, word, byte and place. Usage: vectors VECTORS
 
-use outside_checks::independent::{begin, build, desk, match_ends, read_back, step};
+use outside_checks::independent::{begin, build, check, desk, match_ends, propose, read_back, step};
+use outside_checks::spellings::{checks, proposals};
 use outside_checks::watches::watches;
 use outside_checks::{bytes, expand, file, places, runs, vectors};
 use std::path::Path;
@@ -33,6 +34,8 @@ fn main() {
     println!("vectors: {checked} agree with the independent program");
     let [begins, steps] = watched(folder);
     println!("vectors: {begins} begins and {steps} steps of a watch agree with it");
+    let [checks, proposals] = spelled(folder);
+    println!("vectors: {checks} checks and {proposals} proposals of spellings agree with it");
 }
 
 /// How many begins and steps of the watch agree.
@@ -52,4 +55,16 @@ fn watched(folder: &Path) -> [usize; 2] {
         }
     }
     checked
+}
+
+/// How many checks and proposals of spellings agree.
+fn spelled(folder: &Path) -> [usize; 2] {
+    let (checks, proposals) = (checks(folder), proposals(folder));
+    for (line, call) in (1..).zip(&checks) {
+        assert_eq!(check(&expand(&call.image), &call.text, &call.proposal), (call.number, call.yes), "check, line {line}");
+    }
+    for (line, call) in (1..).zip(&proposals) {
+        assert_eq!(propose(&expand(&call.image), &call.text, call.end, call.room), (call.number, call.count), "propose, line {line}");
+    }
+    [checks.len(), proposals.len()]
 }

@@ -1,20 +1,24 @@
 //! Document 01 once more, written independently of the proofs and of the proved code: a parser, the plain writing, the image, reading an image back,
-//! ends by backtracking, a watch by its edges, and the answers. Plain and slow; it shares nothing with the crates.
+//! ends by backtracking, a watch and spellings by its edges, and the answers. Plain and slow; it shares nothing with the crates.
 
 mod answers;
+mod edges;
 mod ends;
 mod image;
 mod rules;
+mod spelling;
 mod states;
 mod watch;
 mod writing;
 
 pub use answers::{build, desk, match_ends, read_back};
+pub use edges::Edges;
 pub use ends::ends;
 pub use image::{image, tree_of};
 pub use rules::parse;
+pub use spelling::{check, latest_starts, propose, proposed, Checker, Proposal, Starts};
 pub use states::{depth, states};
-pub use watch::{begin, step, Edges, Watch, LAST_PLACE};
+pub use watch::{begin, step, Watch, LAST_PLACE};
 pub use writing::writing;
 
 #[derive(Clone, Copy, PartialEq, Eq, Debug)]

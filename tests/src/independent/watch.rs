@@ -1,7 +1,7 @@
 //! A watch: begin and step by a search over the tree's edges. A mask stands for the states whose bits it has, and for nothing else.
 
-use super::states::{states, Parts};
-use super::{tree_of, Class, Item};
+use super::edges::{Edges, Live};
+use super::tree_of;
 
 /// What is handed from call to call: the mask of the live states, and the place, the number of bytes read.
 #[derive(Clone, PartialEq, Eq, Debug)]
@@ -13,59 +13,17 @@ pub struct Watch {
 /// The last place of the longest text.
 pub const LAST_PLACE: u64 = 4_294_967_295;
 
-/// For each state whether it is live.
-type Live = Vec<bool>;
-
 fn mask_of(live: &[bool]) -> Vec<u64> {
     let word = |states: &[bool]| (0..states.len()).filter(|i| states[*i]).fold(0, |word, i| word | 1 << i);
     live.chunks(64).map(word).collect()
 }
 
-/// The edges that leave each state: with a letter, and without one.
-pub struct Edges<'a> {
-    letters: Vec<Vec<(&'a Class, usize)>>,
-    free: Vec<Vec<usize>>,
-}
-
-impl<'a> Edges<'a> {
-    pub fn of(tree: &'a [Item]) -> Edges<'a> {
-        let (parts, m) = (Parts::of(tree), states(tree));
-        let mut edges = Edges { letters: vec![Vec::new(); m], free: vec![Vec::new(); m] };
-        for letter in &parts.letters {
-            let to = letter.from + 1;
-            edges.letters[letter.from].push((letter.class, to));
-            if letter.repeat.loops() {
-                edges.letters[to].push((letter.class, to));
-            }
-        }
-        for union in &parts.unions {
-            for (start, end) in &union.alternatives {
-                edges.free[union.start].push(*start);
-                edges.free[*end].push(union.end);
-            }
-        }
-        for (_, (from, to)) in parts.propagate() {
-            edges.free[from].push(to);
-        }
-        edges
-    }
-
+impl Edges<'_> {
     /// The states of a mask, if it has as many words as the states ask and no bit at or past their number.
     pub fn live(&self, mask: &[u64]) -> Option<Live> {
         let m = self.free.len();
         let live: Live = (0..64 * mask.len()).map(|state| mask[state / 64] >> (state % 64) & 1 == 1).collect();
         (mask.len() == m.div_ceil(64) && !live[m..].contains(&true)).then(|| live[..m].to_vec())
-    }
-
-    /// All that these states reach by edges without a letter.
-    fn reached(&self, mut left: Vec<usize>) -> Live {
-        let mut reached = vec![false; self.free.len()];
-        while let Some(state) = left.pop() {
-            if !std::mem::replace(&mut reached[state], true) {
-                left.extend(&self.free[state]);
-            }
-        }
-        reached
     }
 
     /// Whether these states are all that they reach so.

@@ -1,7 +1,8 @@
 //! Calls of the driver compared with what is expected, and how many went well.
 
-use outside_checks::driver::{begin_call, build_call, match_call, read_back_call, step_call, Answer, Driver, Lent, Reply, Watched};
-use outside_checks::independent::{begin, build, match_ends, read_back, step, Watch};
+use outside_checks::driver::{begin_call, build_call, check_call, match_call, propose_call, read_back_call, step_call};
+use outside_checks::driver::{Answer, Driver, Judged, Lent, Proposed, Reply, Watched};
+use outside_checks::independent::{begin, build, check, match_ends, propose, read_back, step, Proposal, Watch};
 use outside_checks::watches::lent;
 
 /// The length of the longest image.
@@ -68,6 +69,14 @@ impl Checks {
         self.compare(what, &step_call(image, lent, stretch, expected.found.lent.len()), expected)
     }
 
+    pub fn check(&mut self, what: &str, image: &[u64], text: &[u8], proposal: &Proposal, expected: &Judged) -> Option<Judged> {
+        self.compare(what, &check_call(image, text, proposal), expected)
+    }
+
+    pub fn propose(&mut self, what: &str, image: &[u64], text: &[u8], end: u64, expected: &Proposed) -> Option<Proposed> {
+        self.compare(what, &propose_call(image, text, end, expected.0.lent.len()), expected)
+    }
+
     /// One build beside the independent program; the words afterwards.
     pub fn build_beside(&mut self, what: &str, rule: &[u8], room: usize) -> Vec<u64> {
         let (number, image) = build(rule, room);
@@ -102,6 +111,32 @@ impl Checks {
     pub fn watch_beside(&mut self, what: &str, image: &[u64], width: usize, stretch: &[u8]) {
         self.begin_beside(what, image, &fresh(width), 1);
         self.step_beside(what, image, &Watch { mask: vec![1; width], place: 3 }, stretch, 4);
+    }
+
+    /// One check beside the independent program; what it gave.
+    pub fn check_beside(&mut self, what: &str, image: &[u64], text: &[u8], proposal: &Proposal) -> Option<Judged> {
+        self.check(what, image, text, proposal, &Judged::of(check(image, text, proposal)))
+    }
+
+    /// One call of the proposer beside the independent program; what it gave.
+    pub fn propose_beside(&mut self, what: &str, image: &[u64], text: &[u8], end: u64, room: usize) -> Option<Proposed> {
+        let proposed = self.propose(what, image, text, end, &Proposed::of(propose(image, text, end, room), room));
+        self.proposal_beside(what, image, text, end, proposed.as_ref());
+        proposed
+    }
+
+    /// What was proposed, if anything was, gets yes from the independent checker and from the library's.
+    pub fn proposal_beside(&mut self, what: &str, image: &[u64], text: &[u8], end: u64, proposed: Option<&Proposed>) {
+        if let Some(proposal) = proposed.and_then(|p| p.proposal(end)) {
+            self.same(&format!("{what}: what was proposed"), check(image, text, &proposal), (0, true));
+            self.check(&format!("{what}: what was proposed"), image, text, &proposal, &Judged { number: 0, yes: 1 });
+        }
+    }
+
+    /// A check and a call of the proposer beside the independent program.
+    pub fn spelling_beside(&mut self, what: &str, image: &[u64], text: &[u8]) {
+        self.check_beside(what, image, text, &Proposal { start: 0, end: 1, states: vec![1] });
+        self.propose_beside(what, image, text, text.len() as u64, text.len());
     }
 
     /// What the proved build gives for a rule that it must accept.

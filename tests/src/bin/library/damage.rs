@@ -3,7 +3,7 @@
 use crate::checks::{fresh, Checks};
 use crate::masks::{sections, Masks};
 use outside_checks::generate::Random;
-use outside_checks::independent::{image, parse, writing, Item, Watch};
+use outside_checks::independent::{image, parse, writing, Item, Proposal, Watch};
 use outside_checks::texts::text;
 use std::ops::Range;
 
@@ -31,19 +31,21 @@ impl Damage<'_> {
         Damage { checks, tally, name, image: image(tree), room: writing(tree).len() + 64, text }
     }
 
-    /// Match, and by turns begin and step, refuse these words as read back does and else answer for the tree that it writes. One text in 64 is too
-    /// long.
+    /// Match, and by turns begin, step, check and propose, refuse these words as read back does and else answer for the tree that it writes. One text
+    /// in 64 is too long.
     fn others(&mut self, what: &str, words: &[u64], number: u64) {
         let (too_long, width) = ([b'a'; 65536], self.image[2] as usize);
         let text = if self.tally.refused % 64 == 63 { &too_long[..] } else { &self.text };
-        let found = self.checks.match_beside(what, words, text, 4);
-        let watched = if self.tally.refused % 2 == 0 {
-            self.checks.begin_beside(what, words, &fresh(width), 1)
-        } else {
-            self.checks.step_beside(what, words, &Watch { mask: vec![1; width], place: 3 }, text, 4)
+        let checks = &mut *self.checks;
+        let found = checks.match_beside(what, words, text, 4).map(|a| a.number);
+        let other = match (self.tally.refused + self.tally.refused / 64) % 4 {
+            0 => checks.begin_beside(what, words, &fresh(width), 1).map(|w| w.found.number),
+            1 => checks.step_beside(what, words, &Watch { mask: vec![1; width], place: 3 }, text, 4).map(|w| w.found.number),
+            2 => checks.check_beside(what, words, text, &Proposal { start: 0, end: 1, states: vec![1] }).map(|j| j.number),
+            _ => checks.propose_beside(what, words, text, self.text.len() as u64, self.text.len()).map(|p| p.0.number),
         };
-        for answer in found.into_iter().chain(watched.map(|w| w.found)) {
-            self.checks.same(&format!("{what}: refused as by read back"), answer.number == 6, number == 6);
+        for given in found.into_iter().chain(other) {
+            checks.same(&format!("{what}: refused as by read back"), given == 6, number == 6);
         }
     }
 

@@ -64,6 +64,7 @@ fn other_class(checks: &mut Checks, r: &mut Random, name: &str, tree: &Sequence)
     let text = text(r, &other, 40);
     checks.match_ends(&what, &words, &text, &Answer::of(0, &ends(&other, &text), 9));
     checks.watch_beside(&what, &words, masks.width, &text);
+    checks.spelling_beside(&what, &words, &text);
     true
 }
 
@@ -137,6 +138,7 @@ fn ill_formed(checks: &mut Checks) {
         checks.read_back(what, &image(&tree), &Answer::of(6, &[], 40));
         checks.match_ends(what, &image(&tree), b"aab", &Answer::of(6, &[], 4));
         checks.watch_beside(what, &image(&tree), states(&tree).div_ceil(64), b"aab");
+        checks.spelling_beside(what, &image(&tree), b"aab");
     }
 }
 
@@ -164,5 +166,6 @@ fn random_words(checks: &mut Checks) {
         checks.read_back_beside(&format!("random words, seed {seed}"), &words, 64);
         checks.match_beside(&format!("random words, seed {seed}"), &words, b"aab", 4);
         checks.watch_beside(&format!("random words, seed {seed}"), &words, m.div_ceil(64), b"aab");
+        checks.spelling_beside(&format!("random words, seed {seed}"), &words, b"aab");
     }
 }

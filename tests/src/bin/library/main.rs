@@ -1,5 +1,6 @@
 //! The library for C, called through tests/driver.c: the outside vectors, document 01's examples and limits, generated rules beside the independent
-//! program, texts in cuttings, and damaged images; number, count and everything lent. Usage: library VECTORS DRIVER (tests/library makes the driver)
+//! program, texts in cuttings, spellings, and damaged images; number, count and everything lent. Usage: library VECTORS DRIVER (tests/library makes the
+//! driver)
 
 mod build;
 mod checks;
@@ -7,10 +8,15 @@ mod cuttings;
 mod damage;
 mod damaged;
 mod masks;
+mod mutations;
 mod match_ends;
 mod outside;
+mod proposals;
 mod read_back;
 mod seen;
+mod spelled;
+mod spelling;
+mod stretches;
 mod watch;
 
 use checks::Checks;
@@ -30,6 +36,10 @@ fn main() {
     match_ends::all(&mut checks, Path::new(folder));
     watch::all(&mut checks);
     cuttings::all(&mut checks);
+    spelling::all(&mut checks);
+    mutations::all(&mut checks);
+    proposals::all(&mut checks);
+    stretches::all(&mut checks);
     damaged::all(&mut checks);
     exit(i32::from(!checks.tell()));
 }

@@ -1,9 +1,11 @@
 //! The outside vectors, and faults planted in copies of their answers: the comparison must see every one.
 
 use crate::checks::Checks;
-use outside_checks::driver::{begin_call, build_call, match_call, read_back_call, step_call, Answer, Lent, Reply, Watched};
+use outside_checks::driver::{begin_call, build_call, check_call, match_call, propose_call, read_back_call, step_call};
+use outside_checks::driver::{Answer, Judged, Lent, Proposed, Reply, Watched};
 use outside_checks::generate::Random;
-use outside_checks::independent::Watch;
+use outside_checks::independent::{Proposal, Watch};
+use outside_checks::spellings;
 use outside_checks::watches::watches;
 use outside_checks::{bytes, expand, places, runs, vectors};
 use std::ops::BitXor;
@@ -14,14 +16,19 @@ type Pairs<R> = Vec<(R, R)>;
 
 pub fn all(checks: &mut Checks, folder: &Path) {
     let (mut built, mut written, mut found, mut watched) = (Vec::new(), Vec::new(), Vec::new(), Vec::new());
+    let (mut judged, mut proposed) = (Vec::new(), Vec::new());
     checks.part("outside vectors: build", |c| built = build(c, folder));
     checks.part("outside vectors: read back", |c| written = read_back(c, folder));
     checks.part("outside vectors: match", |c| found = match_ends(c, folder));
     checks.part("outside vectors: watch", |c| watched = watch(c, folder));
+    checks.part("outside vectors: check", |c| judged = check(c, folder));
+    checks.part("outside vectors: propose", |c| proposed = propose(c, folder));
     checks.part("faults planted in copies of build's answers", |c| planted(c, &built, faults));
     checks.part("faults planted in copies of read back's answers", |c| planted(c, &written, faults));
     checks.part("faults planted in copies of match's answers", |c| planted(c, &found, faults));
     checks.part("faults planted in copies of the watch's answers", |c| planted(c, &watched, watch_faults));
+    checks.part("faults planted in copies of check's answers", |c| planted(c, &judged, check_faults));
+    checks.part("faults planted in copies of propose's answers", |c| planted(c, &proposed, propose_faults));
     checks.part("changes in and beside what is given and lent", changes);
 }
 
@@ -79,6 +86,28 @@ fn watch(checks: &mut Checks, folder: &Path) -> Pairs<Watched> {
     answers
 }
 
+fn check(checks: &mut Checks, folder: &Path) -> Pairs<Judged> {
+    let mut answers = Vec::new();
+    for (line, call) in (1..).zip(spellings::checks(folder)) {
+        let expected = Judged::of((call.number, call.yes));
+        let got = checks.check(&format!("line {line}"), &expand(&call.image), &call.text, &call.proposal, &expected);
+        answers.extend(got.map(|got| (got, expected)));
+    }
+    answers
+}
+
+fn propose(checks: &mut Checks, folder: &Path) -> Pairs<Proposed> {
+    let mut answers = Vec::new();
+    for (line, call) in (1..).zip(spellings::proposals(folder)) {
+        let (what, image) = (format!("line {line}"), expand(&call.image));
+        let expected = Proposed::of((call.number, call.count), call.room);
+        let got = checks.propose(&what, &image, &call.text, call.end, &expected);
+        checks.proposal_beside(&what, &image, &call.text, call.end, got.as_ref());
+        answers.extend(got.map(|got| (got, expected)));
+    }
+    answers
+}
+
 // ---- that a wrong answer would be seen
 
 fn planted<R: Reply>(checks: &mut Checks, answers: &Pairs<R>, faults: impl Fn(&mut Random, &R) -> Vec<R>) {
@@ -124,6 +153,18 @@ fn watch_faults(r: &mut Random, right: &Watched) -> Vec<Watched> {
     found.chain(watches.into_iter().map(|watch| Watched { found: right.found.clone(), watch })).collect()
 }
 
+fn check_faults(_: &mut Random, right: &Judged) -> Vec<Judged> {
+    vec![Judged { number: right.number + 1, ..right.clone() }, Judged { yes: 1 - right.yes, ..right.clone() }]
+}
+
+/// The number or the count wrong, or something past the states, which are free.
+fn propose_faults(r: &mut Random, Proposed(right): &Proposed) -> Vec<Proposed> {
+    let (states, rest) = right.lent.split_at(right.written().len());
+    let numbers = [(right.number + 1, right.count), (right.number, right.count + 1)].map(|(number, count)| Answer { number, count, ..right.clone() });
+    let lists = lent_faults(r, rest, 0).into_iter().map(|fault| Answer { lent: [states, &fault].concat(), ..right.clone() });
+    numbers.into_iter().chain(lists).map(Proposed).collect()
+}
+
 /// The driver itself changes what a call must not change: in each area given, and in and beside each area lent.
 fn changes(checks: &mut Checks) {
     let (image, watch) = ([1, 2, 3], Watch { mask: vec![5; 7], place: 9 });
@@ -133,6 +174,9 @@ fn changes(checks: &mut Checks) {
     spoilt(checks, &match_call(&image, b"abcd", 7), &[3, 4], &[7], &Answer::<u32>::of(0, &[], 7));
     spoilt(checks, &begin_call(&image, &watch, 7), &[3], &[7, 1, 7], &watched);
     spoilt(checks, &step_call(&image, &watch, b"abcd", 7), &[3, 4], &[7, 1, 7], &watched);
+    let proposal = Proposal { start: 1, end: 3, states: vec![1, 2] };
+    spoilt(checks, &check_call(&image, b"abcd", &proposal), &[3, 4, 2], &[], &Judged { number: 0, yes: 0 });
+    spoilt(checks, &propose_call(&image, b"abcd", 3, 7), &[3, 4], &[7], &Proposed::of((0, 0), 7));
 }
 
 /// A call with areas of these lengths given and lent.

@@ -27,6 +27,9 @@ WithSays row q r = (x : ℕ) → Has r x ↔ (Has row x ⊎ (x ≡ q))
 abbrev pub EitherSays : (a b r : List ℕ) → Type 0
 EitherSays a b r = (x : ℕ) → Has r x ↔ (Has a x ⊎ Has b x)
 
+abbrev pub LowestBitSays : ℕ → ℕ → Type 0
+LowestBitSays word r = (r < 64) × ((x : ℕ) → x < 64 → T (bit word x) → T (bit word r))
+
 abbrev pub LowestSays : List ℕ → ℕ → Type 0
 LowestSays row r = (r < 512) × ((x : ℕ) → Has row x → Has row r)
 
@@ -40,8 +43,12 @@ pub record NoteSays (before : List (List ℕ)) (q : ℕ) (reached : List ℕ) (c
 abbrev pub OriginsSays : List ℕ → ℕ → List (List ℕ) → Type 0
 OriginsSays image count origins = (p : ℕ) → p < count → (q : ℕ) → Has (getD origins p []) q ↔ ((q < count) × Has (reachWords image q) p)
 
-abbrev pub IntoSays : List (List ℕ) → ℕ → List ℕ → List ℕ → Type 0
-IntoSays origins count row r = (q : ℕ) → Has r q ↔ ((p : ℕ) × (p < count) × Has row p × Has (getD origins p []) q)
+-- the origins of the states of one word of a row, and those of all its words
+abbrev pub IntoWordSays : List (List ℕ) → (word at : ℕ) (before r : List ℕ) → Type 0
+IntoWordSays origins word at before r = (q : ℕ) → Has r q ↔ (Has before q ⊎ ((j : ℕ) × (j < 64) × T (bit word j) × Has (getD origins (at + j) []) q))
+
+abbrev pub IntoSays : List (List ℕ) → (row r : List ℕ) → Type 0
+IntoSays origins row r = (q : ℕ) → Has r q ↔ ((p : ℕ) × Has row p × Has (getD origins p []) q)
 
 -- the words are the tree's image, row p has what reaches state p, and the accepting state is known
 pub record Ready (image : List ℕ) (origins : List (List ℕ)) (last : ℕ) (t : Tree) : Type 0 where
@@ -56,11 +63,12 @@ SetOf t bytes words = StatesAre t words (Leads t bytes)
 abbrev pub SetAt : Tree → List ℕ → (end k : ℕ) → List ℕ → Type 0
 SetAt t text end k words = SetOf t (between text k end) words
 
-abbrev pub EndingSays : List ℕ → List (List ℕ) → ℕ → List ℕ → Type 0
-EndingSays image origins last r = (t : Tree) → Ready image origins last t → SetOf t [] r
+abbrev pub EndingSays : List (List ℕ) → ℕ → List ℕ → Type 0
+EndingSays origins last r = (t : Tree) (image : List ℕ) → Ready image origins last t → SetOf t [] r
 
-abbrev pub BackSays : List ℕ → List (List ℕ) → ℕ → List ℕ → ℕ → List ℕ → Type 0
-BackSays image origins last set byte r = (t : Tree) → Ready image origins last t → (bytes : List ℕ) → SetOf t bytes set → SetOf t (byte ∷ bytes) r
+abbrev pub BackSays : List ℕ → List (List ℕ) → List ℕ → ℕ → List ℕ → Type 0
+BackSays image origins set byte r =
+    (t : Tree) (last : ℕ) → Ready image origins last t → (bytes : List ℕ) → SetOf t bytes set → SetOf t (byte ∷ bytes) r
 
 -- ---- the latest start
 pub record Asked (text : List ℕ) (end last : ℕ) : Type 0 where
@@ -98,9 +106,10 @@ pub record Stretch (text : List ℕ) (lo hi : ℕ) : Type 0 where
   pub short : hi ≤ lo + 256
   pub inside : hi ≤ length text
 
-pub record FillSays (image : List ℕ) (origins : List (List ℕ)) (last : ℕ) (text : List ℕ) (lo hi : ℕ) (set : List ℕ) (sets : List (List ℕ)) : Type 0 where
+pub record FillSays (image : List ℕ) (origins : List (List ℕ)) (text : List ℕ) (lo hi : ℕ) (set : List ℕ) (sets : List (List ℕ)) : Type 0 where
   pub long : length sets ≡ 256
-  pub fills : (t : Tree) → Ready image origins last t → (end : ℕ) → hi ≤ end → end ≤ length text → SetAt t text end hi set → SetsOf t text end lo hi sets
+  pub fills : (t : Tree) (last : ℕ) → Ready image origins last t → (end : ℕ) → hi ≤ end → end ≤ length text → SetAt t text end hi set
+      → SetsOf t text end lo hi sets
 
 -- a state that the byte enters from what a state reaches and that is in the set, if there is one
 pub record ChooseSays (image : List ℕ) (at : ℕ) (set : List ℕ) (byte r : ℕ) : Type 0 where
@@ -137,10 +146,10 @@ pub record StopSays (k end r : ℕ) : Type 0 where
   pub short : r ≤ k + 256
   pub where-to : (r ≡ end) ⊎ (r % 256 ≡ 0)
 
-abbrev pub SetSays : List ℕ → List (List ℕ) → (last end : ℕ) → List (List ℕ) → ℕ → List ℕ → Type 0
-SetSays image origins last end kept stop r =
-    (t : Tree) (text : List ℕ) (start : ℕ) → Ready image origins last t → KeptFrom t text end start kept → start ≤ stop → stop ≤ end → (stop ≡ end) ⊎ (stop % 256 ≡ 0)
-    → SetAt t text end stop r
+abbrev pub SetSays : List (List ℕ) → (last end : ℕ) → List (List ℕ) → ℕ → List ℕ → Type 0
+SetSays origins last end kept stop r =
+    (t : Tree) (image text : List ℕ) (start : ℕ) → Ready image origins last t → KeptFrom t text end start kept → start ≤ stop → stop ≤ end
+    → (stop ≡ end) ⊎ (stop % 256 ≡ 0) → SetAt t text end stop r
 
 pub record WriteAsks (text : List ℕ) (start end last : ℕ) (list : List ℕ) : Type 0 where
   pub asked : Asked text end last

@@ -8,21 +8,20 @@ ghost use Prim.Native.Nat.{_<_};
 ghost use Rattle.proposer.specs.Work.{BackSays, EndingSays};
 
 // The states that reach the accepting state without a letter.
-pub fn ending(image: &[u64], last: usize, origins: &Origins) -> [u64; 8]
+pub fn ending(origins: &Origins, last: usize) -> [u64; 8]
     requires { ⌜ last < 512 ⌝ }
-    ensures { λ r. ⌜ EndingSays (now (image .entry)) (now (origins .entry)) last r ⌝ }
+    ensures { λ r. ⌜ EndingSays (now (origins .entry)) last r ⌝ }
 {
     let none = [0u64; 8];
     let row = with_state(none, last);
-    into(origins, last + 1, row)
+    into(origins, row)
 }
 
 // One byte back.
-pub fn back(image: &[u64], last: usize, origins: &Origins, set: [u64; 8], byte: u8) -> [u64; 8]
-    requires { ⌜ last < 512 ⌝ }
-    ensures { λ r. ⌜ BackSays (now (image .entry)) (now (origins .entry)) last set byte r ⌝ }
+pub fn back(image: &[u64], origins: &Origins, set: [u64; 8], byte: u8) -> [u64; 8]
+    ensures { λ r. ⌜ BackSays (now (image .entry)) (now (origins .entry)) set byte r ⌝ }
 {
     let left = leave(image, Mask { words: set }, byte);
     let row = left.words;
-    into(origins, last + 1, row)
+    into(origins, row)
 }

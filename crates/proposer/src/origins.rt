@@ -6,10 +6,10 @@ use mask::bits::row_has_bit;
 use run::reach::Work;
 use run::reach::reach;
 ghost use mathlib.Core.Path.{_≡_};
-ghost use Prim.Native.Nat.{_≤_, _<_};
+ghost use Prim.Native.Nat.{_+_, _≤_, _<_};
 ghost use lib.ListN.{length};
 ghost use Rattle.run.specs.Reach.{WorkOf};
-ghost use Rattle.proposer.specs.Work.{IntoSays, NoteSays, OriginsSays};
+ghost use Rattle.proposer.specs.Work.{IntoSays, IntoWordSays, NoteSays, OriginsSays};
 
 // Row p has the states that reach state p.
 pub type Origins = [[u64; 8]; 512];
@@ -46,20 +46,37 @@ pub fn find_origins(image: &[u64], masks: &Work, count: usize) -> Origins
     r
 }
 
+// To the states of r the origins of those of one word of a row, whose first state is `at`.
+fn into_word(origins: &Origins, word: u64, at: usize, r: [u64; 8]) -> [u64; 8]
+    requires { ⌜ at + 64 ≤ 512 ⌝ }
+    ensures { λ r₁. ⌜ IntoWordSays (now (origins .entry)) word at r r₁ ⌝ }
+{
+    let mut all = r;
+    let mut left = word;
+    let mut p = at;
+    while left != 0 {
+        if left & 1 == 1 {
+            let from = origins[p];
+            let more = either(all, from);
+            all = more;
+        }
+        left = left >> 1;
+        p += 1;
+    }
+    all
+}
+
 // The states that reach a state of a row.
-pub fn into(origins: &Origins, count: usize, row: [u64; 8]) -> [u64; 8]
-    requires { ⌜ count ≤ 512 ⌝ }
-    ensures { λ r. ⌜ IntoSays (now (origins .entry)) count row r ⌝ }
+pub fn into(origins: &Origins, row: [u64; 8]) -> [u64; 8]
+    ensures { λ r. ⌜ IntoSays (now (origins .entry)) row r ⌝ }
 {
     let mut r = [0u64; 8];
-    let mut p = 0;
-    while p < count {
-        if row_has_bit(row, p) {
-            let from = origins[p];
-            let more = either(r, from);
-            r = more;
-        }
-        p += 1;
+    let mut i = 0;
+    while i < 8 {
+        let word = row[i];
+        let more = into_word(origins, word, 64 * i, r);
+        r = more;
+        i += 1;
     }
     r
 }

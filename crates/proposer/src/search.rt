@@ -29,7 +29,7 @@ pub fn find_start(
     ensures { λ r. ⌜ StartSays (now (image .entry)) (now (origins .entry)) last (now (text .entry)) end (now (kept .exit)) r ⌝ }
 {
     let none = [0u64; 8];
-    let mut set = ending(image, last, origins);
+    let mut set = ending(origins, last);
     let mut k = end;
     loop {
         if row_has_bit(set, 0) {
@@ -42,7 +42,7 @@ pub fn find_start(
             return Found::Nowhere;
         }
         k -= 1;
-        let before = back(image, last, origins, set, text[k]);
+        let before = back(image, origins, set, text[k]);
         set = before;
         if k % 256 == 0 {
             kept[k / 256] = set;

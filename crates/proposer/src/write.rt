@@ -21,20 +21,19 @@ fn fill(
     text: &[u8],
     lo: usize,
     hi: usize,
-    last: usize,
     origins: &Origins,
     set: [u64; 8],
     sets: &mut Kept,
 )
-    requires { ⌜ Stretch (now text) lo hi × (last < 512) × (length (now sets) ≡ 256) ⌝ }
-    ensures { λ _. ⌜ FillSays (now (image .entry)) (now (origins .entry)) last (now (text .entry)) lo hi set (now (sets .exit)) ⌝ }
+    requires { ⌜ Stretch (now text) lo hi × (length (now sets) ≡ 256) ⌝ }
+    ensures { λ _. ⌜ FillSays (now (image .entry)) (now (origins .entry)) (now (text .entry)) lo hi set (now (sets .exit)) ⌝ }
 {
     let mut here = set;
     let mut k = hi;
     while k > lo {
         k -= 1;
         sets[k - lo] = here;
-        let before = back(image, last, origins, here, text[k]);
+        let before = back(image, origins, here, text[k]);
         here = before;
     }
 }
@@ -87,19 +86,12 @@ fn stop_after(k: usize, end: usize) -> usize
 }
 
 // The set of a place at which a stretch stops.
-fn set_at(
-    image: &[u64],
-    end: usize,
-    last: usize,
-    origins: &Origins,
-    kept: &Kept,
-    stop: usize,
-) -> [u64; 8]
+fn set_at(end: usize, last: usize, origins: &Origins, kept: &Kept, stop: usize) -> [u64; 8]
     requires { ⌜ (stop ≤ 65535) × (last < 512) ⌝ }
-    ensures { λ r. ⌜ SetSays (now (image .entry)) (now (origins .entry)) last end (now (kept .entry)) stop r ⌝ }
+    ensures { λ r. ⌜ SetSays (now (origins .entry)) last end (now (kept .entry)) stop r ⌝ }
 {
     if stop == end {
-        return ending(image, last, origins);
+        return ending(origins, last);
     }
     kept[stop / 256]
 }
@@ -125,8 +117,8 @@ pub fn write(
     let mut k = start;
     while k < end {
         let stop = stop_after(k, end);
-        let set = set_at(image, end, last, origins, kept, stop);
-        fill(image, text, k, stop, last, origins, set, &mut sets);
+        let set = set_at(end, last, origins, kept, stop);
+        fill(image, text, k, stop, origins, set, &mut sets);
         at = walk(image, masks, text, k, stop, &sets, at, start, states);
         k = stop;
     }

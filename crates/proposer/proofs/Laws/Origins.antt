@@ -1,19 +1,25 @@
 -- THE LOOPS OVER THE STATES: the rows of what reaches each state, one state after another, and what reaches a state of a row.
-use mathlib.Core.Path.{_≡_, refl, sym, _∙_, subst}
+use mathlib.Core.Path.{_≡_, refl, sym, ap, ap₂, _∙_, subst}
 use mathlib.Core.Logic.{_⊎_, inl, inr, _↔_}
 use mathlib.Core.Bool.{Bool, true, false}
 use mathlib.Core.List.{List, []}
-use Prim.Native.Nat.{ℕ, _+_, _≤_, _<_}
-use native.Mathlib.Nat.{eq-or-lt-of-le}
+use Prim.Native.Nat.{ℕ, _+_, _-_, _*_, _/_, _%_, _^_, _≤_, _<_}
+use native.Mathlib.Nat.{eq-or-lt-of-le, le-refl}
 use native.Mathlib.Omega.{arith}
-use lib.Dec.{T}
+use lib.Bits.{bitAnd}
+use lib.Dec.{T, eqb, eqb→eq}
 use lib.ListN.{getD, getD-replicate, length, length-set, replicate, set}
+use lib.Pow.{pow-mono, shr-lt, shr-shr}
 use lib.Seq.{getD-set-other, getD-set-same}
-use Rattle.mask.proofs.Laws.Bits.{none-bit}
+use Rattle.mask.proofs.Laws.Bits.{none-bit, read-bit}
 use Rattle.model.specs.Bits.{bit}
-use Rattle.model.specs.Models.Words.{value}
+use Rattle.model.specs.Models.Words.{Fit, value}
+use Rattle.model.proofs.Laws.Bits.{no-bit}
+use Rattle.model.proofs.Laws.Bool.{le-or-lt}
+use Rattle.model.proofs.Words.RowBits.{row-bit, shifted}
 use Rattle.run.specs.Reach.{reachWords}
-use Rattle.proposer.specs.Work.{EitherSays, Has, IntoSays, NoteSays, OriginsSays, WithSays}
+use Rattle.spelling.proofs.Laws.Sets.{bit-below}
+use Rattle.proposer.specs.Work.{EitherSays, Has, IntoSays, IntoWordSays, NoteSays, OriginsSays, WithSays}
 
 -- no row of zeros has a state
 pub none-has : (x : ℕ) → Has (replicate 8 0) x → ⊥
@@ -118,41 +124,154 @@ module _ (image : List ℕ) (count : ℕ) where
   found-all {q} {rows} F e p h x =
       subst (λ (n : ℕ). Has (getD rows p []) x ↔ ((x < n) × Has (reachWords image x) p)) e (F .has p h x)
 
--- ---- WHAT REACHES A STATE OF A ROW: the origins of its states below p
+-- ---- WHAT REACHES A STATE OF ONE WORD: the origins of its states before p are in r, and `left` is the word from there on
+module _ (origins : List (List ℕ)) (word at : ℕ) (before : List ℕ) where
+  abbrev From : (n q : ℕ) → Type 0
+  From n q = (j : ℕ) × (j < n) × T (bit word j) × Has (getD origins (at + j) []) q
+
+  pub record Taking (p left : ℕ) (r : List ℕ) : Type 0 where
+    pub past : at ≤ p
+    pub left-is : left ≡ word / 2 ^ (p - at)
+    pub has : (q : ℕ) → Has r q ↔ (Has before q ⊎ From (p - at) q)
+
+  pub taking-none : Taking at word before
+  taking-none =
+      let e : at - at ≡ 0 = omega arith in
+      record {
+        past = le-refl at;
+        left-is = let d : word ≡ word / 1 = omega arith in d ∙ ap (λ (n : ℕ). word / 2 ^ n) (sym e);
+        has = λ q. (
+          λ h. inl h,
+          λ h. elim h [
+            | inl k ↦ k
+            | inr (j, l, b, k) ↦ absurd (omega (arith, e))
+          ],
+        );
+      }
+
+  module _ {p left : ℕ} {r : List ℕ} (K : Taking p left r) where
+    up : p + 1 - at ≡ p - at + 1
+    up = omega (arith, K .past)
+
+    here : at + (p - at) ≡ p
+    here = omega (arith, K .past)
+
+    -- while some bit is left, the place lies in the word
+    pub inside : word < 2 ^ 64 → (left ≡ 0 → ⊥) → p < at + 64
+    inside w f = go (le-or-lt (p - at) 63)
+      where
+        go : (p - at ≤ 63) ⊎ (63 < p - at) → p < at + 64
+        go (inl h) = omega (arith, K .past)
+        go (inr h) =
+            let s : 2 ^ 64 ≤ 2 ^ (p - at) = pow-mono (let l : 64 ≤ p - at = omega arith in l) in
+            let e : p - at ≡ 0 + (p - at) = omega arith in
+            let z : word / 2 ^ (p - at) < 1 = shr-lt 0 (p - at) (subst (λ (k : ℕ). word < 2 ^ k) e (omega arith)) in
+            absurd (f (omega (arith, K .left-is)))
+
+    next : left / 2 ^ 1 ≡ word / 2 ^ (p + 1 - at)
+    next = ap (λ (x : ℕ). x / 2 ^ 1) (K .left-is) ∙ shr-shr word (p - at) 1 ∙ ap (λ (x : ℕ). word / 2 ^ x) (sym up)
+
+    look : eqb (bitAnd left 1) 1 ≡ bit word (p - at)
+    look = ap (λ (x : ℕ). eqb (bitAnd x 1) 1) (K .left-is) ∙ read-bit word (p - at)
+
+    pub taking-more : bitAnd left 1 ≡ 1 → (s : List ℕ) → EitherSays r (getD origins p []) s → Taking (p + 1) (left / 2 ^ 1) s
+    taking-more e s E = record { past = omega (arith, K .past); left-is = next; has = λ q. (there q, back q) }
+      where
+        set : T (bit word (p - at))
+        set = subst T look (subst (λ (x : ℕ). T (eqb x 1)) (sym e) tt)
+
+        there : (q : ℕ) → Has s q → Has before q ⊎ From (p + 1 - at) q
+        there q h = elim (E q .0 h) [
+          | inl k ↦ elim (K .has q .0 k) [
+            | inl m ↦ inl m
+            | inr m ↦ inr (m .0, omega (arith, up, m .1), m .2, m .3)
+          ]
+          | inr k ↦ inr (p - at, omega (arith, up), set, subst (λ (x : ℕ). Has (getD origins x []) q) (sym here) k)
+        ]
+
+        go : (q j : ℕ) → T (bit word j) → Has (getD origins (at + j) []) q → (j ≡ p - at) ⊎ (j < p - at) → Has s q
+        go q j b k (inl d) = E q .1 (inr (subst (λ (x : ℕ). Has (getD origins x []) q) (ap (λ (x : ℕ). at + x) d ∙ here) k))
+        go q j b k (inr l) = E q .1 (inl (K .has q .1 (inr (j, l, b, k))))
+
+        back : (q : ℕ) → Has before q ⊎ From (p + 1 - at) q → Has s q
+        back q (inl h) = E q .1 (inl (K .has q .1 (inl h)))
+        back q (inr (j, l, b, k)) = go q j b k (split (let m : j < p - at + 1 = omega (arith, up) in m))
+
+    pub taking-same : (bitAnd left 1 ≡ 1 → ⊥) → Taking (p + 1) (left / 2 ^ 1) r
+    taking-same f = record { past = omega (arith, K .past); left-is = next; has = λ q. (there q, back q) }
+      where
+        clear : T (bit word (p - at)) → ⊥
+        clear h = f (eqb→eq (bitAnd left 1) 1 (subst T (sym look) h))
+
+        there : (q : ℕ) → Has r q → Has before q ⊎ From (p + 1 - at) q
+        there q h = elim (K .has q .0 h) [
+          | inl m ↦ inl m
+          | inr m ↦ inr (m .0, omega (arith, up, m .1), m .2, m .3)
+        ]
+
+        go : (q j : ℕ) → T (bit word j) → Has (getD origins (at + j) []) q → (j ≡ p - at) ⊎ (j < p - at) → Has r q
+        go q j b k (inl d) = absurd (clear (subst (λ (x : ℕ). T (bit word x)) d b))
+        go q j b k (inr l) = K .has q .1 (inr (j, l, b, k))
+
+        back : (q : ℕ) → Has before q ⊎ From (p + 1 - at) q → Has r q
+        back q (inl h) = K .has q .1 (inl h)
+        back q (inr (j, l, b, k)) = go q j b k (split (let m : j < p - at + 1 = omega (arith, up) in m))
+
+    -- no bit is left: all of the word's have been met
+    pub taking-all : p ≤ at + 64 → left ≡ 0 → IntoWordSays origins word at before r
+    taking-all h e q = (there, back)
+      where
+        there : Has r q → Has before q ⊎ From 64 q
+        there k = elim (K .has q .0 k) [
+          | inl m ↦ inl m
+          | inr m ↦ inr (m .0, omega (arith, m .1), m .2, m .3)
+        ]
+
+        none : (i : ℕ) → T (bit word (p - at + i)) → ⊥
+        none i b = no-bit i (subst T (sym (ap (λ (x : ℕ). bit x i) (sym e ∙ K .left-is) ∙ shifted word (p - at) i)) b)
+
+        go : (j : ℕ) → T (bit word j) → Has (getD origins (at + j) []) q → (p - at ≤ j) ⊎ (j < p - at) → Has r q
+        go j b k (inl l) = absurd (none (j - (p - at)) (subst (λ (x : ℕ). T (bit word x)) (let d : j ≡ p - at + (j - (p - at)) = omega arith in d) b))
+        go j b k (inr l) = K .has q .1 (inr (j, l, b, k))
+
+        back : Has before q ⊎ From 64 q → Has r q
+        back (inl k) = K .has q .1 (inl k)
+        back (inr (j, l, b, k)) = go j b k (le-or-lt (p - at) j)
+
+-- ---- AND OF A ROW: word after word
 module _ (origins : List (List ℕ)) (row : List ℕ) where
-  pub record Gathered (p : ℕ) (r : List ℕ) : Type 0 where
-    pub has : (q : ℕ) → Has r q ↔ ((x : ℕ) × (x < p) × Has row x × Has (getD origins x []) q)
+  pub record Gathered (i : ℕ) (r : List ℕ) : Type 0 where
+    pub has : (q : ℕ) → Has r q ↔ ((p : ℕ) × (p < 64 * i) × Has row p × Has (getD origins p []) q)
 
   pub gathered-none : Gathered 0 (replicate 8 0)
   gathered-none = record { has = λ q. (λ h. absurd (none-has q h), λ (x, l, h, k). absurd (omega arith)) }
 
-  module _ {p : ℕ} {r : List ℕ} (G : Gathered p r) where
-    pub gathered-more : bit (value row) p ≡ true → (s : List ℕ) → EitherSays r (getD origins p []) s → Gathered (p + 1) s
-    gathered-more b s E = record {
-      has = λ q. (
-        λ h. elim (E q .0 h) [
+  module _ (fit : Fit row) where
+    -- bit j of word i is state 64 i + j
+    at-word : (i j : ℕ) → j < 64 → bit (value row) (64 * i + j) ≡ bit (getD row i 0) j
+    at-word i j l =
+        let d : (64 * i + j) / 64 ≡ i = omega arith in
+        let m : (64 * i + j) % 64 ≡ j = omega arith in
+        row-bit row (64 * i + j) fit ∙ ap₂ (λ (a b : ℕ). bit (getD row a 0) b) d m
+
+    pub gathered-more : {i : ℕ} {r : List ℕ} → Gathered i r → (s : List ℕ) → IntoWordSays origins (getD row i 0) (64 * i) r s → Gathered (i + 1) s
+    gathered-more {i} {r} G s W = record { has = λ q. (there q, λ (p, l, h, k). back q p l h k (le-or-lt (64 * i) p)) }
+      where
+        there : (q : ℕ) → Has s q → (p : ℕ) × (p < 64 * (i + 1)) × Has row p × Has (getD origins p []) q
+        there q h = elim (W q .0 h) [
           | inl k ↦ let g = G .has q .0 k in (g .0, omega (arith, g .1), g .2, g .3)
-          | inr k ↦ (p, omega arith, subst T (sym b) tt, k)
-        ],
-        λ (x, l, h, k). go q x h k (split l),
-      );
-    }
-      where
-        go : (q x : ℕ) → Has row x → Has (getD origins x []) q → (x ≡ p) ⊎ (x < p) → Has s q
-        go q x h k (inl e) = E q .1 (inr (subst (λ (y : ℕ). Has (getD origins y []) q) e k))
-        go q x h k (inr l) = E q .1 (inl (G .has q .1 (x, l, h, k)))
+          | inr (j, l, b, k) ↦ (64 * i + j, omega arith, subst T (sym (at-word i j l)) b, k)
+        ]
 
-    pub gathered-same : bit (value row) p ≡ false → Gathered (p + 1) r
-    gathered-same b = record {
-      has = λ q. (
-        λ h. let g = G .has q .0 h in (g .0, omega (arith, g .1), g .2, g .3),
-        λ (x, l, h, k). go q x h k (split l),
-      );
-    }
-      where
-        go : (q x : ℕ) → Has row x → Has (getD origins x []) q → (x ≡ p) ⊎ (x < p) → Has r q
-        go q x h k (inl e) = absurd (subst T b (subst (Has row) e h))
-        go q x h k (inr l) = G .has q .1 (x, l, h, k)
+        back : (q p : ℕ) → p < 64 * (i + 1) → Has row p → Has (getD origins p []) q → (64 * i ≤ p) ⊎ (p < 64 * i) → Has s q
+        back q p l h k (inl m) =
+            let e : p ≡ 64 * i + (p - 64 * i) = omega arith in
+            let d : p - 64 * i < 64 = omega arith in
+            W q .1 (inr (p - 64 * i, d, subst T (at-word i (p - 64 * i) d) (subst (Has row) e h), subst (λ (x : ℕ). Has (getD origins x []) q) e k))
+        back q p l h k (inr m) = W q .1 (inl (G .has q .1 (p, m, h, k)))
 
-    pub gathered-all : {count : ℕ} → p ≡ count → IntoSays origins count row r
-    gathered-all e = subst (λ (n : ℕ). IntoSays origins n row r) e (G .has)
+    pub gathered-all : length row ≡ 8 → {i : ℕ} {r : List ℕ} → Gathered i r → 8 ≤ i → IntoSays origins row r
+    gathered-all long G l q = (
+      λ h. let g = G .has q .0 h in (g .0, g .2, g .3),
+      λ (p, h, k). G .has q .1 (p, omega (arith, bit-below row p fit long h), h, k),
+    )

@@ -31,12 +31,12 @@ module _ (image : List ℕ) (origins : List (List ℕ)) (last : ℕ) (text : Lis
     pub place : (t : Tree) → Ready image origins last t → Place t k here kept
 
   module _ (A : Asked text end last) where
-    pub backed-end : (here : List ℕ) (kept : List (List ℕ)) → length kept ≡ 256 → EndingSays image origins last here → Backed end here kept
+    pub backed-end : (here : List ℕ) (kept : List (List ℕ)) → length kept ≡ 256 → EndingSays origins last here → Backed end here kept
     backed-end here kept l E = record {
       within = omega arith;
       long = l;
       place = λ t R. record {
-        set-at = subst (λ (bs : List ℕ). SetOf t bs here) (sym (between-none text end)) (E t R);
+        set-at = subst (λ (bs : List ℕ). SetOf t bs here) (sym (between-none text end)) (E t image R);
         none-after = λ j h m. absurd (omega arith);
         kept-from = λ j h m. absurd (omega arith);
       };
@@ -44,14 +44,14 @@ module _ (image : List ℕ) (origins : List (List ℕ)) (last : ℕ) (text : Lis
 
     -- ---- one place back
     module _ {k : ℕ} {here : List ℕ} {kept : List (List ℕ)} (K : Backed k here kept) (some : 0 < k) (out : bit (value here) 0 ≡ false)
-        (before : List ℕ) (S : BackSays image origins last here (getD text (k - 1) 0) before) where
+        (before : List ℕ) (S : BackSays image origins here (getD text (k - 1) 0) before) where
       module _ (t : Tree) (R : Ready image origins last t) where
         set-before : SetAt t text end (k - 1) before
         set-before =
             let e : suc (k - 1) ≡ k = omega arith in
             subst (λ (bs : List ℕ). SetOf t bs before)
             (sym (between-one text (k - 1) end (omega (arith, K .within)) (A .inside) ∙ ap (λ (n : ℕ). getD text (k - 1) 0 ∷ between text n end) e))
-            (S t R (between text k end) (K .place t R .set-at))
+            (S t last R (between text k end) (K .place t R .set-at))
 
         not-here : Leads t (between text k end) 0 → ⊥
         not-here l = subst T out (K .place t R .set-at .within 0 (omega arith) .1 l)

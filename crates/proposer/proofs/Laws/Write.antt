@@ -15,15 +15,14 @@ use Rattle.model.proofs.Spelling.Leads.{between-none, chain-ends}
 use Rattle.proposer.specs.Work.{EndingSays, FillSays, KeptFrom, Ready, SetAt, SetOf, SetSays, StopSays, Stretch, WalkAsks, Walked, WalkSays, WriteAsks, WriteSays}
 
 -- ---- the set of a place at which a stretch stops
-pub set-ending : (image : List ℕ) (origins : List (List ℕ)) (last end : ℕ) (kept : List (List ℕ)) (stop : ℕ) (r : List ℕ) → stop ≡ end → EndingSays image origins last r
-    → SetSays image origins last end kept stop r
-set-ending image origins last end kept stop r e E t text start R K l m w =
-    subst (λ (n : ℕ). SetAt t text end n r) (sym e) (subst (λ (bs : List ℕ). SetOf t bs r) (sym (between-none text end)) (E t R))
+pub set-ending : (origins : List (List ℕ)) (last end : ℕ) (kept : List (List ℕ)) (stop : ℕ) (r : List ℕ) → stop ≡ end → EndingSays origins last r
+    → SetSays origins last end kept stop r
+set-ending origins last end kept stop r e E t image text start R K l m w =
+    subst (λ (n : ℕ). SetAt t text end n r) (sym e) (subst (λ (bs : List ℕ). SetOf t bs r) (sym (between-none text end)) (E t image R))
 
-pub set-kept : (image : List ℕ) (origins : List (List ℕ)) (last end : ℕ) (kept : List (List ℕ)) (stop : ℕ) → (stop ≡ end → ⊥)
-    → SetSays image origins last end kept stop (getD kept (stop / 256) [])
-set-kept image origins last end kept stop f t text start R K l m (inl e) = absurd (f e)
-set-kept image origins last end kept stop f t text start R K l m (inr e) =
+pub set-kept : (origins : List (List ℕ)) (last end : ℕ) (kept : List (List ℕ)) (stop : ℕ) → (stop ≡ end → ⊥) → SetSays origins last end kept stop (getD kept (stop / 256) [])
+set-kept origins last end kept stop f t image text start R K l m (inl e) = absurd (f e)
+set-kept origins last end kept stop f t image text start R K l m (inr e) =
     let d : 256 * (stop / 256) ≡ stop = omega arith in
     let h : stop < end = go (le-or-lt end stop) in
     subst (λ (n : ℕ). SetAt t text end n (getD kept (stop / 256) [])) d (K (stop / 256) (omega arith) (omega arith))
@@ -65,7 +64,7 @@ module _ (image : List ℕ) (origins : List (List ℕ)) (last : ℕ) (text : Lis
       pub walk-asks : WalkAsks text k stop at start list
       walk-asks = record { stretch = stretch; state = W .state; after = W .above; room = omega (arith, W .long, A .room, S .within) }
 
-      pub writing-more : (here : List ℕ) → SetSays image origins last end kept stop here → (sets : List (List ℕ)) → FillSays image origins last text k stop here sets
+      pub writing-more : (here : List ℕ) → SetSays origins last end kept stop here → (sets : List (List ℕ)) → FillSays image origins text k stop here sets
           → (r : ℕ) (after : List ℕ) → WalkSays image text k stop sets at start list r after → Writing stop r after
       writing-more here H sets F r after Z = record {
         above = omega (arith, W .above, S .past);
@@ -75,7 +74,7 @@ module _ (image : List ℕ) (origins : List (List ℕ)) (last : ℕ) (text : Lis
         rest = Z .rest (end - start) (omega (arith, S .within)) ∙ W .rest;
         holds = λ t R K L.
             Z .walks t end (R .image-of) (S .within) (A .asked .inside)
-            (F .fills t R end (S .within) (A .asked .inside) (H t text start R K (omega (arith, W .above, S .past)) (S .within) (S .where-to))) (W .holds t R K L);
+            (F .fills t last R end (S .within) (A .asked .inside) (H t image text start R K (omega (arith, W .above, S .past)) (S .within) (S .where-to))) (W .holds t R K L);
       }
 
     pub writing-all : {k at : ℕ} {list : List ℕ} → Writing k at list → end ≤ k → WriteSays image origins last text start end kept before list

@@ -7,9 +7,6 @@ use Rattle.proposer.proofs.back.back.Tie as tie
 leave-requires : tie.Need-leave-requires
 leave-requires c κs = search needs
 
-add-into : tie.Need-add-into
-add-into c = search needs
-
 into-requires : tie.Need-into-requires
 into-requires c κs = search needs
 
@@ -17,7 +14,7 @@ returns : tie.Need-returns
 returns c =
     let a = c .before .before .before .before .args in
     let l = c .before .before .leave in
-    back-says (a .image .now) (a .origins .now) (a .last) (a .set) (l .result .words) (c .into .result) (a .byte) (l .ensures .1) (c .into .ensures)
+    back-says (a .image .now) (a .origins .now) (a .set) (l .result .words) (c .into .result) (a .byte) (l .ensures .1) (c .into .ensures)
 
 pub back-spec : {M : Type 1} → statement M
-back-spec = tie.close (tie.spec leave-requires add-into into-requires returns)
+back-spec = tie.close (tie.spec leave-requires into-requires returns)

@@ -7,17 +7,14 @@ use Rattle.proposer.proofs.back.ending.Tie as tie
 with-state-requires : tie.Need-with-state-requires
 with-state-requires c κs = search needs
 
-add-into : tie.Need-add-into
-add-into c = search needs
-
 into-requires : tie.Need-into-requires
 into-requires c κs = search needs
 
 returns : tie.Need-returns
 returns c =
-    let a = c .before .before .before .args in
+    let a = c .before .before .args in
     let w = c .before .with-state in
-    ending-says (a .image .now) (a .origins .now) (a .last) (w .result) (c .into .result) (w .ensures) (c .into .ensures)
+    ending-says (a .origins .now) (a .last) (w .result) (c .into .result) (w .ensures) (c .into .ensures)
 
 pub ending-spec : {M : Type 1} → statement M
-ending-spec = tie.close (tie.spec with-state-requires add-into into-requires returns)
+ending-spec = tie.close (tie.spec with-state-requires into-requires returns)

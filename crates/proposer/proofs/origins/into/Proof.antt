@@ -1,59 +1,52 @@
--- `into`: each turn takes the origins of one state more.
-use mathlib.Core.Path.{sym, subst, _∙_}
-use mathlib.Core.Logic.{⊎-elim}
+-- `into`: each turn takes the states of one word more.
+use mathlib.Core.Path.{_≡_}
 use native.Mathlib.Omega.{arith}
-use Prim.Native.Nat.{_+_, _-_, _≤_}
-use Rattle.proposer.proofs.Laws.Origins.{Gathered, gathered-all, gathered-more, gathered-none, gathered-same}
+use Prim.Native.Nat.{_-_}
+use lib.ListN.{length}
+use Rattle.mask.proofs.Laws.Bits.{fit-row}
+use Rattle.proposer.proofs.Laws.Origins.{Gathered, gathered-all, gathered-more, gathered-none}
 use borrow.Author.Needs.{needs}
 use Rattle.proposer.proofs.origins.into.Statement.{statement}
 use Rattle.proposer.proofs.origins.into.Tie as tie
 
 abbrev Inv-loop : tie.InvT-loop
-Inv-loop origins count row r₀ p₀ r p = (p ≤ count) × Gathered origins row p r
+Inv-loop origins row r₀ i₀ r i = Gathered origins row i r
 
 abbrev μ-loop : tie.MeasureT-loop
-μ-loop origins count row r₀ p₀ r p = count - p
+μ-loop origins row r₀ i₀ r i = 8 - i
 
 loop-holds : tie.Need-loop-holds Inv-loop μ-loop
-loop-holds c = let a = c .args in (omega arith, gathered-none (a .origins .now) (a .row))
+loop-holds c = let a = c .args in gathered-none (a .origins .now) (a .t2)
 
-row-has-bit-requires : tie.Need-row-has-bit-requires Inv-loop μ-loop
-row-has-bit-requires c κs = search needs
+mul-word : tie.Need-mul-word Inv-loop μ-loop
+mul-word c = search needs
 
-mul-from : tie.Need-mul-from Inv-loop μ-loop
-mul-from c = search needs
+array-read-word : tie.Need-array-read-word Inv-loop μ-loop
+array-read-word c = search needs
 
-element-copy-out-from : tie.Need-element-copy-out-from Inv-loop μ-loop
-element-copy-out-from c = search needs
+mul-into-word : tie.Need-mul-into-word Inv-loop μ-loop
+mul-into-word c = search needs
 
-either-requires : tie.Need-either-requires Inv-loop μ-loop
-either-requires c κs = search needs
+into-word-requires : tie.Need-into-word-requires Inv-loop μ-loop
+into-word-requires c κs = omega (arith, c .loop-test .taken)
 
-add-p : tie.Need-add-p Inv-loop μ-loop
-add-p c = search needs
+add-i : tie.Need-add-i Inv-loop μ-loop
+add-i c = search needs
 
 loop-less : tie.Need-loop-less Inv-loop μ-loop
 loop-less c = search needs
 
 loop-again : tie.Need-loop-again Inv-loop μ-loop
 loop-again c =
-    let b = c .before in
-    let l = b .before .before .loop in
-    let a = b .before .before .before .args in
-    let look = sym (b .row-has-bit .ensures) in
-    let G = Gathered (a .origins .now) (a .row) (l .p + 1) in (
-      omega (arith, b .before .loop-test .taken),
-      ⊎-elim
-          (λ w. subst G (sym (w .3)) (gathered-more (a .origins .now) (a .row) (l .inv .1) (look ∙ w .0 .taken) (w .2 .result) (w .2 .ensures)))
-          (λ w. subst G (sym (w .1)) (gathered-same (a .origins .now) (a .row) (l .inv .1) (look ∙ w .0 .left)))
-          (c .if1 .came),
-    )
+    let l = c .before .before in
+    let a = l .before .args in
+    gathered-more (a .origins .now) (a .t2) (fit-row (a .t2) (λ k. search needs)) (l .loop .inv) (c .into-word .result) (c .into-word .ensures)
 
 returns : tie.Need-returns Inv-loop μ-loop
 returns c =
-    let l = c .before .loop in
-    let a = c .before .before .args in
-    gathered-all (a .origins .now) (a .row) (l .inv .1) (omega (arith, c .loop-test .left, l .inv .0))
+    let row = c .before .before .args .t2 in
+    let long : length row ≡ 8 = search needs in
+    gathered-all (c .before .before .args .origins .now) row (fit-row row (λ k. search needs)) long (c .before .loop .inv) (c .loop-test .left)
 
 pub into-spec : {M : Type 1} → statement M
 into-spec =
@@ -62,11 +55,11 @@ into-spec =
     Inv-loop
     μ-loop
     loop-holds
-    row-has-bit-requires
-    mul-from
-    element-copy-out-from
-    either-requires
-    add-p
+    mul-word
+    array-read-word
+    mul-into-word
+    into-word-requires
+    add-i
     loop-less
     loop-again
     returns)

@@ -65,7 +65,7 @@ shared-slice-read-back c =
     omega (arith, l .before .before .before .before .pre .0 .inside, l .loop .inv .within, e .if2 .left)
 
 back-requires : tie.Need-back-requires Inv-loop μ-loop
-back-requires c κs = c .before .before .before .before .before .before .before .before .before .before .pre .0 .state
+back-requires c κs = search needs
 
 mul-set : tie.Need-mul-set Inv-loop μ-loop
 mul-set c =

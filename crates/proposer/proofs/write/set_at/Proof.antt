@@ -9,9 +9,9 @@ ending-requires c κs = search needs
 
 returns : tie.Need-returns
 returns c =
-    let s = c .before .before .before in
+    let s = c .before .before in
     let a = s .args in
-    set-ending (a .image .now) (a .origins .now) (a .last) (a .end) (a .kept .now) (a .stop) (c .ending .result) (c .before .if1 .taken) (c .ending .ensures)
+    set-ending (a .origins .now) (a .last) (a .end) (a .kept .now) (a .stop) (c .ending .result) (c .before .if1 .taken) (c .ending .ensures)
 
 mul-result : tie.Need-mul-result
 mul-result c = search needs
@@ -21,9 +21,9 @@ element-copy-out-result c = search needs
 
 returns-2 : tie.Need-returns-2
 returns-2 c =
-    let s = c .before .before .before in
+    let s = c .before .before in
     let a = s .args in
-    set-kept (a .image .now) (a .origins .now) (a .last) (a .end) (a .kept .now) (a .stop) (c .before .if1 .left)
+    set-kept (a .origins .now) (a .last) (a .end) (a .kept .now) (a .stop) (c .before .if1 .left)
 
 pub set-at-spec : {M : Type 1} → statement M
 set-at-spec =

@@ -31,7 +31,7 @@ fill-requires c κs =
     let l = p .before .before .loop in
     let s = p .before .before .before .before .before .before in
     let a = s .args in
-    (stretch (a .image .now) (a .origins .now) (a .last) (a .text .now) (a .start) (a .end) (a .kept .now) (a .states .now) (s .pre .1) (l .inv .1) (p .stop-after .ensures), s .pre .1 .asked .state, l .inv .0)
+    (stretch (a .image .now) (a .origins .now) (a .last) (a .text .now) (a .start) (a .end) (a .kept .now) (a .states .now) (s .pre .1) (l .inv .1) (p .stop-after .ensures), l .inv .0)
 
 walk-requires : tie.Need-walk-requires Inv-loop μ-loop
 walk-requires c κs =
@@ -55,7 +55,7 @@ loop-again c =
     let a = s .args in (
       f .ensures .long,
       writing-more (a .image .now) (a .origins .now) (a .last) (a .text .now) (a .start) (a .end) (a .kept .now) (a .states .now) (s .pre .1) (l .inv .1) (p .stop-after .ensures)
-          (h .result) (h .ensures) (f .last .1 .1 .1 .1 .1 .1 .1 .0) (f .ensures) (w .result) (w .last .1 .1 .1 .1 .1 .1 .1 .1 .0) (w .ensures),
+          (h .result) (h .ensures) (f .last .1 .1 .1 .1 .1 .1 .0) (f .ensures) (w .result) (w .last .1 .1 .1 .1 .1 .1 .1 .1 .0) (w .ensures),
     )
 
 same-length : tie.Need-same-length Inv-loop μ-loop

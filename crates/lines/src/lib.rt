@@ -7,7 +7,7 @@ ghost use Rattle.lines.specs.Lines.{decimal, endLines, line, refusedText
 ghost use Rattle.lines.specs.Work.{PutAt, Puts};
 
 // Bytes one after another from a place on, and the place after them.
-fn put(text: &mut [u8], at: usize, bytes: &[u8]) -> usize
+pub fn put(text: &mut [u8], at: usize, bytes: &[u8]) -> usize
     ensures { λ r. ⌜ Puts (now (bytes .entry)) (now (text .entry)) at r (now (text .exit)) ⌝ }
 {
     let mut i: usize = 0;

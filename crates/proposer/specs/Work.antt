@@ -12,7 +12,7 @@ use Rattle.model.specs.Models.Words.{value}
 use Rattle.model.specs.Tree.{Tree}
 use Rattle.model.specs.Models.Leads.{Chain, Leads}
 use Rattle.model.specs.Spelling.{between, Follow, Reaches}
-use Rattle.run.specs.Reach.{EnterSays, ReachSays, reachWords}
+use Rattle.edges.specs.Reach.{EnterSays, ReachSays, reachWords}
 use Rattle.run.specs.Says.{StatesAre}
 use Rattle.proposer.specs.declared.search.Found.{Found}
 use Rattle.proposer.specs.declared.search.Found.the-variants as search

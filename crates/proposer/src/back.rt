@@ -3,7 +3,7 @@ use crate::origins::Origins;
 use crate::origins::into;
 use crate::sets::with_state;
 use mask::Mask;
-use run::reach::leave;
+use edges::leave;
 ghost use Prim.Native.Nat.{_<_};
 ghost use Rattle.proposer.specs.Work.{BackSays, EndingSays};
 

@@ -13,7 +13,7 @@ use crate::origins::find_origins;
 use crate::search::Found;
 use crate::search::find_start;
 use crate::write::write;
-use run::reach::work;
+use edges::work;
 use verdict::Verdict;
 use verdict::check;
 use word::shape::states as states_of;

@@ -3,12 +3,12 @@
 use crate::sets::either;
 use crate::sets::with_state;
 use mask::bits::row_has_bit;
-use run::reach::Work;
-use run::reach::reach;
+use edges::Work;
+use edges::reach;
 ghost use mathlib.Core.Path.{_≡_};
 ghost use Prim.Native.Nat.{_+_, _≤_, _<_};
 ghost use lib.ListN.{length};
-ghost use Rattle.run.specs.Reach.{WorkOf};
+ghost use Rattle.edges.specs.Reach.{WorkOf};
 ghost use Rattle.proposer.specs.Work.{IntoSays, IntoWordSays, NoteSays, OriginsSays};
 
 // Row p has the states that reach state p.

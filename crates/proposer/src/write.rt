@@ -6,13 +6,13 @@ use crate::search::Kept;
 use crate::sets::lowest;
 use mask::Mask;
 use mask::logic::and;
-use run::reach::Work;
-use run::reach::enter;
-use run::reach::reach;
+use edges::Work;
+use edges::enter;
+use edges::reach;
 ghost use mathlib.Core.Path.{_≡_};
 ghost use Prim.Native.Nat.{_≤_, _<_};
 ghost use lib.ListN.{length};
-ghost use Rattle.run.specs.Reach.{WorkOf};
+ghost use Rattle.edges.specs.Reach.{WorkOf};
 ghost use Rattle.proposer.specs.Work.{ChooseSays, FillSays, SetSays, StopSays, Stretch, WalkAsks, WalkSays, WriteAsks, WriteSays};
 
 // The sets of the places after lo up to hi, from that of hi.

@@ -5,4 +5,3 @@ pub mod Carry
 pub mod Live
 pub mod Ends
 pub mod Stretch
-pub mod Reach

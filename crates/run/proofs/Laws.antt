@@ -6,5 +6,3 @@ pub mod Passes
 pub mod Table
 pub mod Widths
 pub mod One
-pub mod Back
-pub mod Reached

@@ -2,10 +2,9 @@
 // states and the ends.
 pub mod ends;
 pub mod live;
-pub mod reach;
-mod rows;
-mod shape;
-mod steps;
+pub mod rows;
+pub mod shape;
+pub mod steps;
 pub mod stretch;
-mod table;
+pub mod table;
 mod widths;

@@ -1,11 +1,11 @@
 // The states of a proposal, one after another: each is entered by its byte from what the one before reaches without a letter.
 use mask::bits::has_bit;
-use run::reach::Work;
-use run::reach::enter;
-use run::reach::reach;
+use edges::Work;
+use edges::enter;
+use edges::reach;
 ghost use Prim.Native.Nat.{_+_, _≤_};
 ghost use lib.ListN.{length};
-ghost use Rattle.run.specs.Reach.{WorkOf};
+ghost use Rattle.edges.specs.Reach.{WorkOf};
 ghost use Rattle.spelling.specs.Work.{FollowSays};
 
 pub fn follow(

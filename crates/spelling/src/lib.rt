@@ -4,7 +4,7 @@
 mod follow;
 
 use crate::follow::follow;
-use run::reach::work;
+use edges::work;
 use verdict::Verdict;
 use verdict::check;
 use word::shape::states as states_of;

@@ -15,9 +15,9 @@ use Rattle.model.specs.Spelling.{Reaches}
 use Rattle.model.specs.Tree.{Tree}
 use Rattle.model.proofs.Definitions.Below.{takes-below, takes-rises}
 use Rattle.model.proofs.Laws.Bool.{is-not}
-use Rattle.run.specs.Reach.{LeaveSays, reachWords}
+use Rattle.edges.specs.Reach.{LeaveSays, reachWords}
 use Rattle.run.specs.Says.{StatesAre}
-use Rattle.run.proofs.Image.Reach.{reach-says}
+use Rattle.edges.proofs.Laws.Image.{reach-says}
 use Rattle.spelling.proofs.Laws.Sets.{every, row-is}
 use Rattle.proposer.specs.Work.{BackSays, EndingSays, Has, IntoSays, OriginsSays, Ready, SetOf, WithSays}
 use Rattle.proposer.proofs.Laws.Origins.{none-has}

@@ -17,7 +17,7 @@ use Rattle.model.specs.Models.Words.{Fit, value}
 use Rattle.model.proofs.Laws.Bits.{no-bit}
 use Rattle.model.proofs.Laws.Bool.{le-or-lt}
 use Rattle.model.proofs.Words.RowBits.{row-bit, shifted}
-use Rattle.run.specs.Reach.{reachWords}
+use Rattle.edges.specs.Reach.{reachWords}
 use Rattle.spelling.proofs.Laws.Sets.{bit-below}
 use Rattle.proposer.specs.Work.{EitherSays, Has, IntoSays, IntoWordSays, NoteSays, OriginsSays, WithSays}
 

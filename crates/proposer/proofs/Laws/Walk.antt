@@ -16,7 +16,7 @@ use Rattle.model.specs.Models.Leads.{Chain, Leads}
 use Rattle.model.specs.Spelling.{between}
 use Rattle.model.proofs.Spelling.Leads.{between-more, between-one, chain-more}
 use Rattle.model.proofs.Definitions.Below.{takes-below}
-use Rattle.run.specs.Reach.{EnterSays, ReachSays}
+use Rattle.edges.specs.Reach.{EnterSays, ReachSays}
 use Rattle.spelling.proofs.Laws.Sets.{entered-from}
 use Rattle.proposer.specs.Work.{BackSays, ChooseSays, FillSays, Has, LowestSays, Ready, SetAt, SetOf, SetsOf, Stretch, WalkAsks, Walked, WalkSays}
 

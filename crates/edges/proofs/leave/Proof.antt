@@ -1,12 +1,12 @@
 use mathlib.Core.Path.{_≡_, sym, _∙_}
 use lib.ListN.{length}
 use Rattle.mask.proofs.Laws.Bits.{fit-row}
-use Rattle.run.specs.Reach.{leaveWords}
-use Rattle.run.proofs.Image.Reach.{leave-says}
-use Rattle.run.proofs.Laws.Reached.{leave-none, leave-whole}
+use Rattle.edges.specs.Reach.{leaveWords}
+use Rattle.edges.proofs.Laws.Image.{leave-says}
+use Rattle.edges.proofs.Laws.Reached.{leave-none, leave-whole}
 use borrow.Author.Needs.{needs}
-use Rattle.run.proofs.reach.leave.Statement.{statement}
-use Rattle.run.proofs.reach.leave.Tie as tie
+use Rattle.edges.proofs.leave.Statement.{statement}
+use Rattle.edges.proofs.leave.Tie as tie
 
 has-shape-requires : tie.Need-has-shape-requires
 has-shape-requires c κs = search needs

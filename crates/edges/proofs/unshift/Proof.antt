@@ -6,11 +6,11 @@ use lib.ListN.{List·getD-eq-default, getD, length}
 use mir.Syntax.{w64}
 use mir.Val.{Fits}
 use Rattle.mask.proofs.Laws.Filled.{Filled, filled-all, filled-more, filled-none}
-use Rattle.run.specs.Reach.{unshiftWords}
-use Rattle.run.proofs.Laws.Back.{back-at, back-length, back-word}
+use Rattle.edges.specs.Reach.{unshiftWords}
+use Rattle.edges.proofs.Laws.Back.{back-at, back-length, back-word}
 use borrow.Author.Needs.{needs}
-use Rattle.run.proofs.reach.unshift.Statement.{statement}
-use Rattle.run.proofs.reach.unshift.Tie as tie
+use Rattle.edges.proofs.unshift.Statement.{statement}
+use Rattle.edges.proofs.unshift.Tie as tie
 
 abbrev Inv-loop : tie.InvT-loop
 Inv-loop a r₀ i₀ r i = (i ≤ 7) × Filled 8 (unshiftWords a) r i

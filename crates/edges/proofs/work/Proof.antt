@@ -1,10 +1,10 @@
 -- `work`: where there is a shape, the table of it.
 use mathlib.Core.Path.{sym, subst, _∙_}
 use lib.Dec.{T}
 use Rattle.run.proofs.Laws.Table.{entered-of}
 use borrow.Author.Needs.{needs}
-use Rattle.run.proofs.reach.work.Statement.{statement}
-use Rattle.run.proofs.reach.work.Tie as tie
+use Rattle.edges.proofs.work.Statement.{statement}
+use Rattle.edges.proofs.work.Tie as tie
 
 has-shape-requires : tie.Need-has-shape-requires
 has-shape-requires c κs = search needs

@@ -1,12 +1,12 @@
 use mathlib.Core.Path.{_≡_, sym, _∙_}
 use lib.ListN.{length}
 use Rattle.mask.proofs.Laws.Bits.{fit-row}
-use Rattle.run.specs.Reach.{enterWords}
-use Rattle.run.proofs.Image.Reach.{enter-says}
-use Rattle.run.proofs.Laws.Reached.{enter-none, enter-whole}
+use Rattle.edges.specs.Reach.{enterWords}
+use Rattle.edges.proofs.Laws.Image.{enter-says}
+use Rattle.edges.proofs.Laws.Reached.{enter-none, enter-whole}
 use borrow.Author.Needs.{needs}
-use Rattle.run.proofs.reach.enter.Statement.{statement}
-use Rattle.run.proofs.reach.enter.Tie as tie
+use Rattle.edges.proofs.enter.Statement.{statement}
+use Rattle.edges.proofs.enter.Tie as tie
 
 has-shape-requires : tie.Need-has-shape-requires
 has-shape-requires c κs = search needs

@@ -32,12 +32,12 @@ use Rattle.model.proofs.Words.RowBits.{row-past}
 use Rattle.model.specs.Spelling.{Reaches}
 use Rattle.model.proofs.Spelling.Moves.{entered, entered-is, left, left-is}
 use Rattle.model.proofs.Spelling.Reach.{reach-set, reachSet}
-use Rattle.run.specs.Reach.{enterWords, EnterSays, Inside, leaveWords, LeaveSays, lettersOf, ReachSays, reachWords, repeatsOf, unshiftWords}
+use Rattle.edges.specs.Reach.{enterWords, EnterSays, Inside, leaveWords, LeaveSays, lettersOf, ReachSays, reachWords, repeatsOf, unshiftWords}
 use Rattle.run.specs.Says.{StatesAre}
 use Rattle.run.specs.Work.{masksOf, noWords}
 use Rattle.run.proofs.Image.Carry.{as-arcs, carried, image-shaped}
 use Rattle.run.proofs.Image.Live.{depth-is}
-use Rattle.run.proofs.Laws.Back.{back-bit, back-fit, back-length}
+use Rattle.edges.proofs.Laws.Back.{back-bit, back-fit, back-length}
 
 module _ (ws : List ℕ) (t : Tree) (I : ImageOf ws t) where
   F : Full t

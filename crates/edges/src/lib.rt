@@ -1,10 +1,10 @@
-// What a state reaches without a letter, what a byte enters from a set of states, and what it leaves into one: for spellings, which go forward and back
-// along single edges.
-use crate::rows::row_at;
-use crate::shape::width;
-use crate::steps::pass;
-use crate::table::Table;
-use crate::table::table;
+// Single edges (document 01, "States and edges"): what a state reaches without a letter, what a byte enters from a set of states, and what it leaves into
+// one. Spellings go forward and back along them.
+use run::rows::row_at;
+use run::shape::width;
+use run::steps::pass;
+use run::table::Table;
+use run::table::table;
 use mask::Mask;
 use mask::bits::with_bit;
 use mask::logic::and;
@@ -15,7 +15,7 @@ use word::shape::has_shape;
 ghost use mathlib.Core.Bool.{true};
 ghost use mathlib.Core.Path.{_≡_};
 ghost use Rattle.word.specs.Shape.{shaped};
-ghost use Rattle.run.specs.Reach.{EnterSays, enterWords, LeaveSays, leaveWords, lettersOf, ReachSays, reachWords, repeatsOf, unshiftWords, WorkOf};
+ghost use Rattle.edges.specs.Reach.{EnterSays, enterWords, LeaveSays, leaveWords, lettersOf, ReachSays, reachWords, repeatsOf, unshiftWords, WorkOf};
 
 // The masks of work, as whoever goes along single edges keeps them.
 pub type Work = Table;

@@ -8,7 +8,7 @@ use lib.Bits.{bitOr, or-shifted-r}
 use lib.ListN.{getD, length}
 use Rattle.model.specs.Bits.{bit}
 use Rattle.model.specs.Models.Words.{Fit, value}
-use Rattle.run.specs.Reach.{unshiftWords}
+use Rattle.edges.specs.Reach.{unshiftWords}
 
 -- a word with the lowest bit of the next, as the code makes it
 pub back-word : (x y : ℕ) → x < 2 ^ 64 → bitOr (x / 2 ^ 1) (y * 2 ^ 63 % 2 ^ 64) ≡ x / 2 + y % 2 * 2 ^ 63

@@ -10,9 +10,9 @@ use Rattle.model.specs.Models.Apart.{depthWord}
 use Rattle.model.specs.Models.Run.{moveWords, passWords}
 use Rattle.model.specs.Models.Words.{andWords, orWords, putBit}
 use Rattle.word.specs.Shape.{shaped}
-use Rattle.run.specs.Reach.{enterWords, leaveWords, lettersOf, reachWords, repeatsOf, unshiftWords}
+use Rattle.edges.specs.Reach.{enterWords, leaveWords, lettersOf, reachWords, repeatsOf, unshiftWords}
 use Rattle.run.specs.Work.{masksOf, noWords}
 use Rattle.run.proofs.Laws.Widths.{pass-whole}
 
 -- ---- REACHED
 module _ (ws : List ℕ) (q : ℕ) (r : List ℕ) where

@@ -6,13 +6,13 @@ use lib.ListN.{length}
 use Rattle.mask.proofs.Laws.Bits.{fit-row}
 use Rattle.model.specs.Models.Words.{putBit}
 use Rattle.word.proofs.Laws.Shape.{shape-of}
-use Rattle.run.specs.Reach.{reachWords}
-use Rattle.run.proofs.Image.Reach.{reach-says}
-use Rattle.run.proofs.Laws.Reached.{reach-none, reach-whole}
+use Rattle.edges.specs.Reach.{reachWords}
+use Rattle.edges.proofs.Laws.Image.{reach-says}
+use Rattle.edges.proofs.Laws.Reached.{reach-none, reach-whole}
 use Rattle.run.proofs.Laws.Table.{pass-eight}
 use borrow.Author.Needs.{needs}
-use Rattle.run.proofs.reach.reach.Statement.{statement}
-use Rattle.run.proofs.reach.reach.Tie as tie
+use Rattle.edges.proofs.reach.Statement.{statement}
+use Rattle.edges.proofs.reach.Tie as tie
 
 has-shape-requires : tie.Need-has-shape-requires
 has-shape-requires c κs = search needs

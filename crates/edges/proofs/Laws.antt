@@ -1,0 +1,4 @@
+-- Back: each state back by one. Reached: what is computed, of all eight words. Image: for words that are an image these are document 01's states.
+pub mod Back
+pub mod Reached
+pub mod Image

@@ -25,6 +25,9 @@ static int refused(const char *what, uint64_t result) {
         "the plain writing does not fit",
         "these words are not a mask of the rule",
         "the journal is longer than 4,294,967,295 bytes",
+        0, 0, 0, 0, 0,
+        "no forbidden sequence ends there",
+        "the states do not fit",
     };
     printf("%s refused with %u: %s.\n", what, lavumbishe_number(result), why[lavumbishe_number(result)]);
     return 1;
@@ -44,6 +47,24 @@ static int desk(void) {
     return 0;
 }
 
+// Which events did it: the shortest stretch that ends there, and the state that each of its events enters. Whoever doubts it has it checked.
+static int spelling(uint32_t end) {
+    static uint32_t states[sizeof journal];
+    const uint8_t *text = (const uint8_t *)journal;
+    uint64_t found = lavumbishe_propose_spelling(image, image_len, text, strlen(journal), end, states, sizeof journal);
+    if (lavumbishe_number(found) != LAVUMBISHE_DONE)
+        return refused("Propose", found);
+    size_t count = lavumbishe_count(found), start = end - count;
+    printf("  it was");
+    for (size_t i = 0; i < count; i++)
+        printf(" %c to state %u", journal[start + i], (unsigned)states[i]);
+    uint64_t checked = lavumbishe_check_spelling(image, image_len, text, strlen(journal), start, end, states, count);
+    if (lavumbishe_number(checked) != LAVUMBISHE_DONE)
+        return refused("Check", checked);
+    printf("; checked: %s\n", lavumbishe_count(checked) ? "yes" : "no");
+    return 0;
+}
+
 static int panel(void) {
     static uint32_t ends[8];
     const size_t room = sizeof ends / sizeof ends[0];
@@ -52,8 +73,11 @@ static int panel(void) {
         return refused("Match", found);
     size_t total = lavumbishe_count(found);
     printf("Times that the valve was opened again with no flow between, in the journal %s: %u\n", journal, (unsigned)total);
-    for (size_t i = 0; i < total && i < room; i++)
+    for (size_t i = 0; i < total && i < room; i++) {
         printf("  after %u events: %.*s\n", (unsigned)ends[i], (int)ends[i], journal);
+        if (spelling(ends[i]))
+            return 1;
+    }
     return 0;
 }
 

@@ -130,7 +130,8 @@ static inline size_t lavumbishe_mask_len(const uint64_t *image, size_t image_len
  * start don't fit it gives 17; text_len of them always do. Which states are chosen, where there is a choice, may change with the library.
  *
  * Both check the image in the same call, as match does; beyond what the image costs the work grows with the stretch from start to end, and not with
- * what lies before or after it. A place that is no end can cost propose all of the text before it. */
+ * what lies before or after it. Propose leaves a place that is no end as soon as no state leads there, mostly after a few bytes; where the rule can go on
+ * for ever (`A.*B`, and no A comes) that is the whole text before it. */
 uint64_t lavumbishe_check_spelling(const uint64_t *image, size_t image_len, const uint8_t *text, size_t text_len, uint64_t start, uint64_t end,
                                    const uint32_t *states, size_t states_len);
 

@@ -1,5 +1,4 @@
 // A record read: start, end, and the state of each line. What else stands in a line is compared when the record is written anew, and not here.
-ghost use mathlib.Core.Path.{_≡_};
 ghost use Prim.Native.Nat.{_≤_, _<_};
 ghost use lib.ListN.{length};
 ghost use Rattle.explain.specs.Readings.{Fits, Small};

@@ -3,16 +3,16 @@
 -- (`check-one`, `propose-one`), and by `spelled-end`.
 use mathlib.Core.Path.{_≡_, refl, sym, ap, _∙_, subst}
 use mathlib.Core.Logic.{_↔_}
-use mathlib.Core.Bool.{Bool, true, false, cond}
-use mathlib.Core.List.{List, _++_}
-use Prim.Native.Nat.{ℕ, _-_, _≤_, _<_}
+use mathlib.Core.Bool.{Bool, true, cond}
+use mathlib.Core.List.{List}
+use Prim.Native.Nat.{ℕ, _-_, _≤_}
 use native.Mathlib.Omega.{arith}
 use lib.Dec.{T, eqb}
 use lib.ListN.{drop, length, take}
 use lib.Seq.{take-at}
 use Rattle.model.specs.Answers.{ImageOf}
 use Rattle.model.specs.Ends.{End}
-use Rattle.model.specs.Spelling.{CheckSays, no-end, no-room, not-an-image, Proposal, proposed, ProposeSays, refused, right, Spelled, text-too-long, wrong}
+use Rattle.model.specs.Spelling.{CheckSays, no-end, no-room, not-an-image, Proposal, proposed, ProposeSays, right, Spelled, text-too-long, wrong}
 use Rattle.model.specs.Tree.{Tree}
 use Rattle.model.proofs.Image.Decided.{one-image}
 use Rattle.model.proofs.Spelling.Answers.{Alike, check-one, propose-one}

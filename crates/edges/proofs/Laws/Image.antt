@@ -2,29 +2,27 @@
 use mathlib.Core.Path.{_≡_, refl, sym, ap, ap₂, _∙_, subst}
 use mathlib.Core.Logic.{_⊎_, inl, inr, _↔_}
 use mathlib.Core.Bool.{Bool, true, false, _&&_, _||_, cond, or-false}
-use mathlib.Core.List.{List, []}
-use Prim.Native.Nat.{ℕ, suc, _*_, _≤_, _<_}
+use mathlib.Core.List.{List}
+use Prim.Native.Nat.{ℕ, suc, _≤_, _<_}
 use native.Mathlib.Omega.{arith}
-use lib.Dec.{T, eqb, eqb→eq, eqb-refl, ltb, lt→ltb}
-use lib.ListN.{getD, length}
+use lib.Dec.{T, eqb, eqb→eq}
+use lib.ListN.{length}
 use Rattle.model.specs.Answers.{ImageOf}
 use Rattle.model.specs.Bits.{bit}
 use Rattle.model.specs.Edges.{depth, states}
-use Rattle.model.specs.Live.{Free, itself, onward, Reached, Takes}
-use Rattle.model.specs.Models.Apart.{depthWord, stateWord}
+use Rattle.model.specs.Live.{Takes}
+use Rattle.model.specs.Models.Apart.{depthWord}
 use Rattle.model.specs.Models.Run.{moveWords, passWords}
 use Rattle.model.specs.Models.Words.{andWords, Fit, orWords, putBit, value}
 use Rattle.model.specs.Tree.{Tree}
-use Rattle.model.proofs.Definitions.Live.{passed-is}
 use Rattle.model.proofs.Ends.Run.{letterSet, loopSet}
 use Rattle.model.proofs.Image.Decided.{rule-full}
 use Rattle.model.proofs.Language.Arcs.{arcs}
-use Rattle.model.proofs.Laws.Bool.{is-false, is-true, le-or-lt}
+use Rattle.model.proofs.Laws.Bool.{le-or-lt}
 use Rattle.model.proofs.Words.Full.{Full}
 use Rattle.model.proofs.Words.Holds.{Holds, holds-as, Near}
 use Rattle.model.proofs.Words.Operations.{near-and, near-or, next, none-and-l}
 use Rattle.model.proofs.Words.PassHolds.{move-holds}
-use Rattle.model.proofs.Words.Passes.{passed}
 use Rattle.model.proofs.Words.Put.{put-bit, put-fit, put-length}
 use Rattle.model.proofs.Words.Run.{passes-words}
 use Rattle.mask.proofs.Laws.Bits.{none-bit, none-fit}
@@ -35,7 +33,7 @@ use Rattle.model.proofs.Spelling.Reach.{reach-set, reachSet}
 use Rattle.edges.specs.Reach.{enterWords, EnterSays, Inside, leaveWords, LeaveSays, lettersOf, ReachSays, reachWords, repeatsOf, unshiftWords}
 use Rattle.run.specs.Says.{StatesAre}
 use Rattle.run.specs.Work.{masksOf, noWords}
-use Rattle.run.proofs.Image.Carry.{as-arcs, carried, image-shaped}
+use Rattle.run.proofs.Image.Carry.{carried, image-shaped}
 use Rattle.run.proofs.Image.Live.{depth-is}
 use Rattle.edges.proofs.Laws.Back.{back-bit, back-fit, back-length}
 

@@ -1,5 +1,4 @@
 use mathlib.Core.Path.{_≡_, sym, _∙_}
-use lib.ListN.{length}
 use Rattle.mask.proofs.Laws.Bits.{fit-row}
 use Rattle.edges.specs.Reach.{enterWords}
 use Rattle.edges.proofs.Laws.Image.{enter-says}

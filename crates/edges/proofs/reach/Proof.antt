@@ -1,6 +1,5 @@
 -- `reach`: a pass from the state alone, with the masks of work lent.
 use mathlib.Core.Path.{_≡_, sym, ap, _∙_}
-use Prim.Native.Nat.{ℕ}
 use native.Mathlib.Omega.{arith}
 use lib.ListN.{length}
 use Rattle.mask.proofs.Laws.Bits.{fit-row}

@@ -2,7 +2,6 @@
 use mathlib.Core.Path.{sym}
 use Prim.Native.Nat.{ℕ}
 use lib.ListN.{length-replicate}
-use borrow.Author.Needs.{needs}
 use Rattle.explain.proofs.hear.Statement.{statement}
 use Rattle.explain.proofs.hear.Tie as tie
 

@@ -4,7 +4,6 @@ use Prim.Native.Nat.{ℕ}
 use lib.ListN.{length-replicate}
 use Rattle.lines.proofs.Laws.Room.{first}
 use Rattle.explain.proofs.Laws.{room-enough}
-use borrow.Author.Needs.{needs}
 use Rattle.explain.proofs.reply.Statement.{statement}
 use Rattle.explain.proofs.reply.Tie as tie
 

@@ -5,7 +5,7 @@ use mathlib.Core.List.{List, [], _∷_, _++_}
 use Prim.Native.Nat.{ℕ, _<_}
 use native.Mathlib.Omega.{arith}
 use Rattle.model.specs.Edges.{states}
-use Rattle.model.specs.Live.{After, Before, Free, itself, LiveFrom, onward, Reached, Takes}
+use Rattle.model.specs.Live.{After, Before, LiveFrom, Takes}
 use Rattle.model.specs.Tree.{Tree}
 use Rattle.model.proofs.Definitions.Below.{reached-below, takes-below}
 use Rattle.model.proofs.Definitions.Live.{live-map}

@@ -4,7 +4,7 @@ use mathlib.Core.Logic.{_⊎_, inl, inr}
 use mathlib.Core.List.{List, _++_}
 use Prim.Native.Nat.{ℕ, _-_, _≤_, _<_}
 use native.Mathlib.Omega.{arith}
-use lib.ListN.{drop, length, take, take-append-drop}
+use lib.ListN.{length, take, take-append-drop}
 use lib.Seq.{length-take-le}
 use Rattle.model.specs.Answers.{ImageOf}
 use Rattle.model.specs.Edges.{accepting}

@@ -1,16 +1,13 @@
 -- ONE STRETCH: its sets, and one state more.
-use mathlib.Core.Path.{_≡_, refl, sym, ap, ap₂, _∙_, subst}
+use mathlib.Core.Path.{_≡_, refl, sym, ap, _∙_, subst}
 use mathlib.Core.Logic.{_⊎_, inl, inr, _↔_}
-use mathlib.Core.Bool.{Bool, _&&_}
 use mathlib.Core.List.{List, [], _∷_, _++_}
-use Prim.Native.Nat.{ℕ, suc, _+_, _-_, _*_, _/_, _%_, _≤_, _<_}
+use Prim.Native.Nat.{ℕ, suc, _+_, _-_, _≤_, _<_}
 use native.Mathlib.Nat.{eq-or-lt-of-le, le-refl}
 use native.Mathlib.Omega.{arith}
-use lib.Dec.{T}
 use lib.ListN.{drop, getD, length, length-set, set, take}
-use lib.Seq.{drop-set-lt, getD-set-other, getD-set-same, take-all, take-suc-set}
+use lib.Seq.{drop-set-lt, getD-set-other, getD-set-same, take-suc-set}
 use Rattle.model.specs.Answers.{ImageOf}
-use Rattle.model.specs.Edges.{states}
 use Rattle.model.specs.Tree.{Tree}
 use Rattle.model.specs.Models.Leads.{Chain, Leads}
 use Rattle.model.specs.Spelling.{between}

@@ -1,16 +1,15 @@
 -- STRETCH AFTER STRETCH: where one stops, the set of that place, and the states written so far.
-use mathlib.Core.Path.{_≡_, refl, sym, ap, _∙_, subst}
+use mathlib.Core.Path.{_≡_, refl, sym, _∙_, subst}
 use mathlib.Core.Logic.{_⊎_, inl, inr}
 use mathlib.Core.List.{List, []}
-use Prim.Native.Nat.{ℕ, _+_, _-_, _*_, _/_, _%_, _≤_, _<_}
+use Prim.Native.Nat.{ℕ, _-_, _*_, _/_, _≤_, _<_}
 use native.Mathlib.Nat.{le-refl}
 use native.Mathlib.Omega.{arith}
 use lib.ListN.{drop, getD, length, take}
-use Rattle.model.specs.Edges.{accepting}
 use Rattle.model.specs.Tree.{Tree}
 use Rattle.model.proofs.Laws.Bool.{le-or-lt}
 use Rattle.model.specs.Models.Leads.{Chain, Leads}
-use Rattle.model.specs.Spelling.{between, Follow}
+use Rattle.model.specs.Spelling.{between}
 use Rattle.model.proofs.Spelling.Leads.{between-none, chain-ends}
 use Rattle.proposer.specs.Work.{EndingSays, FillSays, KeptFrom, Ready, SetAt, SetOf, SetSays, StopSays, Stretch, WalkAsks, Walked, WalkSays, WriteAsks, WriteSays}
 

@@ -4,7 +4,6 @@ use mathlib.Core.Bool.{Bool, false}
 use mathlib.Core.List.{List}
 use Prim.Native.Nat.{ℕ, _-_, _≤_, _<_}
 use native.Mathlib.Omega.{arith}
-use lib.Dec.{T}
 use lib.ListN.{drop, length, take}
 use Rattle.model.specs.Answers.{ImageOf}
 use Rattle.model.specs.Edges.{states}

@@ -2,7 +2,6 @@
 use native.Mathlib.Omega.{arith}
 use Prim.Native.Nat.{_-_, _≤_}
 use Rattle.proposer.proofs.Laws.Origins.{Found, found-all, found-more, found-none}
-use borrow.Author.Needs.{needs}
 use Rattle.proposer.proofs.origins.find_origins.Statement.{statement}
 use Rattle.proposer.proofs.origins.find_origins.Tie as tie
 

@@ -1,5 +1,5 @@
 -- `lowest_bit`: no bit below i is set.
-use mathlib.Core.Path.{_≡_, subst, sym, ap, _∙_}
+use mathlib.Core.Path.{subst, sym}
 use native.Mathlib.Omega.{arith}
 use Prim.Native.Nat.{ℕ, _-_, _<_}
 use lib.Dec.{T, eqb, eqb→eq}

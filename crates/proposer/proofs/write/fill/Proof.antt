@@ -1,5 +1,4 @@
 -- `fill`: from the last place down, each turn has one set more.
-use native.Mathlib.Omega.{arith}
 use Rattle.proposer.proofs.Laws.Walk.{Filling, filling-all, filling-more, filling-none}
 use borrow.Author.Needs.{needs}
 use Rattle.proposer.proofs.write.fill.Statement.{statement}

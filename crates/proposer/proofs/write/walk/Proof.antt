@@ -1,5 +1,4 @@
 -- `walk`: each turn writes one state more.
-use native.Mathlib.Omega.{arith}
 use Prim.Native.Nat.{_-_}
 use Rattle.proposer.proofs.Laws.Walk.{Walking, walking-all, walking-more, walking-none}
 use borrow.Author.Needs.{needs}

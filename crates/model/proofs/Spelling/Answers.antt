@@ -6,16 +6,16 @@ use mathlib.Core.Bool.{Bool, true, false, cond}
 use mathlib.Core.List.{List}
 use mathlib.Core.Option.{Option, none, some}
 use Prim.Native.Nat.{ℕ, _-_, _≤_, _<_}
-use lib.Dec.{T, leb}
+use lib.Dec.{T, leb, leb→le, nleb→lt}
 use lib.ListN.{drop, length}
 use lib.Seq.{drop-at}
 use Rattle.model.specs.Answers.{ImageOf, NoImage}
 use Rattle.model.specs.Models.Spelling.{isSpelled, latest}
 use Rattle.model.specs.Models.Verdict.{verdict}
-use Rattle.model.specs.Spelling.{CheckSays, Latest, no-end, no-room, not-an-image, proposed, Proposal, ProposeSays, refused, right, text-too-long, wrong}
+use Rattle.model.specs.Spelling.{CheckSays, Latest, no-end, no-room, not-an-image, proposed, Proposal, ProposeSays, refused, right, Spelled, text-too-long, wrong}
 use Rattle.model.specs.Tree.{Tree}
 use Rattle.model.proofs.Image.Decided.{verdict-none, verdict-some}
-use Rattle.model.proofs.Laws.Bool.{is-not, is-true, le-false, le-or-lt, le-true}
+use Rattle.model.proofs.Laws.Bool.{cond-cases, is-not, is-true, le-false, le-or-lt, le-true}
 use Rattle.model.proofs.Spelling.Decided.{Found, latest-is, latest-none, latest-some, spelled-is}
 use Rattle.model.proofs.Spelling.Ends.{spelled-end}
 
@@ -40,35 +40,33 @@ module _ (words text : List ℕ) (start end : ℕ) (states : List ℕ) where
   checks-not : NoImage words → answer ≡ (6, false)
   checks-not n = ap (λ (o : Option Tree). checkOf o text start end states) (verdict-none words .1 n)
 
-  long : (t : Tree) → ImageOf words t → 65535 < length text → answer ≡ (7, false)
-  long t I l = checks t I ∙ rw (le-false (length text) 65535 l)
+  gets-yes : (t : Tree) → Spelled t text start end states → isSpelled t text start end states ≡ true
+  gets-yes t s = is-true (isSpelled t text start end states) (spelled-is t text start end states .1 s)
 
-  short : (t : Tree) → ImageOf words t → length text ≤ 65535 → {b : Bool} → isSpelled t text start end states ≡ b → answer ≡ (0, b)
-  short t I l e = checks t I ∙ rw (le-true (length text) 65535 l, e)
+  gets-no : (t : Tree) → (Spelled t text start end states → ⊥) → isSpelled t text start end states ≡ false
+  gets-no t f = is-not (isSpelled t text start end states) (λ h. f (spelled-is t text start end states .0 h))
 
   pub check-is : (n : ℕ) (a : Bool) → Says n a → _≡_ {A = ℕ × Bool} (n, a) answer
   check-is n a (not-an-image f e d) = (λ k. (e k, d k)) ∙ sym (checks-not f)
-  check-is n a (text-too-long t I l e d) = (λ k. (e k, d k)) ∙ sym (long t I l)
-  check-is n a (right t I l s e d) = (λ k. (e k, d k)) ∙ sym (short t I l (is-true _ (spelled-is t text start end states .1 s)))
-  check-is n a (wrong t I l f e d) = (λ k. (e k, d k)) ∙ sym (short t I l (is-not _ (λ h. f (spelled-is t text start end states .0 h))))
+  check-is n a (text-too-long t I l e d) = (λ k. (e k, d k)) ∙ sym (checks t I ∙ rw (le-false (length text) 65535 l))
+  check-is n a (right t I l s e d) = (λ k. (e k, d k)) ∙ sym (checks t I ∙ rw (le-true (length text) 65535 l, gets-yes t s))
+  check-is n a (wrong t I l f e d) = (λ k. (e k, d k)) ∙ sym (checks t I ∙ rw (le-true (length text) 65535 l, gets-no t f))
 
   -- THE TABLE SAYS SOMETHING FOR EVERY PROPOSAL
   pub check-total : Says (answer .0) (answer .1)
   check-total = go (verdict words) refl
     where
-      tested : (t : Tree) → ImageOf words t → length text ≤ 65535 → (b : Bool) → isSpelled t text start end states ≡ b → Says (answer .0) (answer .1)
-      tested t I l true e =
-          let d = short t I l e in right t I l (spelled-is t text start end states .0 (subst T (sym e) tt)) (ap (λ x. x .0) d) (ap (λ x. x .1) d)
-      tested t I l false e =
-          let d = short t I l e in wrong t I l (λ s. subst T e (spelled-is t text start end states .1 s)) (ap (λ x. x .0) d) (ap (λ x. x .1) d)
+      tested : (t : Tree) → ImageOf words t → length text ≤ 65535 → (b : Bool) → isSpelled t text start end states ≡ b → Says 0 b
+      tested t I l true e = right t I l (spelled-is t text start end states .0 (subst T (sym e) tt)) refl refl
+      tested t I l false e = wrong t I l (λ s. subst T e (spelled-is t text start end states .1 s)) refl refl
 
-      within : (t : Tree) → ImageOf words t → (length text ≤ 65535) ⊎ (65535 < length text) → Says (answer .0) (answer .1)
-      within t I (inl l) = tested t I l (isSpelled t text start end states) refl
-      within t I (inr l) = let d = long t I l in text-too-long t I l (ap (λ x. x .0) d) (ap (λ x. x .1) d)
-
-      go : (o : Option Tree) → verdict words ≡ o → Says (answer .0) (answer .1)
-      go none e = let n = verdict-none words .0 e in let d = checks-not n in not-an-image n (ap (λ x. x .0) d) (ap (λ x. x .1) d)
-      go (some t) e = within t (verdict-some words t .0 e) (le-or-lt (length text) 65535)
+      go : (o : Option Tree) → verdict words ≡ o → Says (checkOf o text start end states .0) (checkOf o text start end states .1)
+      go none e = not-an-image (verdict-none words .0 e) refl refl
+      go (some t) e =
+          let I = verdict-some words t .0 e in
+          cond-cases (λ (x : ℕ × Bool). Says (x .0) (x .1)) (leb (length text) 65535)
+          (λ l. tested t I (leb→le (length text) 65535 l) (isSpelled t text start end states) refl)
+          (λ l. text-too-long t I (nleb→lt (length text) 65535 l) refl refl)
 
   -- TWO ANSWERS OF THE CHECKER TO ONE PROPOSAL ARE EQUAL
   pub check-one : (n m : ℕ) (a b : Bool) → Says n a → Says m b → (n ≡ m) × (a ≡ b)
@@ -94,25 +92,28 @@ module _ (words text : List ℕ) (end : ℕ) (before : List ℕ) where
   abbrev Proposes : Proposal → Type 0
   Proposes = ProposeSays words text end before
 
-  proposes : (t : Tree) → ImageOf words t → proposeAnswer words text end before ≡ proposeOf (some t) text end before
+  abbrev answered : Proposal
+  answered = proposeAnswer words text end before
+
+  proposes : (t : Tree) → ImageOf words t → answered ≡ proposeOf (some t) text end before
   proposes t I = ap (λ (o : Option Tree). proposeOf o text end before) (verdict-some words t .1 I)
 
-  proposes-not : NoImage words → proposeAnswer words text end before ≡ refused 6 before
+  proposes-not : NoImage words → answered ≡ refused 6 before
   proposes-not n = ap (λ (o : Option Tree). proposeOf o text end before) (verdict-none words .1 n)
 
-  at : (t : Tree) → ImageOf words t → length text ≤ 65535 → {o : Option ℕ} → latest t text end ≡ o → proposeAnswer words text end before ≡ proposeAt o end before
-  at t I l e = proposes t I ∙ rw (le-true (length text) 65535 l, e)
+  from : (t : Tree) → ImageOf words t → length text ≤ 65535 → {o : Option ℕ} → latest t text end ≡ o → answered ≡ proposeAt o end before
+  from t I l e = proposes t I ∙ rw (le-true (length text) 65535 l, e)
 
-  pub propose-is : (a : Proposal) → Proposes a → settled a ≡ proposeAnswer words text end before
+  pub propose-is : (a : Proposal) → Proposes a → settled a ≡ answered
   propose-is a (not-an-image n e) = ap settled e ∙ sym (proposes-not n)
   propose-is a (text-too-long t I l e) = ap settled e ∙ sym (proposes t I ∙ rw (le-false (length text) 65535 l))
   propose-is a (no-end t I l f e) =
-      ap settled e ∙ sym (at t I l (latest-none t text end (λ i rs s. f (spelled-end t (I .is-rule) text end .0 (i, rs, s)))))
-  propose-is a (no-room t i I l L r e) = ap settled e ∙ sym (at t I l (latest-some t text end i L) ∙ rw (le-false (end - i) (length before) r))
+      ap settled e ∙ sym (from t I l (latest-none t text end (λ i rs s. f (spelled-end t (I .is-rule) text end .0 (i, rs, s)))))
+  propose-is a (no-room t i I l L r e) = ap settled e ∙ sym (from t I l (latest-some t text end i L) ∙ rw (le-false (end - i) (length before) r))
   propose-is a (proposed t i rs I l L r s e) =
       ap settled e
       ∙ ap (λ (x : List ℕ). record { number = 0; start = i; count = end - i; lent = x }) (drop-at rs (drop (end - i) before) (end - i) (s .each))
-      ∙ sym (at t I l (latest-some t text end i L) ∙ rw (le-true (end - i) (length before) r))
+      ∙ sym (from t I l (latest-some t text end i L) ∙ rw (le-true (end - i) (length before) r))
 
   -- THE TABLE SAYS SOMETHING FOR EVERY PLACE
   pub propose-total : (a : Proposal) × Proposes a

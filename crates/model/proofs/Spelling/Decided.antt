@@ -39,25 +39,28 @@ module _ (t : Tree) where
     λ (p, r, (e, k, i, h), m). any-in (λ e. kind (e .kind) && f (e .from) (e .to)) (edges t) (edge e k p r) i (and-both (kind e) (f p r) h m),
   )
 
-  -- ---- without a letter
+  -- ---- without a letter: the last of the edges goes from p to x
+  abbrev onto : (n q x p r : ℕ) → Bool
+  onto n q x p r = eqb r x && reachesIn n t q p
+
   reaches-out : (n q x : ℕ) → T (reachesIn n t q x) → Reaches t q x
   reaches-out zero q x h = itself (eqb→eq x q h)
-  reaches-out (suc n) q x h = elim (or-split (eqb x q) (along t letterless (λ p r. eqb r x && reachesIn n t q p)) h) [
+  reaches-out (suc n) q x h = elim (or-split (eqb x q) (along t letterless (onto n q x)) h) [
     | inl e ↦ itself (eqb→eq x q e)
     | inr k ↦
-        let (p, r, by, m) = along-is letterless (λ p r. eqb r x && reachesIn n t q p) .0 k in
+        let (p, r, by, m) = along-is letterless (onto n q x) .0 k in
         let c = and-split (eqb r x) (reachesIn n t q p) m in
-        onward (reaches-out n q p (c .1)) (subst (λ (y : ℕ). By letterless p y) (eqb→eq r x (c .0)) by)
+        onward (reaches-out n q p (c .1)) (subst (By letterless p) (eqb→eq r x (c .0)) by)
   ]
 
   reaches-in : (n q x : ℕ) → x ≤ n → Reaches t q x → T (reachesIn n t q x)
   reaches-in zero q x l (itself e) = eq-test e
-  reaches-in (suc n) q x l (itself e) = or-left (eqb x q) (along t letterless (λ p r. eqb r x && reachesIn n t q p)) (eq-test e)
+  reaches-in (suc n) q x l (itself e) = or-left (eqb x q) (along t letterless (onto n q x)) (eq-test e)
   reaches-in zero q x l (onward {q = p} h e) = absurd (omega (arith, free-rises t p x e))
   reaches-in (suc n) q x l (onward {q = p} h e) =
-      or-right (eqb x q) (along t letterless (λ p r. eqb r x && reachesIn n t q p))
-      (along-is letterless (λ p r. eqb r x && reachesIn n t q p) .1
-      (p, x, e, and-both (eqb x x) (reachesIn n t q p) (eqb-refl x) (reaches-in n q p (omega (arith, free-rises t p x e)) h)))
+      let k = reaches-in n q p (omega (arith, free-rises t p x e)) h in
+      or-right (eqb x q) (along t letterless (onto n q x))
+      (along-is letterless (onto n q x) .1 (p, x, e, and-both (eqb x x) (reachesIn n t q p) (eqb-refl x) k))
 
   reaches-is : (q x : ℕ) → T (reaches t q x) ↔ Reaches t q x
   reaches-is q x = (reaches-out x q x, reaches-in x q x (le-refl x))

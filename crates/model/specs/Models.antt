@@ -7,3 +7,4 @@ pub mod LayOut
 pub mod Apart
 pub mod Verdict
 pub mod Leads
+pub mod Spelling

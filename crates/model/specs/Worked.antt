@@ -1,4 +1,4 @@
--- THE WORKED EXAMPLES OF DOCUMENT 01 ("Measured examples"), as rows of a rule and what is claimed of it.
+-- THE WORKED EXAMPLES OF DOCUMENT 01 ("Measured examples"), and some of document 02's spellings (Wish 9), as rows of a rule and what is claimed of it.
 -- Nothing here is believed: proofs/Examples.antt proves every row.
 use mathlib.Core.Path.{_≡_}
 use mathlib.Core.Bool.{Bool}
@@ -15,6 +15,7 @@ use Rattle.model.specs.Edges.{states}
 use Rattle.model.specs.Ends.{EndsAre}
 use Rattle.model.specs.Image.{gatherBlock, gatherSource, gatherTarget, image, propagateBlock, propagateSource, propagateTarget, scatterBlock, scatterSource, scatterTarget}
 use Rattle.model.specs.Answers.{BuildSays, refused}
+use Rattle.model.specs.Spelling.{Latest, Spelled}
 
 -- what a row may claim of the tree of an accepted rule; masks as numbers: block, source, target at depth k
 pub data Claim : Type 0 where
@@ -23,6 +24,9 @@ pub data Claim : Type 0 where
   scatterAt gatherAt propagateAt : (k block source target : ℕ) → Claim
   hasEnds : (text : String) (places : List ℕ) → Claim
   hasImage : (words : List ℕ) → Claim
+  isSpelledBy isNotSpelledBy : (text : String) (start end : ℕ) (states : List ℕ) → Claim
+  hasLatest : (text : String) (end start : ℕ) → Claim
+  hasNoStart : (text : String) (end : ℕ) → Claim
 
 abbrev pub Masks : Tree → (block source target : ℕ → ℕ → Bool) → (k b s g : ℕ) → Type 0
 Masks t block source target k b s g = (mask (states t) (block k) ≡ b) × (mask (states t) (source k) ≡ s) × (mask (states t) (target k) ≡ g)
@@ -35,6 +39,10 @@ Holds t (gatherAt k b s g) = Masks t (gatherBlock t) (gatherSource t) (gatherTar
 Holds t (propagateAt k b s g) = Masks t (propagateBlock t) (propagateSource t) (propagateTarget t) k b s g
 Holds t (hasEnds text places) = EndsAre t (bytes text) places
 Holds t (hasImage words) = image t ≡ words
+Holds t (isSpelledBy text start end list) = Spelled t (bytes text) start end list
+Holds t (isNotSpelledBy text start end list) = Spelled t (bytes text) start end list → ⊥
+Holds t (hasLatest text end start) = Latest t (bytes text) start end
+Holds t (hasNoStart text end) = (start : ℕ) (list : List ℕ) → Spelled t (bytes text) start end list → ⊥
 
 infix 90 _⊨_
 pub data Row : Type 0 where
@@ -94,4 +102,38 @@ further =
     ∷ refusedWith2 "[.]"
     ∷ refusedWith2 "\\X41"
     ∷ refusedWith2 "a?*"
+    ∷ []
+
+-- spellings: a text, a start, an end and the states that the bytes between them enter, right and wrong; and for an end the latest start
+abbrev pub spellings : List Row
+spellings =
+    -- the first step is the edge into 1 or the loop there, which 0 reaches without a letter
+    "a*" ⊨ isSpelledBy "aa" 0 2 (1 ∷ 1 ∷ [])
+    -- a rule that can be empty: no bytes and no states
+    ∷ "a*" ⊨ isSpelledBy "aa" 1 1 []
+    ∷ "a*" ⊨ hasLatest "aa" 2 2
+    -- nothing enters state 0, and there is no state 2
+    ∷ "a*" ⊨ isNotSpelledBy "aa" 0 2 (0 ∷ 1 ∷ [])
+    ∷ "a*" ⊨ isNotSpelledBy "aa" 0 2 (1 ∷ 2 ∷ [])
+    -- a state too few, one too many, a start past the end, an end past the text
+    ∷ "a*" ⊨ isNotSpelledBy "aa" 0 2 (1 ∷ [])
+    ∷ "a*" ⊨ isNotSpelledBy "aa" 1 2 (1 ∷ 1 ∷ [])
+    ∷ "a*" ⊨ isNotSpelledBy "aa" 2 1 []
+    ∷ "a*" ⊨ isNotSpelledBy "aa" 1 3 (1 ∷ 1 ∷ [])
+    -- several starts for one end, the latest of them 2
+    ∷ "a+b" ⊨ isSpelledBy "aaab" 0 4 (1 ∷ 1 ∷ 1 ∷ 2 ∷ [])
+    ∷ "a+b" ⊨ isSpelledBy "aaab" 2 4 (1 ∷ 2 ∷ [])
+    ∷ "a+b" ⊨ hasLatest "aaab" 4 2
+    -- the first state is off by one, or the last; the first step leaves a state that 0 does not reach; the last state does not reach the accepting one
+    ∷ "a+b" ⊨ isNotSpelledBy "aaab" 2 4 (2 ∷ 2 ∷ [])
+    ∷ "a+b" ⊨ isNotSpelledBy "aaab" 2 4 (1 ∷ 1 ∷ [])
+    ∷ "a+b" ⊨ isNotSpelledBy "aaab" 3 4 (2 ∷ [])
+    ∷ "a+b" ⊨ isNotSpelledBy "aaab" 0 3 (1 ∷ 1 ∷ 1 ∷ [])
+    -- no spelling stops at a place that is no end, or at one past the text
+    ∷ "a+b" ⊨ hasNoStart "aaab" 3
+    ∷ "a+b" ⊨ hasNoStart "aaab" 5
+    -- through an alternative of each union; over a union that can be empty; a whole text
+    ∷ "A(BA|CD)(CD|AB)B" ⊨ isSpelledBy "ABACDB" 0 6 (1 ∷ 3 ∷ 4 ∷ 10 ∷ 11 ∷ 16 ∷ [])
+    ∷ "A(AB|B?)(B?.*|AB)C" ⊨ isSpelledBy "AC" 0 2 (1 ∷ 15 ∷ [])
+    ∷ "[AB]+B.{1,3}[BC]?.*C" ⊨ hasLatest "ABCBBC" 6 0
     ∷ []

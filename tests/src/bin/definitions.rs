@@ -1,6 +1,8 @@
-//! Writes a repository with a crate of theorems: for each outside vector that the checker can compute, and for some calls of a watch, that the one
-//! answer which the table gives is the vector's. `rt check` then computes them over a copy of the crate `model`. Usage: definitions VECTORS OUT
+//! Writes a repository with a crate of theorems: for each outside vector that the checker can compute, and for some calls of a watch and some of
+//! spellings, that the one answer which the table gives is the vector's. `rt check` then computes them over a copy of the crate `model`.
+//! Usage: definitions VECTORS OUT
 
+use outside_checks::spellings::{checks, proposals};
 use outside_checks::watches::{watches, WatchCall};
 use outside_checks::{bytes, places, runs, vectors, word, Runs};
 use std::collections::HashMap;
@@ -13,8 +15,9 @@ const STATES: u64 = 7;
 const IMAGE_STATES: u64 = 3;
 const BYTES: usize = 24;
 
-/// So many calls of a watch of each kind are enough.
+/// So many calls of a watch of each kind are enough, and so many of spellings.
 const EACH: usize = 4;
+const SPELLED: usize = 2;
 
 /// What the lent words and bytes hold before a call.
 const BEFORE: u64 = 7;
@@ -60,6 +63,24 @@ counts a number count = eqb (a .number) number && eqb (a .count) count
 
 abbrev is : Watch → ℕ → ℕ → List (ℕ × ℕ) → ℕ → List (ℕ × ℕ) → Bool
 is a number count mask place ends = counts a number count && (sameWords (a .mask) (expand mask) && (eqb (a .place) place && sameWords (a .ends) (expand ends)))
+",
+];
+
+const SPELLINGS: [&str; 2] = [
+    "\
+use mathlib.Core.Bool.{cond}
+use Rattle.model.specs.Spelling.{Proposal}
+use Rattle.model.proofs.Spelling.Answers.{checkAnswer, proposeAnswer}
+",
+    "
+abbrev check : ℕ × Bool → ℕ × ℕ
+check a = (a .0, cond (a .1) 1 0)
+
+abbrev propose : Proposal → ℕ × ℕ
+propose a = (a .number, a .count)
+
+abbrev is : ℕ × ℕ → ℕ → ℕ → Bool
+is a number count = eqb (a .0) number && eqb (a .1) count
 ",
 ];
 
@@ -183,6 +204,29 @@ fn watched(folder: &Path) -> Theorems {
     t
 }
 
+/// The first calls of each kind: check by number and yes, propose by number and whether there are states. Of a proposal the states are free.
+fn spelled(folder: &Path) -> Theorems {
+    let (mut t, mut seen) = (Theorems::of(SPELLINGS), HashMap::new());
+    let mut add = |kind: &str, image: Runs, text: Vec<u8>, given: String, number: u64, count: u64| {
+        let alike = seen.entry((kind.to_string(), number, count > 0)).or_insert(0);
+        if word(&image, 1) > IMAGE_STATES || text.len() > BYTES || *alike == SPELLED {
+            t.left_out += 1;
+            return;
+        }
+        *alike += 1;
+        let text = numbers(text.into_iter().map(u64::from));
+        t.add(format!("{kind} ({kind}Answer (expand {}) {text} {given})", list(&image)), format!("{number} {count}"));
+    };
+    for c in checks(folder) {
+        let given = format!("{} {} {}", c.proposal.start, c.proposal.end, numbers(c.proposal.states.into_iter().map(u64::from)));
+        add("check", c.image, c.text, given, c.number, u64::from(c.yes));
+    }
+    for p in proposals(folder) {
+        add("propose", p.image, p.text, format!("{} {}", p.end, before(p.room)), p.number, p.count as u64);
+    }
+    t
+}
+
 fn main() {
     let arguments: Vec<String> = std::env::args().collect();
     let (folder, out) = (Path::new(&arguments[1]), Path::new(&arguments[2]));
@@ -191,8 +235,10 @@ fn main() {
     fs::create_dir_all(krate.join("specs")).unwrap();
     fs::write(out.join("crates.txt"), "model:\nvectors: model\n").unwrap();
     fs::write(krate.join("src/lib.rt"), "// No code: the theorems stand in specs/.\npub const VECTORS: usize = 0;\n").unwrap();
-    fs::write(krate.join("specs/Lib.antt"), "pub mod Vectors\npub mod Watches\n").unwrap();
-    for (name, what, t) in [("Vectors", "vectors", answers(folder)), ("Watches", "calls of a watch", watched(folder))] {
+    fs::write(krate.join("specs/Lib.antt"), "pub mod Vectors\npub mod Watches\npub mod Spellings\n").unwrap();
+    let modules =
+        [("Vectors", "vectors", answers(folder)), ("Watches", "calls of a watch", watched(folder)), ("Spellings", "calls of spellings", spelled(folder))];
+    for (name, what, t) in modules {
         println!("definitions: {} {what} to compute, {} left out as too large for the checker or like others", t.count, t.left_out);
         fs::write(krate.join("specs").join(format!("{name}.antt")), t.text).unwrap();
     }

@@ -1,11 +1,11 @@
--- EVERY EDGE LEADS TO ONE OF THE TREE'S STATES, for the arcs of a sequence end at or below the state in which it ends. One that takes a byte does not
--- fall, and never enters state 0: it leads to the next state or to its own.
+-- EVERY EDGE LEADS TO ONE OF THE TREE'S STATES, for the arcs of a sequence end at or below the state in which it ends. One without a letter rises. One
+-- that takes a byte does not fall, and never enters state 0: it leads to the next state or to its own.
 use Prim.Native.Nat.{ℕ, suc, _≤_, _<_}
 use mathlib.Core.Logic.{inl, inr}
 use native.Mathlib.Omega.{arith}
 use Rattle.model.specs.Lists.{_∈_, All}
 use Rattle.model.specs.Tree.{Alts, end, last, letter, more, Seq, Tree, union}
-use Rattle.model.specs.Edges.{altsEnd, seqEnd, startsOf, states, ways}
+use Rattle.model.specs.Edges.{altsEnd, endsOf, seqEnd, startsOf, states, ways}
 use Rattle.model.specs.Live.{Free, itself, onward, Reached, Takes}
 use Rattle.model.proofs.Definitions.Free.{free-is}
 use Rattle.model.proofs.Definitions.Takes.{takes-is}
@@ -13,20 +13,26 @@ use Rattle.model.proofs.Language.Arcs.{altsArcs, Arc, arcs, branch-whol
 use Rattle.model.proofs.Language.Languages.{altsEnd-lt, seqEnd-le}
 use Rattle.model.proofs.Laws.Lists.{all-app, all-in, all-map}
 
--- the alternatives of a union start at or below the last one's end
-starts-below : (a : Alts) (p r : ℕ) → r ∈ startsOf (ways a p) → r ≤ altsEnd a p
-starts-below (last s) p r (inl e) = omega (arith, seqEnd-le s (suc p))
-starts-below (last s) p r (inr h) = absurd h
-starts-below (more s a) p r (inl e) = omega (arith, seqEnd-le s (suc p), altsEnd-lt a (seqEnd s (suc p)))
-starts-below (more s a) p r (inr h) = starts-below a (seqEnd s (suc p)) r h
+-- the alternatives of a union start past its start, and start and end at or below the last one's end
+starts-between : (a : Alts) (p r : ℕ) → r ∈ startsOf (ways a p) → (p < r) × (r ≤ altsEnd a p)
+starts-between (last s) p r (inl e) = omega (arith, seqEnd-le s (suc p))
+starts-between (last s) p r (inr h) = absurd h
+starts-between (more s a) p r (inl e) = omega (arith, seqEnd-le s (suc p), altsEnd-lt a (seqEnd s (suc p)))
+starts-between (more s a) p r (inr h) = omega (arith, seqEnd-le s (suc p), starts-between a (seqEnd s (suc p)) r h)
+
+ends-below : (a : Alts) (p r : ℕ) → r ∈ endsOf (ways a p) → r ≤ altsEnd a p
+ends-below (last s) p r (inl e) = omega arith
+ends-below (last s) p r (inr h) = absurd h
+ends-below (more s a) p r (inl e) = omega (arith, altsEnd-lt a (seqEnd s (suc p)))
+ends-below (more s a) p r (inr h) = ends-below a (seqEnd s (suc p)) r h
 
 -- the moves along an arc lead to a state or below it
 record To (top : ℕ) (e : Arc) : Type 0 where
-  pub still : (q r : ℕ) → Still (e .kind) (e .from) (e .to) q r → r ≤ top
+  pub still : (q r : ℕ) → Still (e .kind) (e .from) (e .to) q r → (q < r) × (r ≤ top)
   pub byte : (b q r : ℕ) → Byte b (e .kind) (e .from) (e .to) q r → (q ≤ r) × (0 < r) × (r ≤ top)
 
 higher : {top other : ℕ} → top ≤ other → (e : Arc) → To top e → To other e
-higher l e I = record { still = λ q r m. omega (arith, I .still q r m); byte = λ b q r m. let k = I .byte b q r m in omega (arith, k .0, k .1, k .2) }
+higher l e I = record { still = λ q r m. let k = I .still q r m in omega (arith, k .0, k .1); byte = λ b q r m. let k = I .byte b q r m in omega (arith, k .0, k .1, k .2) }
 
 mutual
   below : (s : Seq) (t k : ℕ) → All (To (seqEnd s t)) (arcs s t k)
@@ -36,12 +42,12 @@ mutual
       letter-whole (To (seqEnd s (suc t))) c r s t k (record {
         takes = record { still = λ q r m. absurd m; byte = λ b q r m. omega (arith, m .1, m .2) };
         loops = λ x. record { still = λ q r m. absurd m; byte = λ b q r m. omega (arith, m .1, m .2) };
-        skips = λ x. record { still = λ q r m. omega (arith, m .1); byte = λ b q r m. absurd m };
+        skips = λ x. record { still = λ q r m. omega (arith, m .0, m .1); byte = λ b q r m. absurd m };
         rest = below s (suc t) k;
       })
   below (union a s) t k =
       branch-whole (To z) a s t k (record {
-        skips = λ x. record { still = λ q r m. omega (arith, m .1, seqEnd-le s u); byte = λ b q r m. absurd m };
+        skips = λ x. record { still = λ q r m. omega (arith, m .0, m .1, altsEnd-lt a t, seqEnd-le s u); byte = λ b q r m. absurd m };
         forks = record { still = fork; byte = λ b q r m. absurd m };
         alts = all-map (To (altsEnd a t)) (To z) (higher (omega (arith, seqEnd-le s u))) (altsArcs a t k) (alts-below a t k);
         rest = below s u k;
@@ -53,9 +59,9 @@ mutual
       z : ℕ
       z = seqEnd s u
 
-      fork : (q r : ℕ) → Still (forkArc (ways a t)) t u q r → r ≤ z
-      fork q r (inl m) = omega (arith, starts-below a t r (m .1), seqEnd-le s u)
-      fork q r (inr m) = omega (arith, m .1, seqEnd-le s u)
+      fork : (q r : ℕ) → Still (forkArc (ways a t)) t u q r → (q < r) × (r ≤ z)
+      fork q r (inl m) = omega (arith, m .0, starts-between a t r (m .1), seqEnd-le s u)
+      fork q r (inr m) = omega (arith, ends-below a t q (m .0), m .1, seqEnd-le s u)
 
   alts-below : (a : Alts) (p k : ℕ) → All (To (altsEnd a p)) (altsArcs a p k)
   alts-below (last s) p k = below s (suc p) (suc k)
@@ -70,8 +76,14 @@ module _ (t : Tree) where
   within = all-in (To (seqEnd t 0)) (arcs t 0 0) (below t 0 0)
 
   -- AN EDGE WITHOUT A LETTER
+  free-between : (q r : ℕ) → Free t q r → (q < r) × (r ≤ seqEnd t 0)
+  free-between q r h = let a = free-is t q r .0 h in within (a .0) (a .1) .still q r (a .2)
+
   pub free-below : (q r : ℕ) → Free t q r → r < states t
-  free-below q r h = let a = free-is t q r .0 h in omega (arith, within (a .0) (a .1) .still q r (a .2))
+  free-below q r h = omega (arith, free-between q r h .1)
+
+  pub free-rises : (q r : ℕ) → Free t q r → q < r
+  free-rises q r h = free-between q r h .0
 
   -- ONE THAT TAKES A BYTE
   takes-between : (b q r : ℕ) → Takes t b q r → (q ≤ r) × (0 < r) × (r ≤ seqEnd t 0)

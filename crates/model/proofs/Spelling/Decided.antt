@@ -1,180 +1,179 @@
--- EACH TABLE SAYS SOMETHING FOR EVERY INPUT: whether states follow, and from where bytes lead, is decided by the sets of the passes.
+-- THE MODEL OF SPELLINGS DECIDES: a test that some edge passes is passed by an edge of the tree, and edges without a letter rise; so the steps along edges
+-- are all there are, and the search for the latest start goes through every start from the last on.
 use mathlib.Core.Path.{_≡_, refl, sym, subst}
 use mathlib.Core.Logic.{_⊎_, inl, inr, _↔_}
-use mathlib.Core.Bool.{Bool, true, false, _&&_}
-use mathlib.Core.List.{List, [], _∷_, _++_}
+use mathlib.Core.Bool.{Bool, _&&_, _||_}
+use mathlib.Core.List.{List, [], _∷_}
 use mathlib.Core.Option.{Option, none, some}
 use Prim.Native.Nat.{ℕ, zero, suc, _-_, _≤_, _<_}
-use native.Mathlib.Decide.{ℕ-discrete}
-use native.Mathlib.Nat.{eq-or-lt-of-le}
+use native.Mathlib.Nat.{eq-or-lt-of-le, le-refl}
 use native.Mathlib.Omega.{arith}
-use lib.Dec.{T}
-use lib.ListN.{drop, length}
-use Rattle.model.specs.Answers.{ImageOf}
-use Rattle.model.specs.Edges.{accepting, states}
-use Rattle.model.specs.Models.Apart.{anyBelow}
+use lib.Dec.{T, eqb, eqb→eq, eqb-refl, leb, leb→le, le→leb}
+use lib.ListN.{length}
+use Rattle.model.specs.Lists.{_∈_}
+use Rattle.model.specs.Edges.{accepting, byLetter, byLoop, edge, EdgeKind, edges}
+use Rattle.model.specs.Live.{itself, letterless, onward, Takes}
 use Rattle.model.specs.Models.Leads.{Leads}
-use Rattle.model.specs.Models.Verdict.{verdict}
-use Rattle.model.specs.Spelling.{between, CheckSays, Follow, Latest, no-end, no-room, not-an-image, proposed, Proposal, ProposeSays, Reaches, refused, right, Spelled, text-too-long, wrong}
+use Rattle.model.specs.Models.Spelling.{along, follows, isSpelled, latest, latestBelow, leads, reaches, reachesIn, steps}
+use Rattle.model.specs.Spelling.{between, Follow, Latest, Reaches, Spelled}
 use Rattle.model.specs.Tree.{Tree}
-use Rattle.model.proofs.Definitions.Below.{takes-below}
-use Rattle.model.proofs.Image.Decided.{rule-full, verdict-none, verdict-some}
-use Rattle.model.proofs.Laws.Bits.{below-in, below-out}
-use Rattle.model.proofs.Laws.Bool.{and-both, and-split, le-or-lt}
-use Rattle.model.proofs.Spelling.Ends.{spelled-end, spelled-leads}
-use Rattle.model.proofs.Spelling.Moves.{entered, entered-is, left, left-is}
-use Rattle.model.proofs.Spelling.Reach.{reach-set, reaches-below, reachSet}
-use Rattle.model.proofs.Words.Full.{Full}
+use Rattle.model.proofs.Definitions.Below.{free-rises}
+use Rattle.model.proofs.Laws.Bool.{and-both, and-split, cond-cases, is-false, le-or-lt, or-left, or-right, or-split}
+use Rattle.model.proofs.Laws.Lists.{any-in, any-out}
+use Rattle.model.proofs.Spelling.Ends.{spelled-leads}
 
--- a test decides
-test : {A : Type 0} (b : Bool) → T b ↔ A → A ⊎ (A → ⊥)
-test true e = inl (e .0 tt)
-test false e = inr (λ a. e .1 a)
+eq-test : {x y : ℕ} → x ≡ y → T (eqb x y)
+eq-test {x} e = subst (λ (z : ℕ). T (eqb x z)) e (eqb-refl x)
 
-module _ (t : Tree) (F : Full t) where
-  -- ---- whether states follow
-  follows : ℕ → List ℕ → List ℕ → Bool
-  follows q [] [] = reachSet t F q (accepting t)
-  follows q [] (r ∷ rs) = false
-  follows q (b ∷ bs) [] = false
-  follows q (b ∷ bs) (r ∷ rs) = entered t F b (reachSet t F q) r && follows r bs rs
+module _ (t : Tree) where
+  -- ---- along an edge of a kind
+  abbrev By : (EdgeKind → Bool) → ℕ → ℕ → Type 0
+  By kind p r = (e : EdgeKind) × (k : ℕ) × (edge e k p r ∈ edges t) × T (kind e)
 
-  follows-is : (q : ℕ) (bs rs : List ℕ) → T (follows q bs rs) ↔ Follow t q bs rs
-  unfolding follows
-  follows-is q [] [] = reach-set t F q (accepting t)
+  along-is : (kind : EdgeKind → Bool) (f : ℕ → ℕ → Bool) → T (along t kind f) ↔ ((p : ℕ) × (r : ℕ) × By kind p r × T (f p r))
+  along-is kind f = (
+    λ h.
+        let o = any-out (λ e. kind (e .kind) && f (e .from) (e .to)) (edges t) h in
+        let c = and-split (kind (o .0 .kind)) (f (o .0 .from) (o .0 .to)) (o .2) in
+        (o .0 .from, o .0 .to, (o .0 .kind, o .0 .level, o .1, c .0), c .1),
+    λ (p, r, (e, k, i, h), m). any-in (λ e. kind (e .kind) && f (e .from) (e .to)) (edges t) (edge e k p r) i (and-both (kind e) (f p r) h m),
+  )
+
+  -- ---- without a letter: the last of the edges goes from p to x
+  abbrev onto : (n q x p r : ℕ) → Bool
+  onto n q x p r = eqb r x && reachesIn n t q p
+
+  reaches-out : (n q x : ℕ) → T (reachesIn n t q x) → Reaches t q x
+  reaches-out zero q x h = itself (eqb→eq x q h)
+  reaches-out (suc n) q x h = elim (or-split (eqb x q) (along t letterless (onto n q x)) h) [
+    | inl e ↦ itself (eqb→eq x q e)
+    | inr k ↦
+        let (p, r, by, m) = along-is letterless (onto n q x) .0 k in
+        let c = and-split (eqb r x) (reachesIn n t q p) m in
+        onward (reaches-out n q p (c .1)) (subst (By letterless p) (eqb→eq r x (c .0)) by)
+  ]
+
+  reaches-in : (n q x : ℕ) → x ≤ n → Reaches t q x → T (reachesIn n t q x)
+  reaches-in zero q x l (itself e) = eq-test e
+  reaches-in (suc n) q x l (itself e) = or-left (eqb x q) (along t letterless (onto n q x)) (eq-test e)
+  reaches-in zero q x l (onward {q = p} h e) = absurd (omega (arith, free-rises t p x e))
+  reaches-in (suc n) q x l (onward {q = p} h e) =
+      let k = reaches-in n q p (omega (arith, free-rises t p x e)) h in
+      or-right (eqb x q) (along t letterless (onto n q x))
+      (along-is letterless (onto n q x) .1 (p, x, e, and-both (eqb x x) (reachesIn n t q p) (eqb-refl x) k))
+
+  reaches-is : (q x : ℕ) → T (reaches t q x) ↔ Reaches t q x
+  reaches-is q x = (reaches-out x q x, reaches-in x q x (le-refl x))
+
+  -- ---- by a byte
+  steps-is : (b q : ℕ) (f : ℕ → Bool) → T (steps t b q f) ↔ ((p : ℕ) × Reaches t q p × ((r : ℕ) × Takes t b p r × T (f r)))
+  steps-is b q f =
+      let a = along-is (λ e. byLetter b e || byLoop b e) (λ p r. reaches t q p && f r) in (
+        λ h. let (p, r, k, m) = a .0 h in let c = and-split (reaches t q p) (f r) m in (p, reaches-is q p .0 (c .0), (r, k, c .1)),
+        λ (p, h, (r, k, m)). a .1 (p, r, k, and-both (reaches t q p) (f r) (reaches-is q p .1 h) m),
+      )
+
+  -- ---- states follow, and some do
+  follows-is : (q : ℕ) (bs rs : List ℕ) → T (follows t q bs rs) ↔ Follow t q bs rs
+  follows-is q [] [] = reaches-is q (accepting t)
   follows-is q [] (r ∷ rs) = (λ h. h, λ h. h)
   follows-is q (b ∷ bs) [] = (λ h. h, λ h. h)
   follows-is q (b ∷ bs) (r ∷ rs) =
-      let i = follows-is r bs rs in
-      let e = entered-is t F b (reachSet t F q) r in (
+      let s = steps-is b q (λ x. eqb x r) in
+      let i = follows-is r bs rs in (
         λ h.
-            let c = and-split (entered t F b (reachSet t F q) r) (follows r bs rs) h in
-            let m = e .0 (c .0) in
-            ((m .0, reach-set t F q (m .0) .0 (m .1), m .2), i .0 (c .1)),
-        λ ((p, h, k), f). and-both (entered t F b (reachSet t F q) r) (follows r bs rs) (e .1 (p, reach-set t F q p .1 h, k)) (i .1 f),
+            let c = and-split (steps t b q (λ x. eqb x r)) (follows t r bs rs) h in
+            let (p, m, (x, k, e)) = s .0 (c .0) in
+            ((p, m, subst (Takes t b p) (eqb→eq x r e) k), i .0 (c .1)),
+        λ ((p, m, k), f). and-both (steps t b q (λ x. eqb x r)) (follows t r bs rs) (s .1 (p, m, (r, k, eqb-refl r))) (i .1 f),
       )
 
-  -- ---- from where bytes lead
-  leadSet : List ℕ → ℕ → Bool
-  leadSet [] q = reachSet t F q (accepting t)
-  leadSet (b ∷ bs) q = anyBelow (states t) (λ p. reachSet t F q p && left t F b (leadSet bs) p)
+  leads-is : (bs : List ℕ) (q : ℕ) → T (leads t bs q) ↔ Leads t bs q
+  leads-is [] q = reaches-is q (accepting t)
+  leads-is (b ∷ bs) q =
+      let s = steps-is b q (leads t bs) in (
+        λ h. let (p, m, (r, k, l)) = s .0 h in (p, m, (r, k, leads-is bs r .0 l)),
+        λ (p, m, (r, k, l)). s .1 (p, m, (r, k, leads-is bs r .1 l)),
+      )
 
-  lead-set : (bs : List ℕ) (q : ℕ) → q < states t → T (leadSet bs q) ↔ Leads t bs q
-  unfolding leadSet
-  lead-set [] q l = reach-set t F q (accepting t)
-  lead-set (b ∷ bs) q l = (there (λ r k. lead-set bs r k .0), back (λ r k. lead-set bs r k .1))
-    where
-      there : ((r : ℕ) → r < states t → T (leadSet bs r) → Leads t bs r) → T (anyBelow (states t) (λ p. reachSet t F q p && left t F b (leadSet bs) p)) → Leads t (b ∷ bs) q
-      there f h =
-          let o = below-out (states t) (λ p. reachSet t F q p && left t F b (leadSet bs) p) h in
-          let c = and-split (reachSet t F q (o .0)) (left t F b (leadSet bs) (o .0)) (o .2) in
-          let m = left-is t F b (leadSet bs) (o .0) .0 (c .1) in
-          (o .0, reach-set t F q (o .0) .0 (c .0), (m .0, m .2, f (m .0) (takes-below t b (o .0) (m .0) (m .2)) (m .1)))
+  -- A PROPOSAL PASSES THE TEST EXACTLY IF IT GETS YES
+  pub spelled-is : (text : List ℕ) (start stop : ℕ) (list : List ℕ) → T (isSpelled t text start stop list) ↔ Spelled t text start stop list
+  spelled-is text start stop list =
+      let inside = leb stop (length text) in
+      let ordered = leb start stop in
+      let each = eqb (length list) (stop - start) in
+      let follow = follows t 0 (between text start stop) list in
+      let f = follows-is 0 (between text start stop) list in (
+        λ h.
+            let i = and-split inside (ordered && (each && follow)) h in
+            let o = and-split ordered (each && follow) (i .1) in
+            let e = and-split each follow (o .1) in
+            record {
+              inside = leb→le stop (length text) (i .0);
+              ordered = leb→le start stop (o .0);
+              each = eqb→eq (length list) (stop - start) (e .0);
+              follow = f .0 (e .1);
+            },
+        λ s.
+            and-both inside (ordered && (each && follow)) (le→leb stop (length text) (s .inside))
+            (and-both ordered (each && follow) (le→leb start stop (s .ordered)) (and-both each follow (eq-test (s .each)) (f .1 (s .follow)))),
+      )
 
-      back : ((r : ℕ) → r < states t → Leads t bs r → T (leadSet bs r)) → Leads t (b ∷ bs) q → T (anyBelow (states t) (λ p. reachSet t F q p && left t F b (leadSet bs) p))
-      back f (p, h, (r, k, m)) =
-          below-in (states t) (λ p. reachSet t F q p && left t F b (leadSet bs) p) p (reaches-below t h l)
-          (and-both (reachSet t F q p) (left t F b (leadSet bs) p) (reach-set t F q p .1 h) (left-is t F b (leadSet bs) p .1 (r, f r (takes-below t b p r k) m, k)))
+-- ---- THE LATEST START IS ONE
+pub latest-one : (t : Tree) (text : List ℕ) (i j stop : ℕ) → Latest t text i stop → Latest t text j stop → i ≡ j
+latest-one t text i j stop L M = omega (arith, L .none-later j (M .some .0) (M .some .1), M .none-later i (L .some .0) (L .some .1))
 
-  -- ---- a proposal is right or not
-  spelled-or-not : (text : List ℕ) (start stop : ℕ) (list : List ℕ) → Spelled t text start stop list ⊎ (Spelled t text start stop list → ⊥)
-  spelled-or-not text start stop list =
-      go (le-or-lt stop (length text)) (le-or-lt start stop) (ℕ-discrete (length list) (stop - start)) (test (follows 0 (between text start stop) list) (follows-is 0 (between text start stop) list))
-    where
-      go : (stop ≤ length text) ⊎ (length text < stop) → (start ≤ stop) ⊎ (stop < start) → Dec (length list ≡ stop - start)
-          → Follow t 0 (between text start stop) list ⊎ (Follow t 0 (between text start stop) list → ⊥) → Spelled t text start stop list ⊎ (Spelled t text start stop list → ⊥)
-      go (inr h) b c d = inr (λ s. omega (arith, s .inside))
-      go (inl h) (inr k) c d = inr (λ s. omega (arith, s .ordered))
-      go (inl h) (inl k) (no n) d = inr (λ s. n (s .each))
-      go (inl h) (inl k) (yes e) (inr f) = inr (λ s. f (s .follow))
-      go (inl h) (inl k) (yes e) (inl f) = inl (record { inside = h; ordered = k; each = e; follow = f })
+module _ (t : Tree) (text : List ℕ) (stop : ℕ) where
+  -- no spelling at all, or the latest start
+  abbrev pub NoSpelling : Type 0
+  NoSpelling = (start : ℕ) (list : List ℕ) → Spelled t text start stop list → ⊥
 
-  -- ---- the latest start, or none
-  module _ (text : List ℕ) (stop : ℕ) (inside : stop ≤ length text) where
-    abbrev Starts : ℕ → Type 0
-    Starts k = Leads t (between text k stop) 0
+  abbrev pub Found : Option ℕ → Type 0
+  Found none = NoSpelling
+  Found (some start) = Latest t text start stop
 
-    abbrev NoneFrom : ℕ → Type 0
-    NoneFrom k = (j : ℕ) → k ≤ j → j ≤ stop → Starts j → ⊥
+  -- none from k on
+  abbrev NoneFrom : ℕ → Type 0
+  NoneFrom k = (j : ℕ) (list : List ℕ) → k ≤ j → Spelled t text j stop list → ⊥
 
-    abbrev Searched : Type 0
-    Searched = ((start : ℕ) × Latest t text start stop) ⊎ NoneFrom 0
-
-    found-at : (k : ℕ) → k ≤ stop → Starts k → NoneFrom (suc k) → Searched
-    found-at k h l f = inl (
-      k,
-      record {
-        some = spelled-leads t text k stop .1 (inside, h, l);
-        none-later = λ j rs s. go j (spelled-leads t text j stop .0 (rs, s)) (le-or-lt j k);
-      },
-    )
+  module _ (inside : stop ≤ length text) where
+    found-at : (k : ℕ) → k ≤ stop → Leads t (between text k stop) 0 → NoneFrom (suc k) → Latest t text k stop
+    found-at k h l f = record { some = spelled-leads t text k stop .1 (inside, h, l); none-later = λ j list s. go j list s (le-or-lt j k) }
       where
-        go : (j : ℕ) → (stop ≤ length text) × (j ≤ stop) × Starts j → (j ≤ k) ⊎ (k < j) → j ≤ k
-        go j m (inl x) = x
-        go j m (inr x) = absurd (f j x (m .1) (m .2))
+        go : (j : ℕ) (list : List ℕ) → Spelled t text j stop list → (j ≤ k) ⊎ (k < j) → j ≤ k
+        go j list s (inl x) = x
+        go j list s (inr x) = absurd (f j list x s)
 
-    none-here : (k : ℕ) → (Starts k → ⊥) → NoneFrom (suc k) → NoneFrom k
-    none-here k g f j h m l = go (eq-or-lt-of-le h)
+    none-here : (k : ℕ) → (Leads t (between text k stop) 0 → ⊥) → NoneFrom (suc k) → NoneFrom k
+    none-here k g f j list h s = go (eq-or-lt-of-le h)
       where
         go : (k ≡ j) ⊎ (k < j) → ⊥
-        go (inl e) = g (subst Starts (sym e) l)
-        go (inr x) = f j x m l
+        go (inl e) = g (subst (λ (i : ℕ). Leads t (between text i stop) 0) (sym e) (spelled-leads t text j stop .0 (list, s) .2))
+        go (inr x) = f j list x s
 
-    search-down : (k : ℕ) → k ≤ suc stop → NoneFrom k → Searched
-    search-down zero h f = inr f
-    search-down (suc k) h f =
-        go (test (leadSet (between text k stop) 0) (lead-set (between text k stop) 0 (omega arith))) (λ g. search-down k (omega arith) (none-here k g f))
-      where
-        go : Starts k ⊎ (Starts k → ⊥) → ((Starts k → ⊥) → Searched) → Searched
-        go (inl l) r = found-at k (omega arith) l f
-        go (inr g) r = r g
+    found-below : (k : ℕ) → k ≤ suc stop → NoneFrom k → Found (latestBelow k t text stop)
+    found-below zero h f = λ start list s. f start list (omega arith) s
+    found-below (suc k) h f =
+        let bs = between text k stop in
+        cond-cases Found (leads t bs 0) (λ y. found-at k (omega arith) (leads-is t bs 0 .0 y) f)
+        (λ n. found-below k (omega arith) (none-here k (λ l. subst T (is-false (leads t bs 0) n) (leads-is t bs 0 .1 l)) f))
 
-    latest-or-none : Searched
-    latest-or-none = search-down (suc stop) (omega arith) (λ j h m l. omega arith)
+  -- THE SEARCH FINDS IT, OR THERE IS NO SPELLING
+  pub latest-is : Found (latest t text stop)
+  latest-is = cond-cases Found (leb stop (length text))
+      (λ h. found-below (leb→le stop (length text) h) (suc stop) (le-refl (suc stop)) (λ j list l s. omega (arith, s .ordered)))
+      (λ n start list s. subst T (is-false (leb stop (length text)) n) (le→leb stop (length text) (s .inside)))
 
--- CHECK'S TABLE SAYS SOMETHING FOR EVERY PROPOSAL
-pub check-total : (words text : List ℕ) (start stop : ℕ) (list : List ℕ) → (number : ℕ) × (yes : Bool) × CheckSays words text start stop list number yes
-check-total words text start stop list = go (verdict words) refl
-  where
-    Said : Type 0
-    Said = (number : ℕ) × (yes : Bool) × CheckSays words text start stop list number yes
+  pub latest-some : (start : ℕ) → Latest t text start stop → latest t text stop ≡ some start
+  latest-some start L = go (latest t text stop) latest-is
+    where
+      go : (o : Option ℕ) → Found o → o ≡ some start
+      go none f = absurd (f start (L .some .0) (L .some .1))
+      go (some i) M = λ k. some (latest-one t text i start stop M L k)
 
-    short : (t : Tree) → ImageOf words t → (length text ≤ 65535) ⊎ (65535 < length text) → Spelled t text start stop list ⊎ (Spelled t text start stop list → ⊥) → Said
-    short t I (inr l) d = (7, false, text-too-long t I l refl refl)
-    short t I (inl l) (inl s) = (0, true, right t I l s refl refl)
-    short t I (inl l) (inr f) = (0, false, wrong t I l f refl refl)
-
-    go : (o : Option Tree) → verdict words ≡ o → Said
-    go none e = (6, false, not-an-image (verdict-none words .0 e) refl refl)
-    go (some t) e = let I = verdict-some words t .0 e in short t I (le-or-lt (length text) 65535) (spelled-or-not t (rule-full t (I .is-rule)) text start stop list)
-
--- AND PROPOSE'S FOR EVERY PLACE
-pub propose-total : (words text : List ℕ) (stop : ℕ) (before : List ℕ) → (a : Proposal) × ProposeSays words text stop before a
-propose-total words text stop before = go (verdict words) refl
-  where
-    Said : Type 0
-    Said = (a : Proposal) × ProposeSays words text stop before a
-
-    roomy : (t : Tree) → ImageOf words t → length text ≤ 65535 → (start : ℕ) → Latest t text start stop → (stop - start ≤ length before) ⊎ (length before < stop - start) → Said
-    roomy t I l start L (inl h) = (record { number = 0; start = start; count = stop - start; lent = L .some .0 ++ drop (stop - start) before }, proposed t start (L .some .0) I l L h (L .some .1) refl)
-    roomy t I l start L (inr h) = (refused 17 before, no-room t start I l L h refl)
-
-    latest : (t : Tree) → ImageOf words t → length text ≤ 65535
-        → ((start : ℕ) × Latest t text start stop) ⊎ ((j : ℕ) → 0 ≤ j → j ≤ stop → Leads t (between text j stop) 0 → ⊥) → Said
-    latest t I l (inl (start, L)) = roomy t I l start L (le-or-lt (stop - start) (length before))
-    latest t I l (inr f) = (refused 16 before, no-end t I l (λ e. never (spelled-end t (I .is-rule) text stop .1 e)) refl)
-      where
-        never : (start : ℕ) × (list : List ℕ) × Spelled t text start stop list → ⊥
-        never (i, rs, s) = let m = spelled-leads t text i stop .0 (rs, s) in f i (omega arith) (m .1) (m .2)
-
-    placed : (t : Tree) → ImageOf words t → length text ≤ 65535 → (stop ≤ length text) ⊎ (length text < stop) → Said
-    placed t I l (inl h) = latest t I l (latest-or-none t (rule-full t (I .is-rule)) text stop h)
-    placed t I l (inr h) = (refused 16 before, no-end t I l (λ e. let s = spelled-end t (I .is-rule) text stop .1 e in omega (arith, s .2 .inside)) refl)
-
-    short : (t : Tree) → ImageOf words t → (length text ≤ 65535) ⊎ (65535 < length text) → Said
-    short t I (inl l) = placed t I l (le-or-lt stop (length text))
-    short t I (inr l) = (refused 7 before, text-too-long t I l refl)
-
-    go : (o : Option Tree) → verdict words ≡ o → Said
-    go none e = (refused 6 before, not-an-image (verdict-none words .0 e) refl)
-    go (some t) e = short t (verdict-some words t .0 e) (le-or-lt (length text) 65535)
+  pub latest-none : NoSpelling → latest t text stop ≡ none
+  latest-none f = go (latest t text stop) latest-is
+    where
+      go : (o : Option ℕ) → Found o → o ≡ none
+      go none g = refl
+      go (some i) M = absurd (f i (M .some .0) (M .some .1))

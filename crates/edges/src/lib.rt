@@ -1,15 +1,15 @@
 // Single edges (document 01, "States and edges"): what a state reaches without a letter, what a byte enters from a set of states, and what it leaves into
 // one. Spellings go forward and back along them.
-use run::rows::row_at;
-use run::shape::width;
-use run::steps::pass;
-use run::table::Table;
-use run::table::table;
 use mask::Mask;
 use mask::bits::with_bit;
 use mask::logic::and;
 use mask::logic::or;
 use moves::advance;
+use run::rows::row_at;
+use run::shape::width;
+use run::steps::pass;
+use run::table::Table;
+use run::table::table;
 use word::shape::depth;
 use word::shape::has_shape;
 ghost use mathlib.Core.Bool.{true};

@@ -2,8 +2,8 @@
 use crate::origins::Origins;
 use crate::origins::into;
 use crate::sets::with_state;
-use mask::Mask;
 use edges::leave;
+use mask::Mask;
 ghost use Prim.Native.Nat.{_<_};
 ghost use Rattle.proposer.specs.Work.{BackSays, EndingSays};
 

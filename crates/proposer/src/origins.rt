@@ -2,9 +2,9 @@
 // the origins of a set's states: no pass goes the other way.
 use crate::sets::either;
 use crate::sets::with_state;
-use mask::bits::row_has_bit;
 use edges::Work;
 use edges::reach;
+use mask::bits::row_has_bit;
 ghost use mathlib.Core.Path.{_≡_};
 ghost use Prim.Native.Nat.{_+_, _≤_, _<_};
 ghost use lib.ListN.{length};

@@ -1,8 +1,8 @@
 // The states of a proposal, one after another: each is entered by its byte from what the one before reaches without a letter.
-use mask::bits::has_bit;
 use edges::Work;
 use edges::enter;
 use edges::reach;
+use mask::bits::has_bit;
 ghost use Prim.Native.Nat.{_+_, _≤_};
 ghost use lib.ListN.{length};
 ghost use Rattle.edges.specs.Reach.{WorkOf};

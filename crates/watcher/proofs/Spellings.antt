@@ -71,9 +71,13 @@ module _ {words text : List ℕ} {end : ℕ} {before : List ℕ} where
       let g = sym e ∙ d in
       let s = ap (λ (a : Proposal). a .start) g in
       let c = ap (λ (a : Proposal). a .count) g in
-      let w = ap (λ (a : Proposal). a .lent) g in
-      (t, I, l, subst (Spelled t text start end)
-      (sym (take-at rs (drop (end - i) before) n (S .each ∙ c)) ∙ ap (take n) w) (subst (λ (x : ℕ). Spelled t text x end rs) s S))
+      let w = ap (λ (a : Proposal). a .lent) g in (
+        t,
+        I,
+        l,
+        subst (Spelled t text start end)
+            (sym (take-at rs (drop (end - i) before) n (S .each ∙ c)) ∙ ap (take n) w) (subst (λ (x : ℕ). Spelled t text x end rs) s S),
+      )
 
   -- WHAT THE PROPOSER GIVES, THE CHECK SAYS YES TO
   pub proposal-right : {start n : ℕ} {after : List ℕ} → ProposeSays words text end before (proposedAnswer (Done start n) after)

@@ -4,7 +4,7 @@
 #[path = "../programs.rs"]
 mod programs;
 
-use outside_checks::independent::{build, ends, parse};
+use outside_checks::independent::{build, ends, latest_starts, parse, Checker, Proposal};
 use outside_checks::texts::text;
 use programs::{generated, start, Checks, File};
 use std::io::Write;
@@ -59,7 +59,7 @@ impl Checks {
         self.note(&format!("{what}: rule {}, request {asked}: wrote {wrote}, expected {expected}", start(rule.bytes())), got == right);
     }
 
-    /// A place that is an end: its record shows the journal and gets yes; changed, it gets no.
+    /// A place that is an end: its record shows the journal, has the latest start, is right by the independent program and gets yes; changed, it gets no.
     fn explained(&mut self, what: &str, rule: &[u8], journal: &[u8], place: usize) {
         let (rule, file) = (File::of(rule), File::of(journal));
         let record = self.answer(&rule, &file, &format!("place {place}\n"));
@@ -68,6 +68,10 @@ impl Checks {
             return;
         };
         self.note(&format!("{what}: place {place}: the record is for {end}"), end == place);
+        let tree = parse(rule.bytes()).expect("a rule that was taken");
+        self.note(&format!("{what}: place {place}: the record starts at {begin}"), latest_starts(&tree, journal)[place] == Some(begin));
+        let proposal = Proposal { start: begin as u64, end: end as u64, states: states.iter().map(|&state| state as u32).collect() };
+        self.note(&format!("{what}: place {place}: the record is right"), Checker::of(&tree).right(journal, &proposal));
         self.says(what, &rule, &file, &record, "yes\n");
         let lines: Vec<&str> = record.lines().collect();
         for (i, line) in lines.iter().enumerate().skip(2).step_by(1 + states.len() / 3) {

@@ -7,11 +7,11 @@ use lib.ListN.{length, take}
 use Rattle.model.specs.Tree.{Tree}
 use Rattle.model.specs.Grammar.{IsRule}
 use Rattle.model.specs.Edges.{accepting}
-use Rattle.model.specs.Live.{After, Before, Free, itself, Live, LiveFrom, onward, Reached, Takes}
+use Rattle.model.specs.Live.{After, Before, Free, itself, Live, LiveFrom, onward, Takes}
 use Rattle.model.specs.Ends.{End}
 use Rattle.model.proofs.Definitions.Ends.{end-live}
 use Rattle.model.specs.Models.Leads.{Leads}
-use Rattle.model.specs.Spelling.{between, Follow, Reaches, Spelled}
+use Rattle.model.specs.Spelling.{between, Reaches, Spelled}
 use Rattle.model.proofs.Spelling.Leads.{between-long, cut-between, earlier, follow-long, leads-follow, origin, take-between}
 
 module _ (t : Tree) where

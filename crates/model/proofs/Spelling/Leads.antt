@@ -9,7 +9,7 @@ use lib.ListN.{drop, getD, length, length-append, length-drop, take, take-append
 use lib.Seq.{drop-append-seam, drop-cons, drop-drop, getD-drop, length-take-le, take-add, take-at, take-suc}
 use Rattle.model.specs.Tree.{Tree}
 use Rattle.model.specs.Edges.{accepting, states}
-use Rattle.model.specs.Live.{Free, itself, onward, Reached, Takes}
+use Rattle.model.specs.Live.{itself, onward, Reached, Takes}
 use Rattle.model.specs.Models.Leads.{Chain, Leads}
 use Rattle.model.specs.Spelling.{between, Follow, Reaches}
 use Rattle.model.proofs.Definitions.Below.{takes-below}

@@ -3,18 +3,17 @@
 use mathlib.Core.Path.{_≡_, refl, sym, subst}
 use mathlib.Core.Logic.{_⊎_, inl, inr, _↔_}
 use mathlib.Core.Bool.{Bool, _&&_, _||_}
-use mathlib.Core.List.{List}
-use Prim.Native.Nat.{ℕ, zero, suc, _<_}
+use Prim.Native.Nat.{ℕ, zero, suc}
 use native.Mathlib.Omega.{arith}
 use lib.Dec.{T, eqb, eqb→eq, eqb-refl}
 use Rattle.model.specs.Tree.{Tree}
 use Rattle.model.specs.Live.{Takes}
 use Rattle.model.proofs.Definitions.Below.{takes-rises}
 use Rattle.model.proofs.Definitions.Takes.{takes-is}
-use Rattle.model.proofs.Ends.Run.{letterSet, loopsByte, loopSet, Moved, moved, moved-in, moved-out}
-use Rattle.model.proofs.Language.Arcs.{Arc, ArcKind, arcs, Byte, forkArc, letterArc, loopArc, propagateArc}
+use Rattle.model.proofs.Ends.Run.{letterSet, loopsByte, loopSet, Moved, moved-in, moved-out}
+use Rattle.model.proofs.Language.Arcs.{ArcKind, arcs, Byte, forkArc, letterArc, loopArc, propagateArc}
 use Rattle.model.proofs.Laws.Bool.{and-both, and-split, or-left, or-right, or-split}
-use Rattle.model.proofs.Laws.Lists.{any-out, In}
+use Rattle.model.proofs.Laws.Lists.{any-out}
 use Rattle.model.proofs.Words.Full.{Full}
 use Rattle.model.proofs.Words.Operations.{next}
 

@@ -1,8 +1,7 @@
 -- WHAT A SPELLING SPELLS: bytes lead from 0 to the accepting state exactly if the rule spells them. So the latest start is the last place from which
 -- the bytes up to the end are spelled.
 use mathlib.Core.Path.{_≡_, refl, sym, ap, _∙_, subst}
-use mathlib.Core.Logic.{_⊎_, inl, inr, _↔_}
-use mathlib.Core.Bool.{true, false}
+use mathlib.Core.Logic.{inl, inr, _↔_}
 use mathlib.Core.List.{List, [], _∷_, _++_, append-nil, reverse, reverse-reverse}
 use Prim.Native.Nat.{ℕ, suc, _≤_}
 use lib.Dec.{T}
@@ -12,12 +11,12 @@ use Rattle.model.specs.Bits.{bit}
 use Rattle.model.specs.Tree.{Alts, canLoop, canSkip, end, last, letter, more, once, option, plus, Repeat, Seq, star, Tree, union}
 use Rattle.model.specs.Edges.{accepting, altsEnd, endsOf, seqEnd, startsOf, ways}
 use Rattle.model.specs.Ends.{AltsSpell, LetterSpells, Spells}
-use Rattle.model.specs.Live.{Free, itself, onward, Reached, Takes}
+use Rattle.model.specs.Live.{itself, onward}
 use Rattle.model.specs.Models.Leads.{Leads}
 use Rattle.model.specs.Spelling.{between, Reaches, Spelled}
 use Rattle.model.proofs.Definitions.Free.{free-is}
 use Rattle.model.proofs.Definitions.Takes.{takes-is}
-use Rattle.model.proofs.Language.Arcs.{altsArcs, Arc, arc, arcs, Branch, branch-parts, Byte, forkArc, Letter, letter-parts, letterArc, loopArc, propagateArc, Still}
+use Rattle.model.proofs.Language.Arcs.{altsArcs, Arc, arc, arcs, branch-parts, Byte, forkArc, Letter, letter-parts, letterArc, loopArc, propagateArc, Still}
 use Rattle.model.proofs.Language.Carried.{carried, Carries}
 use Rattle.model.proofs.Language.Languages.{Language}
 use Rattle.model.proofs.Language.Stretches.{after-out, feed}

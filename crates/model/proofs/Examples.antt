@@ -17,7 +17,7 @@ use Rattle.model.specs.Ends.{EndsAre}
 use Rattle.model.specs.Image.{gatherBlock, gatherSource, gatherTarget, image, propagateBlock, propagateSource, propagateTarget, scatterBlock, scatterSource, scatterTarget}
 use Rattle.model.specs.Answers.{not-a-rule}
 use Rattle.model.specs.Spelling.{Latest}
-use Rattle.model.specs.Worked.{_⊨_, Claim, further, gatherAt, hasEnds, hasImage, hasLatest, hasNoStart, hasStates, Holds, isNotSpelledBy, isSpelledBy, isWritten, marked, Masks, propagateAt, refusedWith2, Right, Row, scatterAt, spellings}
+use Rattle.model.specs.Worked.{_⊨_, Claim, further, gatherAt, hasEnds, hasImage, hasLatest, hasNoStart, hasStates, Holds, isNotSpelledBy, isSpelledBy, isWritten, marked, Masks, optionalGroups, propagateAt, refusedWith2, Right, Row, scatterAt, spellings}
 use Rattle.model.specs.Models.Reader.{readRule}
 use Rattle.model.specs.Models.Spelling.{isSpelled, latest}
 use Rattle.model.specs.Models.Verdict.{sameWords}
@@ -128,6 +128,9 @@ table-right (r ∷ rs) h = let k = and-split (rowTest r) (tableTest rs) h in (ro
 -- EVERY EXAMPLE THAT DOCUMENT 01 MARKS P HOLDS
 pub marked-right : All Right marked
 marked-right = table-right marked tt
+
+pub optional-groups-right : All Right optionalGroups
+optional-groups-right = table-right optionalGroups tt
 
 pub further-right : All Right further
 further-right = table-right further tt

@@ -3,6 +3,7 @@
 pub mod Decided
 pub mod Compare
 -- A tree and its tokens determine each other, and the masks' bits show the tokens.
+pub mod Unions
 pub mod Tokens
 pub mod TokenWriting
 pub mod Between

@@ -4,7 +4,7 @@ use mathlib.Core.List.{List, [], _∷_, _++_, map}
 use Prim.Native.Nat.{ℕ, suc, max}
 use Rattle.model.specs.Lists.{each}
 use Rattle.model.specs.Bits.{bit}
-use Rattle.model.specs.Tree.{Alts, canLoop, canSkip, end, last, letter, more, Repeat, Seq, Tree, union}
+use Rattle.model.specs.Tree.{Alts, canLoop, canOmit, canSkip, end, last, letter, Mark, more, Repeat, Seq, Tree, union}
 
 -- the state in which a sequence that starts in t ends, and the end of the last alternative, where p is the state before the first one's start:
 -- "A letter from state i ends in i+1. A union starting in t gives its alternatives the next states in turn, each with its own start, then
@@ -13,7 +13,7 @@ abbrev mutual
   pub seqEnd : Seq → ℕ → ℕ
   seqEnd end t = t
   seqEnd (letter c r s) t = seqEnd s (suc t)
-  seqEnd (union a s) t = seqEnd s (suc (altsEnd a t))
+  seqEnd (union m a s) t = seqEnd s (suc (altsEnd a t))
 
   pub altsEnd : Alts → ℕ → ℕ
   altsEnd (last s) p = seqEnd s (suc p)
@@ -31,22 +31,25 @@ abbrev mutual
   pub depth : Tree → ℕ
   depth end = 0
   depth (letter c r s) = depth s
-  depth (union a s) = max (suc (altsDepth a)) (depth s)
+  depth (union m a s) = max (suc (altsDepth a)) (depth s)
 
   pub altsDepth : Alts → ℕ
   altsDepth (last s) = depth s
   altsDepth (more s a) = max (depth s) (altsDepth a)
 
--- "it can spell the empty text"
+-- "it can spell the empty text": a union by an alternative, or since it may be left out
 abbrev mutual
   pub seqEmpty : Seq → Bool
   seqEmpty end = true
   seqEmpty (letter c r s) = canSkip r && seqEmpty s
-  seqEmpty (union a s) = altsEmpty a && seqEmpty s
+  seqEmpty (union m a s) = (canOmit m || altsEmpty a) && seqEmpty s
 
   pub altsEmpty : Alts → Bool
   altsEmpty (last s) = seqEmpty s
   altsEmpty (more s a) = seqEmpty s || altsEmpty a
+
+abbrev pub unionEmpty : Mark → Alts → Bool
+unionEmpty m a = canOmit m || altsEmpty a
 
 -- each alternative's start and end, where p is the state before the first one's start
 abbrev pub Way : Type 0
@@ -73,7 +76,7 @@ abbrev mutual
   pub parts : Seq → ℕ → ℕ → List Part
   parts end t k = []
   parts (letter c r s) t k = letterAt c r k t ∷ parts s (suc t) k
-  parts (union a s) t k = unionAt (altsEmpty a) k t (ways a t) (suc (altsEnd a t)) ∷ (altsParts a t k ++ parts s (suc (altsEnd a t)) k)
+  parts (union m a s) t k = unionAt (unionEmpty m a) k t (ways a t) (suc (altsEnd a t)) ∷ (altsParts a t k ++ parts s (suc (altsEnd a t)) k)
 
   pub altsParts : Alts → ℕ → ℕ → List Part
   altsParts (last s) p k = parts s (suc p) (suc k)
@@ -97,7 +100,7 @@ when b e = cond b (e ∷ []) []
 
 -- "a letter's class from i to i+1; for `*` and `+` also a loop on i+1 with that class; for `?` and `*` a propagate edge i to i+1; for a union
 -- a scatter edge from its start to each alternative's start, a gather edge from each alternative's end to its end, and, if it can spell the
--- empty text, a propagate edge from its start to its end"
+-- empty text, a propagate edge from its start to its end"; so also over a group that keeps its `?`: "a union with an edge from start to end"
 abbrev pub edgesOf : Part → List Edge
 edgesOf (letterAt c r k i) = edge (letterEdge c) k i (suc i) ∷ (when (canLoop r) (edge (loopEdge c) k (suc i) (suc i)) ++ when (canSkip r) (edge propagateEdge k i (suc i)))
 edgesOf (unionAt empty k t ws u) = map (λ a. edge scatterEdge k t (a .0)) ws ++ (map (λ a. edge gatherEdge k (a .1) u) ws ++ when empty (edge propagateEdge k t u))

@@ -7,7 +7,7 @@ use lib.Dec.{T}
 use lib.ListN.{length}
 use Rattle.model.specs.Lists.{_∈_, All}
 use Rattle.model.specs.Bits.{bit}
-use Rattle.model.specs.Tree.{Alts, end, last, letter, more, once, option, plus, Repeat, star, Tree, union}
+use Rattle.model.specs.Tree.{Alts, end, last, letter, Mark, more, once, option, optional, plus, Repeat, star, Tree, union, unmarked}
 
 -- a letter spells one byte of its class, with `?` also none, with `*` any number, with `+` at least one
 abbrev pub LetterSpells : ℕ → Repeat → List ℕ → Type 0
@@ -16,12 +16,17 @@ LetterSpells c option v = (v ≡ []) ⊎ ((b : ℕ) × (v ≡ b ∷ []) × T (bi
 LetterSpells c star v = All (λ b. T (bit c b)) v
 LetterSpells c plus v = (b : ℕ) × (x : List ℕ) × (v ≡ b ∷ x) × T (bit c b) × All (λ b. T (bit c b)) x
 
+-- a group that spells the texts of P spells with `?` also none
+abbrev pub GroupSpells : Mark → (List ℕ → Type 0) → List ℕ → Type 0
+GroupSpells unmarked P v = P v
+GroupSpells optional P v = (v ≡ []) ⊎ P v
+
 -- a sequence spells what its items spell one after another, a union what one of its alternatives spells
 abbrev mutual
   pub Spells : Tree → List ℕ → Type 0
   Spells end v = v ≡ []
   Spells (letter c r s) v = (x : List ℕ) × (y : List ℕ) × (v ≡ x ++ y) × LetterSpells c r x × Spells s y
-  Spells (union a s) v = (x : List ℕ) × (y : List ℕ) × (v ≡ x ++ y) × AltsSpell a x × Spells s y
+  Spells (union m a s) v = (x : List ℕ) × (y : List ℕ) × (v ≡ x ++ y) × GroupSpells m (λ u. AltsSpell a u) x × Spells s y
 
   pub AltsSpell : Alts → List ℕ → Type 0
   AltsSpell (last s) v = Spells s v

@@ -1,13 +1,14 @@
 -- THE GRAMMAR OF RULES (document 01, "The grammar"), as a relation between bytes and what they mean. It is no parser: it says only what is a rule, and of which tree.
 use mathlib.Core.Path.{_≡_}
-use mathlib.Core.Bool.{Bool, not, _&&_}
+use mathlib.Core.Bool.{Bool, not, _&&_, cond}
 use mathlib.Core.List.{List, [], _∷_, _++_}
 use Prim.Native.Nat.{ℕ, zero, suc, _+_, _-_, _*_, _^_, _≤_}
 use lib.Dec.{T, eqb, leb}
 use lib.Bits.{bitOr}
 use Rattle.model.specs.Bits.{mask}
 use Rattle.model.specs.Bytes.{byte, IsDigit, IsEscape, plain}
-use Rattle.model.specs.Tree.{Alts, end, glue, last, letter, more, once, option, plus, Repeat, Seq, star, Tree, union}
+use Rattle.model.specs.Tree.{Alts, end, glue, last, letter, Mark, more, once, option, optional, plus, Repeat, Seq, star, Tree, union, unmarked}
+use Rattle.model.specs.Edges.{altsEmpty}
 
 -- ---- classes: the number whose bit b says that byte b is in it
 -- "In a class a single is an escape or a plain byte other than `-`; the signs need escapes there too."
@@ -82,10 +83,21 @@ repeated c (times x y) = copies (y - x) c option (copies x c once end)
 -- "brackets around one alternative vanish and their items join the sequence outside"; several are a union
 abbrev pub bracket : Alts → Seq
 bracket (last s) = s
-bracket (more s a) = union (more s a) end
+bracket (more s a) = union unmarked (more s a) end
+
+-- "A bracketed group may take `?`."
+pub data IsMark : List ℕ → Mark → Type 0 where
+  nothing : {w : List ℕ} {m : Mark} → w ≡ [] → m ≡ unmarked → IsMark w m
+  query : {w : List ℕ} {m : Mark} → w ≡ byte "?" ∷ [] → m ≡ optional → IsMark w m
+
+-- "The tree keeps it as a union .., also when it has one alternative. But a `?` on a group that can already be empty is dropped before the
+-- tree is made, and the group is then read without it."
+abbrev pub grouped : Alts → Mark → Seq
+grouped a unmarked = bracket a
+grouped a optional = cond (altsEmpty a) (bracket a) (union optional a end)
 
 -- "Alternatives hold sequences, sequences hold items, items hold alternatives: an item is a letter with at most one repeat sign, or
--- bracketed alternatives without one. No sequence is empty." An item means the sequence that it adds to the one outside.
+-- bracketed alternatives", with `?` or without. "No sequence is empty." An item means the sequence that it adds to the one outside.
 mutual
   pub data IsAlts : List ℕ → Alts → Type 0 where
     only : {w : List ℕ} {s : Seq} → IsSeq w s → IsAlts w (last s)
@@ -97,7 +109,7 @@ mutual
 
   pub data IsItem : List ℕ → Seq → Type 0 where
     lone : {w u v : List ℕ} {s : Seq} {c : ℕ} {q : Sign} → w ≡ u ++ v → s ≡ repeated c q → IsLetter u c → IsSign v q → IsItem w s
-    group : {w u : List ℕ} {s : Seq} {a : Alts} → w ≡ byte "(" ∷ (u ++ (byte ")" ∷ [])) → s ≡ bracket a → IsAlts u a → IsItem w s
+    group : {w u v : List ℕ} {s : Seq} {a : Alts} {m : Mark} → w ≡ byte "(" ∷ (u ++ (byte ")" ∷ v)) → s ≡ grouped a m → IsAlts u a → IsMark v m → IsItem w s
 
 -- THE RULE w HAS THE TREE t: "A rule is alternatives separated by `|`."
 pub data IsRule : List ℕ → Tree → Type 0 where

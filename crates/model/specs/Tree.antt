@@ -19,12 +19,22 @@ canLoop option = false
 canLoop star = true
 canLoop plus = true
 
--- "Alternatives hold sequences, sequences hold items": a sequence is a letter (its class and its repeat) or a union, and what follows it
+-- what a group keeps after its `)`: nothing, or `?` (document 02, Wish 3)
+pub data Mark : Type 0 where
+  unmarked optional : Mark
+
+-- a union with `?` may be left out
+abbrev pub canOmit : Mark → Bool
+canOmit unmarked = false
+canOmit optional = true
+
+-- "Alternatives hold sequences, sequences hold items": a sequence is a letter (its class and its repeat) or a union (its mark and its
+-- alternatives), and what follows it
 mutual
   pub data Seq : Type 0 where
     end : Seq
     letter : ℕ → Repeat → Seq → Seq
-    union : Alts → Seq → Seq
+    union : Mark → Alts → Seq → Seq
 
   pub data Alts : Type 0 where
     last : Seq → Alts
@@ -38,4 +48,4 @@ Tree = Seq
 abbrev pub glue : Seq → Seq → Seq
 glue end t = t
 glue (letter c r s) t = letter c r (glue s t)
-glue (union a s) t = union a (glue s t)
+glue (union m a s) t = union m a (glue s t)

@@ -85,6 +85,30 @@ marked =
     ∷ refusedWith2 "[c-ab]"
     ∷ []
 
+-- document 02, Wish 3: which groups keep their `?`, and what the edge over them does
+abbrev pub optionalGroups : List Row
+optionalGroups =
+    "(ab)?" ⊨ isWritten "(ab)?"
+    ∷ "(ab)?" ⊨ hasStates 5
+    ∷ "(ab)?" ⊨ propagateAt 0 17 1 16
+    ∷ "(ab)?" ⊨ hasEnds "ab" (0 ∷ 1 ∷ 2 ∷ [])
+    ∷ "(a?)?" ⊨ isWritten "a?"
+    ∷ "(a?)?" ⊨ hasStates 2
+    ∷ "(flush|drain)?" ⊨ isWritten "(flush|drain)?"
+    ∷ "x(fl|dr)?y" ⊨ hasEnds "xyxdryx" (2 ∷ 6 ∷ [])
+    ∷ "(a)?" ⊨ isWritten "(a)?"
+    ∷ "((ab))?" ⊨ isWritten "(ab)?"
+    ∷ "((a|b))?" ⊨ isWritten "((a|b))?"
+    ∷ "x(a?b?)?y" ⊨ isWritten "xa?b?y"
+    ∷ "(a?|b)?" ⊨ isWritten "(a?|b)"
+    ∷ "((ab)?)?" ⊨ isWritten "(ab)?"
+    ∷ "((ab)?|c)?" ⊨ isWritten "((ab)?|c)"
+    ∷ "(a{,2})?" ⊨ isWritten "a?a?"
+    ∷ refusedWith2 "(a)*"
+    ∷ refusedWith2 "(a)??"
+    ∷ refusedWith2 "(a){2}"
+    ∷ []
+
 -- further examples: those that document 01 lists without the mark and a checker can compute, and doubtful points
 abbrev pub further : List Row
 further =

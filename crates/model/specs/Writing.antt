@@ -6,7 +6,7 @@ use lib.Dec.{leb, ltb, eqb}
 use Rattle.model.specs.Lists.{within}
 use Rattle.model.specs.Bits.{bit}
 use Rattle.model.specs.Bytes.{byte, bytes, signs}
-use Rattle.model.specs.Tree.{Alts, end, last, letter, more, once, option, plus, Repeat, star, Tree, union}
+use Rattle.model.specs.Tree.{Alts, end, last, letter, Mark, more, once, option, optional, plus, Repeat, star, Tree, union, unmarked}
 use Rattle.model.specs.Grammar.{every}
 
 -- an "upper-case digit"
@@ -50,12 +50,16 @@ repeatWriting option = bytes "?"
 repeatWriting star = bytes "*"
 repeatWriting plus = bytes "+"
 
+abbrev pub markWriting : Mark → List ℕ
+markWriting unmarked = []
+markWriting optional = bytes "?"
+
 -- "Every union is bracketed, also at the top."
 abbrev mutual
   pub writing : Tree → List ℕ
   writing end = []
   writing (letter c r s) = classWriting c ++ (repeatWriting r ++ writing s)
-  writing (union a s) = byte "(" ∷ (altsWriting a ++ (byte ")" ∷ writing s))
+  writing (union m a s) = byte "(" ∷ (altsWriting a ++ (byte ")" ∷ (markWriting m ++ writing s)))
 
   pub altsWriting : Alts → List ℕ
   altsWriting (last s) = writing s

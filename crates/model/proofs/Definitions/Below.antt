@@ -45,8 +45,8 @@ mutual
         skips = λ x. record { still = λ q r m. omega (arith, m .0, m .1); byte = λ b q r m. absurd m };
         rest = below s (suc t) k;
       })
-  below (union a s) t k =
-      branch-whole (To z) a s t k (record {
+  below (union m a s) t k =
+      branch-whole (To z) m a s t k (record {
         skips = λ x. record { still = λ q r m. omega (arith, m .0, m .1, altsEnd-lt a t, seqEnd-le s u); byte = λ b q r m. absurd m };
         forks = record { still = fork; byte = λ b q r m. absurd m };
         alts = all-map (To (altsEnd a t)) (To z) (higher (omega (arith, seqEnd-le s u))) (altsArcs a t k) (alts-below a t k);
@@ -60,8 +60,8 @@ mutual
       z = seqEnd s u
 
       fork : (q r : ℕ) → Still (forkArc (ways a t)) t u q r → (q < r) × (r ≤ z)
-      fork q r (inl m) = omega (arith, m .0, starts-between a t r (m .1), seqEnd-le s u)
-      fork q r (inr m) = omega (arith, ends-below a t q (m .0), m .1, seqEnd-le s u)
+      fork q r (inl x) = omega (arith, x .0, starts-between a t r (x .1), seqEnd-le s u)
+      fork q r (inr x) = omega (arith, ends-below a t q (x .0), x .1, seqEnd-le s u)
 
   alts-below : (a : Alts) (p k : ℕ) → All (To (altsEnd a p)) (altsArcs a p k)
   alts-below (last s) p k = below s (suc p) (suc k)

@@ -68,7 +68,7 @@ mutual
   steps : (s : Seq) (t k : ℕ) → All ArcSteps (arcs s t k)
   steps end t k = tt
   steps (letter c r s) t k = letter-whole ArcSteps c r s t k (record { takes = refl; loops = λ x. (refl, omega arith); skips = λ x. tt; rest = steps s (suc t) k })
-  steps (union a s) t k = branch-whole ArcSteps a s t k (record { skips = λ x. tt; forks = tt; alts = altsSteps a t k; rest = steps s (suc (altsEnd a t)) k })
+  steps (union m a s) t k = branch-whole ArcSteps m a s t k (record { skips = λ x. tt; forks = tt; alts = altsSteps a t k; rest = steps s (suc (altsEnd a t)) k })
 
   altsSteps : (a : Alts) (p k : ℕ) → All ArcSteps (altsArcs a p k)
   altsSteps (last s) p k = steps s (suc p) (suc k)

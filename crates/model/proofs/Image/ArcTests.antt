@@ -5,8 +5,8 @@ use mathlib.Core.Bool.{Bool, true, false, _&&_, _||_, or-assoc}
 use mathlib.Core.List.{List, _∷_, _++_}
 use Prim.Native.Nat.{ℕ, suc}
 use Rattle.model.specs.Lists.{any}
-use Rattle.model.specs.Tree.{Alts, canLoop, canSkip, letter, more, Repeat, Seq, union}
-use Rattle.model.specs.Edges.{altsEmpty, altsEnd, seqEnd, Way, ways}
+use Rattle.model.specs.Tree.{Alts, canLoop, canSkip, letter, Mark, more, Repeat, Seq, union}
+use Rattle.model.specs.Edges.{altsEnd, seqEnd, unionEmpty, Way, ways}
 use Rattle.model.proofs.Language.Arcs.{altsArcs, Arc, arc, arcs, forkArc, letterArc, loopArc, propagateArc, when}
 use Rattle.model.proofs.Laws.Lists.{any-app}
 
@@ -42,10 +42,10 @@ module _ (g : Arc → Bool) where
       go : (a l p f : Bool) → (a || (l || (p || f))) ≡ ((a || (l || p)) || f)
       go a l p f = simp or-assoc
 
-  pub any-union : (a : Alts) (s : Seq) (t k : ℕ) → any g (arcs (union a s) t k)
-      ≡ (branchTest (altsEmpty a) k t (ways a t) (suc (altsEnd a t)) || (any g (altsArcs a t k) || any g (arcs s (suc (altsEnd a t)) k)))
-  any-union a s t k =
-      any-when (altsEmpty a) (arc propagateArc k t u) (arc (forkArc (ways a t)) k t u ∷ (altsArcs a t k ++ arcs s u k))
+  pub any-union : (m : Mark) (a : Alts) (s : Seq) (t k : ℕ) → any g (arcs (union m a s) t k)
+      ≡ (branchTest (unionEmpty m a) k t (ways a t) (suc (altsEnd a t)) || (any g (altsArcs a t k) || any g (arcs s (suc (altsEnd a t)) k)))
+  any-union m a s t k =
+      any-when (unionEmpty m a) (arc propagateArc k t u) (arc (forkArc (ways a t)) k t u ∷ (altsArcs a t k ++ arcs s u k))
       ∙ ap (λ (v : Bool). P || (F || v)) (any-app g (altsArcs a t k) (arcs s u k))
       ∙ sym (or-assoc P F (any g (altsArcs a t k) || any g (arcs s u k)))
     where
@@ -53,7 +53,7 @@ module _ (g : Arc → Bool) where
       u = suc (altsEnd a t)
 
       P : Bool
-      P = altsEmpty a && g (arc propagateArc k t u)
+      P = unionEmpty m a && g (arc propagateArc k t u)
 
       F : Bool
       F = g (arc (forkArc (ways a t)) k t u)

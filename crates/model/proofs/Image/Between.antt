@@ -9,9 +9,10 @@ use native.Mathlib.Omega.{arith}
 use lib.Dec.{T}
 use lib.ListN.{length, getD}
 use Rattle.model.specs.Lists.{All}
-use Rattle.model.specs.Tree.{Alts, canLoop, canSkip, end, last, letter, more, Repeat, Seq, union}
-use Rattle.model.specs.Edges.{altsEnd, seqEnd, Way, ways}
-use Rattle.model.specs.Models.Tokens.{aBar, aClose, aLetter, altsTokens, anOpen, Token, tokens}
+use Rattle.model.specs.Tree.{Alts, canLoop, canOmit, canSkip, end, last, letter, Mark, more, Repeat, Seq, union}
+use Rattle.model.specs.Edges.{altsEmpty, altsEnd, seqEnd, Way, ways}
+use Rattle.model.specs.Models.Tokens.{aBar, aClose, aLetter, altsTokens, anOpen, shown, Token, tokens}
+use Rattle.model.proofs.Image.Unions.{shown-empty}
 use Rattle.model.proofs.Language.Arcs.{altsArcs, Arc, arc, ArcKind, arcs, Branch, branch-parts, branch-whole, forkArc, Letter, letter-parts, letter-whole, letterArc, loopArc, propagateArc}
 use Rattle.model.proofs.Laws.Bool.{le-or-lt}
 use Rattle.model.proofs.Laws.Lists.{all-app, all-in, all-left, all-right, In, in-all}
@@ -19,13 +20,13 @@ use Rattle.model.proofs.Laws.Lists.{all-app, all-in, all-left, all-righ
 -- what an arc says of the tokens, where K i stands after state i
 pub data Skips (K : ℕ → Token) (i j : ℕ) : Type 0 where
   over-letter : (c : ℕ) (r : Repeat) → j ≡ suc i → K i ≡ aLetter c r → T (canSkip r) → Skips K i j
-  over-union : (z : ℕ) → j ≡ suc z → K z ≡ aClose → Skips K i j
+  over-union : (z : ℕ) (m : Mark) → j ≡ suc z → K z ≡ aClose m → T (canOmit m) → Skips K i j
 
 abbrev pub Says : (K : ℕ → Token) → ArcKind → ℕ → ℕ → Type 0
 Says K (letterArc c) i j = (j ≡ suc i) × (r : Repeat) × (K i ≡ aLetter c r)
 Says K (loopArc c) i j = (j ≡ i) × (z : ℕ) × (r : Repeat) × (i ≡ suc z) × (K z ≡ aLetter c r) × T (canLoop r)
 Says K propagateArc i j = Skips K i j
-Says K (forkArc xs) i j = (K i ≡ anOpen) × (z : ℕ) × (j ≡ suc z) × (K z ≡ aClose)
+Says K (forkArc xs) i j = (K i ≡ anOpen) × (z : ℕ) × (m : Mark) × (j ≡ suc z) × (K z ≡ aClose m)
 
 -- what a token after state i says of the arcs that have E; a bar says nothing
 abbrev pub Owns : (Arc → Type 0) → Token → ℕ → Type 0
@@ -33,7 +34,7 @@ Owns E (aLetter c r) i =
     (k : ℕ) × E (arc (letterArc c) k i (suc i)) × (T (canLoop r) → E (arc (loopArc c) k (suc i) (suc i))) × (T (canSkip r) → E (arc propagateArc k i (suc i)))
 Owns E anOpen i = (xs : List Way) × (k : ℕ) × (j : ℕ) × E (arc (forkArc xs) k i j)
 Owns E aBar i = Unit
-Owns E aClose i = (xs : List Way) × (k : ℕ) × (j : ℕ) × E (arc (forkArc xs) k j (suc i))
+Owns E (aClose m) i = (xs : List Way) × (k : ℕ) × (j : ℕ) × E (arc (forkArc xs) k j (suc i)) × (T (canOmit m) → E (arc propagateArc k j (suc i)))
 
 -- ---- the token after each state
 module _ (K : ℕ → Token) where
@@ -41,14 +42,14 @@ module _ (K : ℕ → Token) where
     Shows : Seq → ℕ → Type 0
     Shows end t = Unit
     Shows (letter c r s) t = (K t ≡ aLetter c r) × Shows s (suc t)
-    Shows (union a s) t = (K t ≡ anOpen) × ShowsAlts a t × Shows s (suc (altsEnd a t))
+    Shows (union m a s) t = (K t ≡ anOpen) × ShowsAlts a (shown m (altsEmpty a)) t × Shows s (suc (altsEnd a t))
 
-    ShowsAlts : Alts → ℕ → Type 0
-    ShowsAlts (last s) p = Shows s (suc p) × (K (seqEnd s (suc p)) ≡ aClose)
-    ShowsAlts (more s a) p = Shows s (suc p) × (K (seqEnd s (suc p)) ≡ aBar) × ShowsAlts a (seqEnd s (suc p))
+    ShowsAlts : Alts → Mark → ℕ → Type 0
+    ShowsAlts (last s) m p = Shows s (suc p) × (K (seqEnd s (suc p)) ≡ aClose m)
+    ShowsAlts (more s a) m p = Shows s (suc p) × (K (seqEnd s (suc p)) ≡ aBar) × ShowsAlts a m (seqEnd s (suc p))
 
   abbrev Reads : ℕ → List Token → Type 0
-  Reads t l = (i : ℕ) → i < length l → K (t + i) ≡ getD l i aClose
+  Reads t l = (i : ℕ) → i < length l → K (t + i) ≡ getD l i aBar
 
   reads-head : (t : ℕ) (x : Token) (l : List Token) → Reads t (x ∷ l) → K t ≡ x
   reads-head t x l h = ap K (sym (add-zero t)) ∙ h 0 (omega arith)
@@ -62,27 +63,28 @@ module _ (K : ℕ → Token) where
     shows (letter c r s) t rest h =
         let m = shows s (suc t) rest (reads-tail t (aLetter c r) (tokens s rest) h) in
         ((reads-head t (aLetter c r) (tokens s rest) h, m .0), m .1)
-    shows (union a s) t rest h =
-        let m = shows-alts a t (tokens s rest) (reads-tail t anOpen (altsTokens a (tokens s rest)) h) in
-        let n = shows s (suc (altsEnd a t)) rest (m .1) in
-        ((reads-head t anOpen (altsTokens a (tokens s rest)) h, m .0, n .0), n .1)
+    shows (union m a s) t rest h =
+        let o = shown m (altsEmpty a) in
+        let l = shows-alts a o t (tokens s rest) (reads-tail t anOpen (altsTokens a o (tokens s rest)) h) in
+        let n = shows s (suc (altsEnd a t)) rest (l .1) in
+        ((reads-head t anOpen (altsTokens a o (tokens s rest)) h, l .0, n .0), n .1)
 
-    shows-alts : (a : Alts) (p : ℕ) (rest : List Token) → Reads (suc p) (altsTokens a rest) → ShowsAlts a p × Reads (suc (altsEnd a p)) rest
-    shows-alts (last s) p rest h =
-        let m = shows s (suc p) (aClose ∷ rest) h in
-        ((m .0, reads-head (seqEnd s (suc p)) aClose rest (m .1)), reads-tail (seqEnd s (suc p)) aClose rest (m .1))
-    shows-alts (more s a) p rest h =
-        let m = shows s (suc p) (aBar ∷ altsTokens a rest) h in
-        let n = shows-alts a (seqEnd s (suc p)) rest (reads-tail (seqEnd s (suc p)) aBar (altsTokens a rest) (m .1)) in
-        ((m .0, reads-head (seqEnd s (suc p)) aBar (altsTokens a rest) (m .1), n .0), n .1)
+    shows-alts : (a : Alts) (m : Mark) (p : ℕ) (rest : List Token) → Reads (suc p) (altsTokens a m rest) → ShowsAlts a m p × Reads (suc (altsEnd a p)) rest
+    shows-alts (last s) m p rest h =
+        let l = shows s (suc p) (aClose m ∷ rest) h in
+        ((l .0, reads-head (seqEnd s (suc p)) (aClose m) rest (l .1)), reads-tail (seqEnd s (suc p)) (aClose m) rest (l .1))
+    shows-alts (more s a) m p rest h =
+        let l = shows s (suc p) (aBar ∷ altsTokens a m rest) h in
+        let n = shows-alts a m (seqEnd s (suc p)) rest (reads-tail (seqEnd s (suc p)) aBar (altsTokens a m rest) (l .1)) in
+        ((l .0, reads-head (seqEnd s (suc p)) aBar (altsTokens a m rest) (l .1), n .0), n .1)
 
   -- ---- each arc speaks of the tokens
   abbrev Told : Arc → Type 0
   Told e = Says K (e .kind) (e .from) (e .to)
 
-  close-at-end : (a : Alts) (p : ℕ) → ShowsAlts a p → K (altsEnd a p) ≡ aClose
-  close-at-end (last s) p S = S .1
-  close-at-end (more s a) p S = close-at-end a (seqEnd s (suc p)) (S .2)
+  close-at-end : (a : Alts) (m : Mark) (p : ℕ) → ShowsAlts a m p → K (altsEnd a p) ≡ aClose m
+  close-at-end (last s) m p S = S .1
+  close-at-end (more s a) m p S = close-at-end a m (seqEnd s (suc p)) (S .2)
 
   mutual
     told : (s : Seq) (t k : ℕ) → Shows s t → All Told (arcs s t k)
@@ -94,19 +96,20 @@ module _ (K : ℕ → Token) where
           skips = λ x. over-letter c r refl (S .0) x;
           rest = told s (suc t) k (S .1);
         })
-    told (union a s) t k S =
-        let closed = close-at-end a t (S .1) in
-        branch-whole Told a s t k (record {
-          skips = λ x. over-union (altsEnd a t) refl closed;
-          forks = (S .0, altsEnd a t, refl, closed);
-          alts = told-alts a t k (S .1);
+    told (union m a s) t k S =
+        let o = shown m (altsEmpty a) in
+        let closed = close-at-end a o t (S .1) in
+        branch-whole Told m a s t k (record {
+          skips = λ x. over-union (altsEnd a t) o refl closed (subst T (sym (shown-empty m (altsEmpty a))) x);
+          forks = (S .0, altsEnd a t, o, refl, closed);
+          alts = told-alts a o t k (S .1);
           rest = told s (suc (altsEnd a t)) k (S .2);
         })
 
-    told-alts : (a : Alts) (p k : ℕ) → ShowsAlts a p → All Told (altsArcs a p k)
-    told-alts (last s) p k S = told s (suc p) (suc k) (S .0)
-    told-alts (more s a) p k S =
-        all-app Told (arcs s (suc p) (suc k)) (altsArcs a (seqEnd s (suc p)) k) (told s (suc p) (suc k) (S .0)) (told-alts a (seqEnd s (suc p)) k (S .2))
+    told-alts : (a : Alts) (m : Mark) (p k : ℕ) → ShowsAlts a m p → All Told (altsArcs a p k)
+    told-alts (last s) m p k S = told s (suc p) (suc k) (S .0)
+    told-alts (more s a) m p k S =
+        all-app Told (arcs s (suc p) (suc k)) (altsArcs a (seqEnd s (suc p)) k) (told s (suc p) (suc k) (S .0)) (told-alts a m (seqEnd s (suc p)) k (S .2))
 
   -- ---- each token owns its arcs
   module _ (E : Arc → Type 0) where
@@ -127,27 +130,34 @@ module _ (K : ℕ → Token) where
           go : (t ≡ i) ⊎ (t < i) → (t < i → Owned i) → Owned i
           go (inl q) later = here t i (aLetter c r) q (S .0) (k, B .takes, B .loops, B .skips)
           go (inr m) later = later m
-      owned (union a s) t k S A i h l =
-          go (eq-or-lt-of-le h) (le-or-lt i (altsEnd a t)) (λ m n. owned-alts a t k (S .1) (B .alts) (ways a t, k, t, B .forks) i m n)
-          (λ m. owned s (suc (altsEnd a t)) k (S .2) (B .rest) i m l)
+      owned (union m a s) t k S A i h l =
+          go (eq-or-lt-of-le h) (le-or-lt i (altsEnd a t)) (λ x n. owned-alts a o t k (S .1) (B .alts) own i x n)
+          (λ x. owned s (suc (altsEnd a t)) k (S .2) (B .rest) i x l)
         where
-          B : Branch E a s t k
-          B = branch-parts E a s t k A
+          B : Branch E m a s t k
+          B = branch-parts E m a s t k A
+
+          o : Mark
+          o = shown m (altsEmpty a)
+
+          own : Owns E (aClose o) (altsEnd a t)
+          own = (ways a t, k, t, B .forks, λ x. B .skips (subst T (shown-empty m (altsEmpty a)) x))
 
           go : (t ≡ i) ⊎ (t < i) → (i ≤ altsEnd a t) ⊎ (altsEnd a t < i) → (t < i → i ≤ altsEnd a t → Owned i) → (altsEnd a t < i → Owned i) → Owned i
-          go (inl q) o within later = here t i anOpen q (S .0) (ways a t, k, suc (altsEnd a t), B .forks)
-          go (inr m) (inl n) within later = within m n
-          go (inr m) (inr n) within later = later n
+          go (inl q) y within later = here t i anOpen q (S .0) (ways a t, k, suc (altsEnd a t), B .forks)
+          go (inr x) (inl n) within later = within x n
+          go (inr x) (inr n) within later = later n
 
-      owned-alts : (a : Alts) (p k : ℕ) → ShowsAlts a p → All E (altsArcs a p k) → Owns E aClose (altsEnd a p) → (i : ℕ) → p < i → i ≤ altsEnd a p → Owned i
-      owned-alts (last s) p k S A o i h l = go (eq-or-lt-of-le l) (λ m. owned s (suc p) (suc k) (S .0) A i h m)
+      owned-alts : (a : Alts) (m : Mark) (p k : ℕ) → ShowsAlts a m p → All E (altsArcs a p k) → Owns E (aClose m) (altsEnd a p)
+          → (i : ℕ) → p < i → i ≤ altsEnd a p → Owned i
+      owned-alts (last s) m p k S A o i h l = go (eq-or-lt-of-le l) (λ m. owned s (suc p) (suc k) (S .0) A i h m)
         where
           go : (i ≡ seqEnd s (suc p)) ⊎ (i < seqEnd s (suc p)) → (i < seqEnd s (suc p) → Owned i) → Owned i
-          go (inl q) within = here (seqEnd s (suc p)) i aClose (sym q) (S .1) o
-          go (inr m) within = within m
-      owned-alts (more s a) p k S A o i h l =
+          go (inl q) within = here (seqEnd s (suc p)) i (aClose m) (sym q) (S .1) o
+          go (inr x) within = within x
+      owned-alts (more s a) m p k S A o i h l =
           go (le-or-lt i z) (λ m. owned s (suc p) (suc k) (S .0) (all-left E (arcs s (suc p) (suc k)) (altsArcs a z k) A) i h m)
-          (λ m. owned-alts a (seqEnd s (suc p)) k (S .2) (all-right E (arcs s (suc p) (suc k)) (altsArcs a z k) A) o i m l)
+          (λ x. owned-alts a m (seqEnd s (suc p)) k (S .2) (all-right E (arcs s (suc p) (suc k)) (altsArcs a z k) A) o i x l)
         where
           z : ℕ
           z = seqEnd s (suc p)
@@ -164,7 +174,7 @@ module _ (K : ℕ → Token) where
 module _ (s : Seq) where
   -- the token after state i
   abbrev pub token : ℕ → Token
-  token i = getD (tokens s []) i aClose
+  token i = getD (tokens s []) i aBar
 
   all-shown : Shows token s 0
   all-shown = shows token s 0 [] (λ i h. ap token (zero-add i)) .0

@@ -20,12 +20,12 @@ abbrev pub Fine : Token → Type 0
 Fine (aLetter c r) = Class c
 Fine anOpen = Unit
 Fine aBar = Unit
-Fine aClose = Unit
+Fine (aClose m) = Unit
 
 abbrev pub AllFine : List Token → Type 0
 AllFine l = All Fine l
 
-pub fine-at : (l : List Token) (i : ℕ) → AllFine l → Fine (getD l i aClose)
+pub fine-at : (l : List Token) (i : ℕ) → AllFine l → Fine (getD l i aBar)
 fine-at [] i A = tt
 fine-at (x ∷ xs) zero A = A .0
 fine-at (x ∷ xs) (suc i) A = fine-at xs i (A .1)

@@ -14,7 +14,7 @@ use Rattle.model.specs.Bits.{bit, mask}
 use Rattle.model.specs.Image.{section, width}
 use Rattle.model.specs.Models.Apart.{anyBelow, bitOf, chunk, depthWord, gatherIn, lettersIn, propagateIn, repeatsIn, scatterIn, stateWord, tape, tokenAt, tokenOf, tokensBetween, tokensFrom, widthWord}
 use Rattle.model.specs.Models.LayOut.{assemble, begin, blockOf, gather-block, gather-source, gather-target, laid, layOut, loop-place, reach, scatter-block, scatter-source, scatter-target, set, sourceOf, targetOf, three, tokenLetters, tokenLoops, valid, Which}
-use Rattle.model.specs.Models.Tokens.{aClose, classOf, Token}
+use Rattle.model.specs.Models.Tokens.{aBar, classOf, Token}
 use Rattle.model.specs.Models.Verdict.{accepts}
 use Rattle.model.specs.Models.Words.{andWords, Fit, value}
 use Rattle.model.proofs.Image.LetterPlaces.{repeats-by-letters}
@@ -88,12 +88,12 @@ pub length-between : (m : ℕ) (f : ℕ → Token) → T (valid (tokensBetween m
 length-between zero f v = absurd v
 length-between (suc n) f v = ap suc (length-from n 0 f)
 
-getD-from : (n a i : ℕ) (f : ℕ → Token) → i < n → getD (tokensFrom n a f) i aClose ≡ f (a + i)
+getD-from : (n a i : ℕ) (f : ℕ → Token) → i < n → getD (tokensFrom n a f) i aBar ≡ f (a + i)
 getD-from zero a i f h = absurd (not-suc-le-zero h)
 getD-from (suc n) a zero f h = let e : a ≡ a + 0 = omega arith in ap f e
 getD-from (suc n) a (suc i) f h = getD-from n (suc a) i f (le-of-suc-le-suc h) ∙ (let e : suc a + i ≡ a + suc i = omega arith in ap f e)
 
-pub getD-between : (m i : ℕ) (f : ℕ → Token) → suc i < m → getD (tokensBetween m f) i aClose ≡ f i
+pub getD-between : (m i : ℕ) (f : ℕ → Token) → suc i < m → getD (tokensBetween m f) i aBar ≡ f i
 getD-between zero i f h = absurd (not-suc-le-zero h)
 getD-between (suc n) i f h = getD-from n 0 i f (le-of-suc-le-suc h) ∙ ap f (zero-add i)
 

@@ -25,7 +25,7 @@ use Rattle.model.proofs.Image.Classes.{AllFine}
 use Rattle.model.proofs.Image.OfEdges.{image-is}
 use Rattle.model.proofs.Image.Tape.{tape-is}
 use Rattle.model.proofs.Image.Tokens.{tokens-inj}
-use Rattle.model.proofs.Image.Valid.{good-full}
+use Rattle.model.proofs.Image.Unions.{good-full}
 use Rattle.model.proofs.Image.Verdict.{is-image, IsImage}
 use Rattle.model.proofs.Image.WellFormed.{well-fine, well-formed}
 use Rattle.model.proofs.Language.Stretches.{feed}
@@ -40,7 +40,7 @@ pub tape-of : (s : Seq) → AllFine (tokens s []) → tape (image s) ≡ tokens 
 tape-of s F = ap tape (image-is s) ∙ tape-is s F
 
 pub image-inj : (s s′ : Seq) → WellFormed s → WellFormed s′ → image s ≡ image s′ → s ≡ s′
-image-inj s s′ W W′ e = tokens-inj s s′ (sym (tape-of s (well-fine s W)) ∙ ap tape e ∙ tape-of s′ (well-fine s′ W′))
+image-inj s s′ W W′ e = tokens-inj s s′ (well-formed s .0 W .1) (well-formed s′ .0 W′ .1) (sym (tape-of s (well-fine s W)) ∙ ap tape e ∙ tape-of s′ (well-fine s′ W′))
 
 -- ---- WHETHER WORDS ARE AN IMAGE IS DECIDED
 -- the well-formed trees are those of rules

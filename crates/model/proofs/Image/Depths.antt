@@ -33,8 +33,8 @@ mutual
         skips = λ y. (omega arith, λ x. absurd x);
         rest = shallow s (suc t) k n h;
       })
-  shallow (union a s) t k n h =
-      branch-whole (Shallow n) a s t k (record {
+  shallow (union m a s) t k n h =
+      branch-whole (Shallow n) m a s t k (record {
         skips = λ y. (omega arith, λ x. absurd x);
         forks = (omega arith, λ x. omega arith);
         alts = shallow-alts a t k n (omega arith);

@@ -5,13 +5,14 @@ use mathlib.Core.List.{List, [], _∷_}
 use Prim.Native.Nat.{ℕ, suc}
 use lib.ListN.{length}
 use Rattle.model.specs.Lists.{any}
-use Rattle.model.specs.Tree.{Alts, end, last, letter, more, Seq, union}
-use Rattle.model.specs.Edges.{altsEmpty, altsEnd, seqEmpty, seqEnd}
+use Rattle.model.specs.Tree.{Alts, canOmit, end, last, letter, Mark, more, Seq, union}
+use Rattle.model.specs.Edges.{altsEmpty, altsEnd, seqEmpty, seqEnd, unionEmpty}
 use Rattle.model.specs.Models.LayOut.{barMarks, begin, bridgeMarks, closeMarksIn, Frame, layOut, nextAlternative, opened, openMarks, Scan, step, Which}
-use Rattle.model.specs.Models.Tokens.{aBar, aClose, aLetter, altsTokens, Token, tokens}
+use Rattle.model.specs.Models.Tokens.{aBar, aClose, aLetter, altsTokens, shown, Token, tokens}
 use Rattle.model.proofs.Image.ArcTests.{any-letter, any-more, any-union, letterTest}
 use Rattle.model.proofs.Image.Marks.{bridge-marks, letter-marks, on, tailMarks, union-marks}
-use Rattle.model.proofs.Image.Scan.{after, after-bar, after-end, after-letter, after-union, afterUnion, alternativeAt}
+use Rattle.model.proofs.Image.Scan.{after, after-end, after-letter, after-union, afterUnion, alternativeAt}
+use Rattle.model.proofs.Image.Unions.{shown-empty}
 use Rattle.model.proofs.Language.Arcs.{altsArcs, Arc, arc, arcs, propagateArc}
 use Rattle.model.proofs.Laws.Bool.{or-left-comm}
 
@@ -37,13 +38,13 @@ module _ (w : Which) (k x : ℕ) where
 
         d : ℕ
         d = length (q .stack)
-    sets (union a s) rest q =
+    sets (union m a s) rest q =
         ap (λ (v : Bool). O || v)
-        (sets-alts a (tokens s rest) t (opened q) (q .stack)
-        ∙ ap₂ (λ (u v : Bool). (I || (M || (altsEmpty a && u))) || v) (bridge-marks w k x d t u) (sets s rest (afterUnion a t (opened q) (q .stack))))
-        ∙ go O I M P F (laidFrom rest (after s (afterUnion a t (opened q) (q .stack))))
-        ∙ ap₂ (λ (v : Bool) (z : Scan). ((P || v) || (I || F)) || laidFrom rest z) (union-marks w k x d a q) (after-union a s q)
-        ∙ ap (λ (v : Bool). v || laidFrom rest (after (union a s) q)) (sym (any-union (on w k x) a s t d))
+        (sets-alts a n (tokens s rest) t (opened q) (q .stack)
+        ∙ (λ i. (I || (M || (shown-empty m (altsEmpty a) i && bridge-marks w k x d t u i))) || sets s rest (afterUnion a n t (opened q) (q .stack)) i))
+        ∙ go O I M P F (laidFrom rest (after s (afterUnion a n t (opened q) (q .stack))))
+        ∙ ap₂ (λ (v : Bool) (z : Scan). ((P || v) || (I || F)) || laidFrom rest z) (union-marks w k x d a q) (after-union m a s q)
+        ∙ ap (λ (v : Bool). v || laidFrom rest (after (union m a s) q)) (sym (any-union (on w k x) m a s t d))
       where
         t : ℕ
         t = q .position
@@ -53,6 +54,9 @@ module _ (w : Which) (k x : ℕ) where
 
         u : ℕ
         u = suc (altsEnd a t)
+
+        n : Mark
+        n = shown m (altsEmpty a)
 
         O : Bool
         O = openMarks t d w k x
@@ -64,7 +68,7 @@ module _ (w : Which) (k x : ℕ) where
         M = tailMarks a t d (opened q) w k x
 
         P : Bool
-        P = altsEmpty a && on w k x (arc propagateArc d t u)
+        P = unionEmpty m a && on w k x (arc propagateArc d t u)
 
         F : Bool
         F = marked (arcs s u d)
@@ -73,20 +77,19 @@ module _ (w : Which) (k x : ℕ) where
         go o i m p f r = simp (or-assoc, or-left-comm)
 
     -- the alternatives after state p of an open union: their arcs, the union's bars and close, its propagate edge
-    sets-alts : (a : Alts) (rest : List Token) (p : ℕ) (f : Frame) (st : List Frame) → laidFrom (altsTokens a rest) (alternativeAt p f st)
+    sets-alts : (a : Alts) (m : Mark) (rest : List Token) (p : ℕ) (f : Frame) (st : List Frame) → laidFrom (altsTokens a m rest) (alternativeAt p f st)
         ≡ ((marked (altsArcs a p (length st))
-        || (tailMarks a p (length st) f w k x || ((f .emptyBefore || altsEmpty a) && bridgeMarks (f .start) (suc (altsEnd a p)) (length st) w k x)))
-        || laidFrom rest (afterUnion a p f st))
-    sets-alts (last s) rest p f st =
-        sets s (aClose ∷ rest) (alternativeAt p f st)
-        ∙ sym (or-assoc (marked (arcs s (suc p) (suc (length st)))) (closeMarksIn (seqEnd s (suc p)) (seqEmpty s) (f ∷ st) w k x)
-        (laidFrom rest (afterUnion (last s) p f st)))
-    sets-alts (more s a) rest p f st =
-        sets s (aBar ∷ altsTokens a rest) (alternativeAt p f st)
-        ∙ ap (λ (v : Bool). H || (B || v)) (sets-alts a rest z g st)
-        ∙ (λ i. H || (B || ((I || (M || (or-assoc (f .emptyBefore) (seqEmpty s) (altsEmpty a) i && P))) || laidFrom rest (after-bar s a p f st i))))
-        ∙ go H B I M (Y && P) R
-        ∙ ap (λ (v : Bool). (v || ((B || M) || (Y && P))) || R) (sym (any-more (on w k x) s a p d))
+        || (tailMarks a p (length st) f w k x || (canOmit m && bridgeMarks (f .start) (suc (altsEnd a p)) (length st) w k x)))
+        || laidFrom rest (afterUnion a m p f st))
+    sets-alts (last s) m rest p f st =
+        sets s (aClose m ∷ rest) (alternativeAt p f st)
+        ∙ sym (or-assoc (marked (arcs s (suc p) (suc (length st)))) (closeMarksIn m (seqEnd s (suc p)) (f ∷ st) w k x)
+        (laidFrom rest (afterUnion (last s) m p f st)))
+    sets-alts (more s a) m rest p f st =
+        sets s (aBar ∷ altsTokens a m rest) (alternativeAt p f st)
+        ∙ ap (λ (v : Bool). H || (B || v)) (sets-alts a m rest z g st)
+        ∙ go H B I M P R
+        ∙ ap (λ (v : Bool). (v || ((B || M) || P)) || R) (sym (any-more (on w k x) s a p d))
       where
         d : ℕ
         d = length st
@@ -109,14 +112,11 @@ module _ (w : Which) (k x : ℕ) where
         M : Bool
         M = tailMarks a z d g w k x
 
-        Y : Bool
-        Y = f .emptyBefore || (seqEmpty s || altsEmpty a)
-
         P : Bool
-        P = bridgeMarks (f .start) (suc (altsEnd a z)) d w k x
+        P = canOmit m && bridgeMarks (f .start) (suc (altsEnd a z)) d w k x
 
         R : Bool
-        R = laidFrom rest (afterUnion (more s a) p f st)
+        R = laidFrom rest (afterUnion (more s a) m p f st)
 
         go : (h b i m p r : Bool) → (h || (b || ((i || (m || p)) || r))) ≡ (((h || i) || ((b || m) || p)) || r)
         go h b i m p r = simp (or-assoc, or-left-comm)

@@ -10,7 +10,7 @@ use native.Mathlib.Omega.{arith}
 use lib.Dec.{T, eqb, eqb-refl}
 use lib.ListN.{length, getD}
 use Rattle.model.specs.Bits.{bit}
-use Rattle.model.specs.Tree.{canLoop, once, option, plus, star}
+use Rattle.model.specs.Tree.{canLoop, canOmit, once, option, plus, star}
 use Rattle.model.specs.Models.Apart.{anyBelow, bitOf, lettersIn, stateWord, widthWord}
 use Rattle.model.specs.Models.LayOut.{afterBar, afterClose, barMarksIn, begin, closeMarksIn, Frame, layOut, letter-place, loop-place, mark, Scan, set, step, tokenLetters, tokenLoops, Which}
 use Rattle.model.specs.Models.Tokens.{aBar, aClose, aLetter, anOpen, classOf, loopClassOf, Token}
@@ -25,13 +25,13 @@ abbrev pub isLetter : Token → Bool
 isLetter (aLetter c r) = true
 isLetter anOpen = false
 isLetter aBar = false
-isLetter aClose = false
+isLetter (aClose m) = false
 
 abbrev pub isLooping : Token → Bool
 isLooping (aLetter c r) = canLoop r
 isLooping anOpen = false
 isLooping aBar = false
-isLooping aClose = false
+isLooping (aClose m) = false
 
 -- each token leads one state on
 pub position-step : (y : Token) (q : Scan) → step y q .position ≡ suc (q .position)
@@ -42,9 +42,9 @@ position-step aBar q = go (q .stack)
     go : (st : List Frame) → afterBar (q .position) (q .canBeEmpty) st .position ≡ suc (q .position)
     go [] = refl
     go (f ∷ st) = refl
-position-step aClose q = go (q .stack)
+position-step (aClose m) q = go (q .stack)
   where
-    go : (st : List Frame) → afterClose (q .position) (q .canBeEmpty) st .position ≡ suc (q .position)
+    go : (st : List Frame) → afterClose m (q .position) (q .canBeEmpty) st .position ≡ suc (q .position)
     go [] = refl
     go (f ∷ st) = refl
 
@@ -58,7 +58,7 @@ module _ (w : Which) (test : Token → Bool) (marks : (y : Token) (q : Scan) (x 
   none-before (y ∷ ys) q x h = ap₂ _||_ (unmarked y q x (λ e. omega arith)) (none-before ys (step y q) x (omega (arith, position-step y q)))
 
   -- the state that token i leads to has the mark exactly if the token passes
-  at-token : (l : List Token) (q : Scan) (i : ℕ) → i < length l → layOut l q w 0 (suc (q .position + i)) ≡ test (getD l i aClose)
+  at-token : (l : List Token) (q : Scan) (i : ℕ) → i < length l → layOut l q w 0 (suc (q .position + i)) ≡ test (getD l i aBar)
   at-token [] q i h = absurd (not-suc-le-zero h)
   at-token (y ∷ ys) q zero h =
       (let e : suc (q .position + 0) ≡ suc (q .position) = omega arith in ap (λ (x : ℕ). layOut (y ∷ ys) q w 0 x) e)
@@ -73,7 +73,7 @@ module _ (w : Which) (test : Token → Bool) (marks : (y : Token) (q : Scan) (x 
       ∙ (let e : suc (q .position + suc i) ≡ suc (step y q .position + i) = omega (arith, position-step y q) in ap (λ (x : ℕ). layOut ys (step y q) w 0 x) e)
       ∙ at-token ys (step y q) i (le-of-suc-le-suc h)
 
-  place-at : (l : List Token) (i : ℕ) → i < length l → layOut l begin w 0 (suc i) ≡ test (getD l i aClose)
+  place-at : (l : List Token) (i : ℕ) → i < length l → layOut l begin w 0 (suc i) ≡ test (getD l i aBar)
   place-at l i h = ap (λ (x : ℕ). layOut l begin w 0 (suc x)) (sym (zero-add i)) ∙ at-token l begin i h
 
 -- ---- the loop places
@@ -85,13 +85,13 @@ loop-marks aBar q x = go (q .stack)
     go : (st : List Frame) → barMarksIn (q .position) st loop-place 0 x ≡ false
     go [] = refl
     go (f ∷ st) = refl
-loop-marks aClose q x = go (q .stack)
+loop-marks (aClose m) q x = go (q .stack)
   where
-    go : (st : List Frame) → closeMarksIn (q .position) (q .canBeEmpty) st loop-place 0 x ≡ false
+    go : (st : List Frame) → closeMarksIn m (q .position) st loop-place 0 x ≡ false
     go [] = refl
-    go (f ∷ st) = and-false (f .emptyBefore || q .canBeEmpty)
+    go (f ∷ st) = and-false (canOmit m)
 
-pub lay-loops : (l : List Token) (q : Scan) (i : ℕ) → i < length l → layOut l q loop-place 0 (suc (q .position + i)) ≡ isLooping (getD l i aClose)
+pub lay-loops : (l : List Token) (q : Scan) (i : ℕ) → i < length l → layOut l q loop-place 0 (suc (q .position + i)) ≡ isLooping (getD l i aBar)
 lay-loops = at-token loop-place isLooping loop-marks
 
 loop-class : (y : Token) (b : ℕ) → (bit (classOf y) b && isLooping y) ≡ bit (loopClassOf y) b
@@ -101,13 +101,13 @@ loop-class (aLetter c star) b = and-true (bit c b)
 loop-class (aLetter c plus) b = and-true (bit c b)
 loop-class anOpen b = and-false (bit 0 b) ∙ sym (bit-zero b)
 loop-class aBar b = and-false (bit 0 b) ∙ sym (bit-zero b)
-loop-class aClose b = and-false (bit 0 b) ∙ sym (bit-zero b)
+loop-class (aClose m) b = and-false (bit 0 b) ∙ sym (bit-zero b)
 
 -- A REPEAT MASK IS ITS LETTER MASK AND THE LOOP PLACES
 pub repeats-by-letters : (l : List Token) (b x : ℕ) → x < suc (length l) → (tokenLetters l b x && layOut l begin loop-place 0 x) ≡ tokenLoops l b x
 repeats-by-letters l b zero h = refl
 repeats-by-letters l b (suc i) h =
-    ap (λ (a : Bool). bit (classOf (getD l i aClose)) b && a) (place-at loop-place isLooping loop-marks l i (le-of-suc-le-suc h)) ∙ loop-class (getD l i aClose) b
+    ap (λ (a : Bool). bit (classOf (getD l i aBar)) b && a) (place-at loop-place isLooping loop-marks l i (le-of-suc-le-suc h)) ∙ loop-class (getD l i aBar) b
 
 -- ---- the letter places
 letter-marks : (y : Token) (q : Scan) (x : ℕ) → mark y q letter-place 0 x ≡ (isLetter y && eqb x (suc (q .position)))
@@ -118,13 +118,13 @@ letter-marks aBar q x = go (q .stack)
     go : (st : List Frame) → barMarksIn (q .position) st letter-place 0 x ≡ false
     go [] = refl
     go (f ∷ st) = refl
-letter-marks aClose q x = go (q .stack)
+letter-marks (aClose m) q x = go (q .stack)
   where
-    go : (st : List Frame) → closeMarksIn (q .position) (q .canBeEmpty) st letter-place 0 x ≡ false
+    go : (st : List Frame) → closeMarksIn m (q .position) st letter-place 0 x ≡ false
     go [] = refl
-    go (f ∷ st) = and-false (f .emptyBefore || q .canBeEmpty)
+    go (f ∷ st) = and-false (canOmit m)
 
-pub lay-letters : (l : List Token) (q : Scan) (i : ℕ) → i < length l → layOut l q letter-place 0 (suc (q .position + i)) ≡ isLetter (getD l i aClose)
+pub lay-letters : (l : List Token) (q : Scan) (i : ℕ) → i < length l → layOut l q letter-place 0 (suc (q .position + i)) ≡ isLetter (getD l i aBar)
 lay-letters = at-token letter-place isLetter letter-marks
 
 pub no-letter-at-zero : (l : List Token) → layOut l begin letter-place 0 0 ≡ false
@@ -133,13 +133,13 @@ no-letter-at-zero l = none-before letter-place isLetter letter-marks l begin 0 (
 -- THE LETTER MASKS TOGETHER ARE THE LETTER PLACES, for fine tokens
 pub or-is-places : (l : List Token) → AllFine l → (x : ℕ) → x < suc (length l) → anyBelow 256 (λ b. tokenLetters l b x) ≡ layOut l begin letter-place 0 x
 or-is-places l F zero h = sym (no-letter-at-zero l)
-or-is-places l F (suc i) h = some-byte (getD l i aClose) (fine-at l i F) ∙ sym (place-at letter-place isLetter letter-marks l i (le-of-suc-le-suc h))
+or-is-places l F (suc i) h = some-byte (getD l i aBar) (fine-at l i F) ∙ sym (place-at letter-place isLetter letter-marks l i (le-of-suc-le-suc h))
   where
     some-byte : (y : Token) → Fine y → anyBelow 256 (λ b. bit (classOf y) b) ≡ isLetter y
     some-byte (aLetter c r) C = some-bit c C
     some-byte anOpen C = no-bits 256
     some-byte aBar C = no-bits 256
-    some-byte aClose C = no-bits 256
+    some-byte (aClose m) C = no-bits 256
 
 -- the letter places of a row of tokens, in words of the width that ws say
 abbrev pub letterPlaces : List ℕ → List Token → List ℕ

@@ -9,7 +9,7 @@ use native.Mathlib.Omega.{arith}
 use lib.Dec.{T, eqb, eqb→eq, eqb-refl}
 use Rattle.model.specs.Lists.{any}
 use Rattle.model.specs.Bits.{bit}
-use Rattle.model.specs.Tree.{canLoop, canSkip, Seq}
+use Rattle.model.specs.Tree.{canLoop, canOmit, canSkip, Seq}
 use Rattle.model.specs.Edges.{seqEnd}
 use Rattle.model.specs.Models.LayOut.{tokenLetters, tokenLoops}
 use Rattle.model.specs.Models.Tokens.{aBar, aClose, aLetter, anOpen, classOf, loopClassOf, Token, tokens}
@@ -47,19 +47,19 @@ abbrev pub isOpen : Token → Bool
 isOpen (aLetter c r) = false
 isOpen anOpen = true
 isOpen aBar = false
-isOpen aClose = false
+isOpen (aClose m) = false
 
 abbrev pub isClose : Token → Bool
 isClose (aLetter c r) = false
 isClose anOpen = false
 isClose aBar = false
-isClose aClose = true
+isClose (aClose m) = true
 
 abbrev pub tokenSkips : Token → Bool
 tokenSkips (aLetter c r) = canSkip r
 tokenSkips anOpen = false
 tokenSkips aBar = false
-tokenSkips aClose = false
+tokenSkips (aClose m) = canOmit m
 
 -- ---- what each shows
 loop-bit : (b : Bool) (c i : ℕ) → T b → T (bit c i) → T (bit (cond b c 0) i)
@@ -105,7 +105,7 @@ module _ (s : Seq) (i : ℕ) (l : i < seqEnd s 0) where
       own (aLetter c r) o h = (arc (letterArc c) (o .0) i (suc i), o .1, and-both (bit c b) (eqb (suc i) (suc i)) h (eqb-refl (suc i)))
       own anOpen o h = absurd (no-bit b h)
       own aBar o h = absurd (no-bit b h)
-      own aClose o h = absurd (no-bit b h)
+      own (aClose m) o h = absurd (no-bit b h)
 
   pub loops-show : (b : ℕ) → loopSet es b (suc i) ≡ bit (loopClassOf (token s i)) b
   loops-show b = shown (λ w a z. loopsByte b w && eqb (suc i) z) (λ x. bit (loopClassOf x) b) out own
@@ -125,7 +125,7 @@ module _ (s : Seq) (i : ℕ) (l : i < seqEnd s 0) where
           (arc (loopArc c) (o .0) (suc i) (suc i), o .2 (k .0), and-both (bit c b) (eqb (suc i) (suc i)) (k .1) (eqb-refl (suc i)))
       own anOpen o h = absurd (no-bit b h)
       own aBar o h = absurd (no-bit b h)
-      own aClose o h = absurd (no-bit b h)
+      own (aClose m) o h = absurd (no-bit b h)
 
   pub opens-show : opens es i ≡ isOpen (token s i)
   opens-show = shown (λ w a z. isFork w && eqb i a) isOpen out own
@@ -140,7 +140,7 @@ module _ (s : Seq) (i : ℕ) (l : i < seqEnd s 0) where
       own (aLetter c r) o h = absurd h
       own anOpen o h = (arc (forkArc (o .0)) (o .1) i (o .2), o .3, eqb-refl i)
       own aBar o h = absurd h
-      own aClose o h = absurd h
+      own (aClose m) o h = absurd h
 
   pub closes-show : closes es i ≡ isClose (token s i)
   closes-show = shown (λ w a z. isFork w && eqb (suc i) z) isClose out own
@@ -149,21 +149,21 @@ module _ (s : Seq) (i : ℕ) (l : i < seqEnd s 0) where
       out (letterArc c) a z m h = absurd h
       out (loopArc c) a z m h = absurd h
       out propagateArc a z m h = absurd h
-      out (forkArc xs) a z m h = known isClose (m .1) aClose (omega (arith, m .2, eqb→eq (suc i) z h)) (m .3) tt
+      out (forkArc xs) a z m h = known isClose (m .1) (aClose (m .2)) (omega (arith, m .3, eqb→eq (suc i) z h)) (m .4) tt
 
       own : (x : Token) → Owns (In es) x i → T (isClose x) → (e : Arc) × In es e × T (isFork (e .kind) && eqb (suc i) (e .to))
       own (aLetter c r) o h = absurd h
       own anOpen o h = absurd h
       own aBar o h = absurd h
-      own aClose o h = (arc (forkArc (o .0)) (o .1) (o .2) (suc i), o .3, eqb-refl (suc i))
+      own (aClose m) o h = (arc (forkArc (o .0)) (o .1) (o .2) (suc i), o .3, eqb-refl (suc i))
 
-  -- where no union ends, a propagate edge enters exactly if the letter may be skipped
-  pub skips-show : isClose (token s i) ≡ false → skips es i ≡ tokenSkips (token s i)
-  skips-show no-close = shown (λ w a z. isPropagate w && eqb (suc i) z) tokenSkips out own
+  -- a propagate edge enters exactly if the letter may be skipped, or the close shows an edge over its union
+  pub skips-show : skips es i ≡ tokenSkips (token s i)
+  skips-show = shown (λ w a z. isPropagate w && eqb (suc i) z) tokenSkips out own
     where
       over : (a z : ℕ) → suc i ≡ z → Skips (token s) a z → T (tokenSkips (token s i))
       over a z e (over-letter c r q k h) = known tokenSkips a (aLetter c r) (omega arith) k h
-      over a z e (over-union u q k) = absurd (subst T no-close (known isClose u aClose (omega arith) k tt))
+      over a z e (over-union u m q k h) = known tokenSkips u (aClose m) (omega arith) k h
 
       out : (w : ArcKind) (a z : ℕ) → Says (token s) w a z → T (isPropagate w && eqb (suc i) z) → T (tokenSkips (token s i))
       out (letterArc c) a z m h = absurd h
@@ -175,7 +175,7 @@ module _ (s : Seq) (i : ℕ) (l : i < seqEnd s 0) where
       own (aLetter c r) o h = (arc propagateArc (o .0) i (suc i), o .3 h, eqb-refl (suc i))
       own anOpen o h = absurd h
       own aBar o h = absurd h
-      own aClose o h = absurd h
+      own (aClose m) o h = (arc propagateArc (o .1) (o .2) (suc i), o .4 h, eqb-refl (suc i))
 
 -- ---- the letters' and the loops' sets are those of the tokens
 module _ (s : Seq) (b : ℕ) where

@@ -7,10 +7,10 @@ use native.Mathlib.Nat.{zero-lt-suc, zero-add}
 use native.Mathlib.Omega.{arith}
 use lib.ListN.{length, getD}
 use Rattle.model.specs.Bits.{bit, mask}
-use Rattle.model.specs.Tree.{canLoop, canSkip, once, option, plus, Repeat, Seq, star}
+use Rattle.model.specs.Tree.{canLoop, canOmit, canSkip, Mark, once, option, optional, plus, Repeat, Seq, star, unmarked}
 use Rattle.model.specs.Edges.{depth, seqEnd}
 use Rattle.model.specs.Image.{width}
-use Rattle.model.specs.Models.Apart.{anyBelow, bitOf, bitOfThree, gatherIn, lettersIn, propagateIn, repeatOf, repeatsIn, scatterIn, tape, tokenAt, tokenOf, tokensFrom}
+use Rattle.model.specs.Models.Apart.{anyBelow, bitOf, bitOfThree, gatherIn, lettersIn, markOf, propagateIn, repeatOf, repeatsIn, scatterIn, tape, tokenAt, tokenOf, tokensFrom}
 use Rattle.model.specs.Models.LayOut.{entering, gather-target, leaving, scatter-source, Which}
 use Rattle.model.specs.Models.Tokens.{aBar, aClose, aLetter, anOpen, classOf, loopClassOf, Token, tokens}
 use Rattle.model.proofs.Ends.Run.{letterSet, loopSet}
@@ -42,16 +42,21 @@ loop-shows : (c : ℕ) (p : Bool) → Class c → anyBelow 256 (λ b. bit (cond 
 loop-shows c true C = some-bit c C
 loop-shows c false C = no-bits 256
 
--- a fine token is made again from its tests; whether a close may be skipped does not matter
-remade-is : (x : Token) (n : Bool) → Fine x → (isClose x ≡ false → n ≡ tokenSkips x) → remade x n ≡ x
+mark-is : (m : Mark) → markOf (canOmit m) ≡ m
+mark-is unmarked = refl
+mark-is optional = refl
+
+-- a fine token is made again from its tests
+remade-is : (x : Token) (n : Bool) → Fine x → n ≡ tokenSkips x → remade x n ≡ x
 remade-is (aLetter c r) n C h =
-    (λ i. tokenOf (some-bit c C i) (class-is c (C .bytes-only) i) (h refl i) (loop-shows c (canLoop r) C i) false false) ∙ ap (aLetter c) (repeat-is r)
+    (λ i. tokenOf (some-bit c C i) (class-is c (C .bytes-only) i) (h i) (loop-shows c (canLoop r) C i) false false) ∙ ap (aLetter c) (repeat-is r)
 remade-is anOpen n C h = ap (λ (b : Bool). tokenOf b (mask 256 (λ b. bit 0 b)) n (anyBelow 256 (λ b. bit 0 b)) false true) (no-bits 256)
 remade-is aBar n C h = ap (λ (b : Bool). tokenOf b (mask 256 (λ b. bit 0 b)) n (anyBelow 256 (λ b. bit 0 b)) false false) (no-bits 256)
-remade-is aClose n C h = ap (λ (b : Bool). tokenOf b (mask 256 (λ b. bit 0 b)) n (anyBelow 256 (λ b. bit 0 b)) true false) (no-bits 256)
+remade-is (aClose m) n C h =
+    ap₂ (λ (b n : Bool). tokenOf b (mask 256 (λ b. bit 0 b)) n (anyBelow 256 (λ b. bit 0 b)) true false) (no-bits 256) h ∙ ap aClose (mark-is m)
 
 -- a row by its tokens
-from-is : (l : List Token) (f : ℕ → Token) (a : ℕ) → ((i : ℕ) → i < length l → f (a + i) ≡ getD l i aClose) → tokensFrom (length l) a f ≡ l
+from-is : (l : List Token) (f : ℕ → Token) (a : ℕ) → ((i : ℕ) → i < length l → f (a + i) ≡ getD l i aBar) → tokensFrom (length l) a f ≡ l
 from-is [] f a h = refl
 from-is (x ∷ l) f a h =
     ap₂ (λ (y : Token) (r : List Token). y ∷ r) ((let e : a ≡ a + 0 = omega arith in ap f e) ∙ h 0 (zero-lt-suc (length l)))

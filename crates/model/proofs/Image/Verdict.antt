@@ -97,7 +97,7 @@ tape-fine ws = fine-between (stateWord ws) (tokenAt ws) (λ i. fine-token (λ b.
 
 -- ---- SOUND
 pub image-sound : (ws : List ℕ) → T (accepts ws) → IsImage ws (parse (tape ws) .here)
-image-sound ws h = subst (IsImage ws) (sym (ap (λ (l : List Token). parse l .here) (sym (t .of-tokens)) ∙ tree-of (t .tree))) is
+image-sound ws h = subst (IsImage ws) (sym (ap (λ (l : List Token). parse l .here) (sym (t .of-tokens)) ∙ tree-of (t .tree) (t .good))) is
   where
     A : Accepted ws
     A = accepted ws h
@@ -142,4 +142,4 @@ is-image ws s = (there (accepts ws) refl, back)
     back I =
         ap (λ (b : Bool). cond b (some (parse (tape ws) .here)) none) (is-true (accepts ws) (image-complete ws s I))
         ∙ ap some
-        (ap (λ (l : List ℕ). parse (tape l) .here) (I .words ∙ image-is s) ∙ ap (λ (l : List Token). parse l .here) (tape-is s (well-fine s (I .well))) ∙ tree-of s)
+        (ap (λ (l : List ℕ). parse (tape l) .here) (I .words ∙ image-is s) ∙ ap (λ (l : List Token). parse l .here) (tape-is s (well-fine s (I .well))) ∙ tree-of s (well-formed s .0 (I .well) .1))

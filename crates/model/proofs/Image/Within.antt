@@ -82,9 +82,9 @@ mutual
         skips = λ x. low-propagate t (suc t) n (omega arith) h;
         rest = low s (suc t) k n F l;
       })
-  low (union a s) t k n F l =
+  low (union m a s) t k n F l =
       let h : suc (altsEnd a t) ≤ n = omega (arith, seqEnd-le s (suc (altsEnd a t))) in
-      branch-whole (Low n) a s t k (record {
+      branch-whole (Low n) m a s t k (record {
         skips = λ x. low-propagate t (suc (altsEnd a t)) n (omega (arith, altsEnd-lt a t)) h;
         forks = low-fork a t n (F .0) h;
         alts = low-alts a t k n (F .0) (omega arith);

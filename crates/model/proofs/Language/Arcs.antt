@@ -8,8 +8,8 @@ use Prim.Native.Nat.{ℕ, suc}
 use lib.Dec.{T}
 use Rattle.model.specs.Lists.{_∈_, All}
 use Rattle.model.specs.Bits.{bit}
-use Rattle.model.specs.Tree.{Alts, canLoop, canSkip, end, last, letter, more, Repeat, Seq, union}
-use Rattle.model.specs.Edges.{altsEmpty, altsEnd, endsOf, seqEnd, startsOf, Way, ways}
+use Rattle.model.specs.Tree.{Alts, canLoop, canSkip, end, last, letter, Mark, more, Repeat, Seq, union}
+use Rattle.model.specs.Edges.{altsEnd, endsOf, seqEnd, startsOf, unionEmpty, Way, ways}
 use Rattle.model.proofs.Laws.Lists.{all-app, all-left, all-right}
 
 -- of what kind an arc is; a fork holds each alternative's start and end
@@ -37,8 +37,8 @@ abbrev mutual
   arcs end t k = []
   arcs (letter c r s) t k =
       arc (letterArc c) k t (suc t) ∷ when (canLoop r) (arc (loopArc c) k (suc t) (suc t)) (when (canSkip r) (arc propagateArc k t (suc t)) (arcs s (suc t) k))
-  arcs (union a s) t k =
-      when (altsEmpty a) (arc propagateArc k t (suc (altsEnd a t)))
+  arcs (union m a s) t k =
+      when (unionEmpty m a) (arc propagateArc k t (suc (altsEnd a t)))
       (arc (forkArc (ways a t)) k t (suc (altsEnd a t)) ∷ (altsArcs a t k ++ arcs s (suc (altsEnd a t)) k))
 
   pub altsArcs : Alts → ℕ → ℕ → List Arc
@@ -98,26 +98,26 @@ module _ (E : Arc → Type 0) where
         (all-when E (canSkip r) (arc propagateArc k t (suc t)) (arcs s (suc t) k) (A .skips) (A .rest)),
   )
 
-  pub record Branch (a : Alts) (s : Seq) (t k : ℕ) : Type 0 where
-    pub skips : T (altsEmpty a) → E (arc propagateArc k t (suc (altsEnd a t)))
+  pub record Branch (m : Mark) (a : Alts) (s : Seq) (t k : ℕ) : Type 0 where
+    pub skips : T (unionEmpty m a) → E (arc propagateArc k t (suc (altsEnd a t)))
     pub forks : E (arc (forkArc (ways a t)) k t (suc (altsEnd a t)))
     pub alts : All E (altsArcs a t k)
     pub rest : All E (arcs s (suc (altsEnd a t)) k)
 
-  pub branch-parts : (a : Alts) (s : Seq) (t k : ℕ) → All E (arcs (union a s) t k) → Branch a s t k
-  branch-parts a s t k A =
+  pub branch-parts : (m : Mark) (a : Alts) (s : Seq) (t k : ℕ) → All E (arcs (union m a s) t k) → Branch m a s t k
+  branch-parts m a s t k A =
       let u = suc (altsEnd a t) in
       let es = arc (forkArc (ways a t)) k t u ∷ (altsArcs a t k ++ arcs s u k) in
-      let B = when-tail E (altsEmpty a) (arc propagateArc k t u) es A in
+      let B = when-tail E (unionEmpty m a) (arc propagateArc k t u) es A in
       record {
-        skips = when-head E (altsEmpty a) (arc propagateArc k t u) es A;
+        skips = when-head E (unionEmpty m a) (arc propagateArc k t u) es A;
         forks = B .0;
         alts = all-left E (altsArcs a t k) (arcs s u k) (B .1);
         rest = all-right E (altsArcs a t k) (arcs s u k) (B .1);
       }
 
-  pub branch-whole : (a : Alts) (s : Seq) (t k : ℕ) → Branch a s t k → All E (arcs (union a s) t k)
-  branch-whole a s t k A =
+  pub branch-whole : (m : Mark) (a : Alts) (s : Seq) (t k : ℕ) → Branch m a s t k → All E (arcs (union m a s) t k)
+  branch-whole m a s t k A =
       let u = suc (altsEnd a t) in
-      all-when E (altsEmpty a) (arc propagateArc k t u) (arc (forkArc (ways a t)) k t u ∷ (altsArcs a t k ++ arcs s u k)) (A .skips)
+      all-when E (unionEmpty m a) (arc propagateArc k t u) (arc (forkArc (ways a t)) k t u ∷ (altsArcs a t k ++ arcs s u k)) (A .skips)
       (A .forks, all-app E (altsArcs a t k) (arcs s u k) (A .alts) (A .rest))

@@ -9,7 +9,7 @@ use Rattle.model.specs.Bits.{bit}
 use Rattle.model.specs.Tree.{Alts, end, last, letter, more, Seq, union}
 use Rattle.model.specs.Edges.{altsEnd, endsOf, seqEnd, startsOf, ways}
 use Rattle.model.proofs.Language.Arcs.{altsArcs, Arc, arc, arcs, branch-whole, Byte, forkArc, letter-whole, propagateArc, Still}
-use Rattle.model.proofs.Language.Languages.{afterAlts, afterLetter, altsEmpty-in, Language, loop-in, skip-letter, take-in}
+use Rattle.model.proofs.Language.Languages.{afterAlts, afterLetter, afterUnion, Language, loop-in, skip-letter, take-in, through-union, unionEmpty-in}
 use Rattle.model.proofs.Language.Texts.{at, byte, end-of, Has-alts, Has-texts, LeadsTo, start, start-of, still, to}
 use Rattle.model.proofs.Laws.Lists.{all-app}
 
@@ -59,23 +59,23 @@ module _ (W : ℕ → Language) where
           skips = λ z. skip-carries k t (suc t) (λ w h. to n (skip-letter c r P w z (at (K .0) h)));
           rest = carried s (suc t) k (afterLetter c r P) (K .1);
         })
-    carried (union a s) t k P K =
-        branch-whole (Carries W) a s t k (record {
-          skips = λ z. skip-carries k t u (λ w h. to n (altsEmpty-in a P w z (at (K .0) h)));
+    carried (union m a s) t k P K =
+        branch-whole (Carries W) m a s t k (record {
+          skips = λ z. skip-carries k t u (λ w h. to n (unionEmpty-in m a P w z (at (K .0) h)));
           forks = record { still = fork; byte = λ b q r m. absurd m };
           alts = alts-carried a t t k P (K .1);
-          rest = carried s (suc (altsEnd a t)) k (afterAlts a P) (K .2);
+          rest = carried s (suc (altsEnd a t)) k (afterUnion m a P) (K .2);
         })
       where
         u : ℕ
         u = suc (altsEnd a t)
 
-        n : W u ≡ afterAlts a P
-        n = start-of W s u (afterAlts a P) (K .2)
+        n : W u ≡ afterUnion m a P
+        n = start-of W s u (afterUnion m a P) (K .2)
 
         fork : (q r : ℕ) → Still (forkArc (ways a t)) t u q r → (w : List ℕ) → W q w → W r w
-        fork q r (inl m) w h = starts-in a t t P (K .1) r (m .1) w (at (K .0) (at-state (m .0) h))
-        fork q r (inr m) w h = at-state (sym (m .1)) (to n (ends-in a t t P (K .1) q (m .0) w h))
+        fork q r (inl x) w h = starts-in a t t P (K .1) r (x .1) w (at (K .0) (at-state (x .0) h))
+        fork q r (inr x) w h = at-state (sym (x .1)) (to n (through-union m P (afterAlts a P) w (ends-in a t t P (K .1) q (x .0) w h)))
 
     alts-carried : (a : Alts) (t p k : ℕ) (P : Language) → Has-alts W a t p P → All (Carries W) (altsArcs a p k)
     alts-carried (last s) t p k P K = carried s (suc p) (suc k) P K

@@ -1,14 +1,15 @@
 -- LANGUAGES OF TEXTS READ SO FAR: the texts that end with what a letter, a sequence or the alternatives of a union spell, after a text of some other
 -- language. A text read so far is a list of bytes with the last byte first, so that one more byte is one more element.
 use mathlib.Core.Logic.{_⊎_, inl, inr}
+use mathlib.Core.Bool.{Bool, _||_}
 use mathlib.Core.List.{List, [], _∷_}
 use Prim.Native.Nat.{ℕ, suc, _≤_, _<_}
 use native.Mathlib.Nat.{le-refl}
 use native.Mathlib.Omega.{arith}
 use lib.Dec.{T}
 use Rattle.model.specs.Bits.{bit}
-use Rattle.model.specs.Tree.{Alts, canLoop, canSkip, end, last, letter, more, once, option, plus, Repeat, Seq, star, union}
-use Rattle.model.specs.Edges.{altsEmpty, altsEnd, seqEmpty, seqEnd, states}
+use Rattle.model.specs.Tree.{Alts, canLoop, canOmit, canSkip, end, last, letter, Mark, more, once, option, optional, plus, Repeat, Seq, star, union, unmarked}
+use Rattle.model.specs.Edges.{altsEmpty, altsEnd, seqEmpty, seqEnd, states, unionEmpty}
 use Rattle.model.proofs.Laws.Bool.{and-split, or-split}
 use Rattle.model.proofs.Laws.Trees.{NonEmpty}
 
@@ -34,23 +35,31 @@ afterLetter c option P w = P w ⊎ One c P w
 afterLetter c star P w = P w ⊎ Many c P w
 afterLetter c plus P w = Many c P w
 
+-- a text of Q, those after the alternatives of a union that comes after P; with `?` also one of P
+abbrev pub afterMark : Mark → Language → Language → Language
+afterMark unmarked P Q = Q
+afterMark optional P Q = λ w. P w ⊎ Q w
+
 -- a text of P, and then one that a sequence spells, or one of the alternatives
 abbrev mutual
   pub after : Seq → Language → Language
   after end P = P
   after (letter c r s) P = after s (afterLetter c r P)
-  after (union a s) P = after s (afterAlts a P)
+  after (union m a s) P = after s (afterMark m P (afterAlts a P))
 
   pub afterAlts : Alts → Language → Language
   afterAlts (last s) P = after s P
   afterAlts (more s a) P = λ w. after s P w ⊎ afterAlts a P w
+
+abbrev pub afterUnion : Mark → Alts → Language → Language
+afterUnion m a P = afterMark m P (afterAlts a P)
 
 -- ---- the end of a sequence lies at or past its start, that of alternatives past the state before them
 mutual
   pub seqEnd-le : (s : Seq) (t : ℕ) → t ≤ seqEnd s t
   seqEnd-le end t = le-refl t
   seqEnd-le (letter c r s) t = omega (arith, seqEnd-le s (suc t))
-  seqEnd-le (union a s) t = omega (arith, altsEnd-lt a t, seqEnd-le s (suc (altsEnd a t)))
+  seqEnd-le (union m a s) t = omega (arith, altsEnd-lt a t, seqEnd-le s (suc (altsEnd a t)))
 
   pub altsEnd-lt : (a : Alts) (p : ℕ) → p < altsEnd a p
   altsEnd-lt (last s) p = seqEnd-le s (suc p)
@@ -60,7 +69,7 @@ mutual
 pub two-states : (s : Seq) → NonEmpty s → 2 ≤ states s
 two-states end h = absurd h
 two-states (letter c r s) h = omega (arith, seqEnd-le s 1)
-two-states (union a s) h = omega (arith, altsEnd-lt a 0, seqEnd-le s (suc (altsEnd a 0)))
+two-states (union m a s) h = omega (arith, altsEnd-lt a 0, seqEnd-le s (suc (altsEnd a 0)))
 
 -- ---- what can spell the empty text keeps a text; a byte of the class goes through a letter, and more go round its loop
 pub skip-letter : (c : ℕ) (r : Repeat) (P : Language) (w : List ℕ) → T (canSkip r) → P w → afterLetter c r P w
@@ -69,15 +78,28 @@ skip-letter c option P w n h = inl h
 skip-letter c star P w n h = inl h
 skip-letter c plus P w n h = absurd n
 
+pub through-union : (m : Mark) (P Q : Language) (w : List ℕ) → Q w → afterMark m P Q w
+through-union unmarked P Q w h = h
+through-union optional P Q w h = inr h
+
+skip-union : (m : Mark) (e : Bool) (P Q : Language) (w : List ℕ) → (T e → Q w) → T (canOmit m || e) → P w → afterMark m P Q w
+skip-union unmarked e P Q w f n h = f n
+skip-union optional e P Q w f n h = inl h
+
 mutual
   empty-in : (s : Seq) (P : Language) (w : List ℕ) → T (seqEmpty s) → P w → after s P w
   empty-in end P w n h = h
   empty-in (letter c r s) P w n h = let b = and-split (canSkip r) (seqEmpty s) n in empty-in s (afterLetter c r P) w (b .1) (skip-letter c r P w (b .0) h)
-  empty-in (union a s) P w n h = let b = and-split (altsEmpty a) (seqEmpty s) n in empty-in s (afterAlts a P) w (b .1) (altsEmpty-in a P w (b .0) h)
+  empty-in (union m a s) P w n h =
+      let b = and-split (unionEmpty m a) (seqEmpty s) n in
+      empty-in s (afterUnion m a P) w (b .1) (skip-union m (altsEmpty a) P (afterAlts a P) w (λ x. altsEmpty-in a P w x h) (b .0) h)
 
-  pub altsEmpty-in : (a : Alts) (P : Language) (w : List ℕ) → T (altsEmpty a) → P w → afterAlts a P w
+  altsEmpty-in : (a : Alts) (P : Language) (w : List ℕ) → T (altsEmpty a) → P w → afterAlts a P w
   altsEmpty-in (last s) P w n h = empty-in s P w n h
   altsEmpty-in (more s a) P w n h = elim (or-split (seqEmpty s) (altsEmpty a) n) [ inl x ↦ inl (empty-in s P w x h) | inr x ↦ inr (altsEmpty-in a P w x h) ]
+
+pub unionEmpty-in : (m : Mark) (a : Alts) (P : Language) (w : List ℕ) → T (unionEmpty m a) → P w → afterUnion m a P w
+unionEmpty-in m a P w n h = skip-union m (altsEmpty a) P (afterAlts a P) w (λ x. altsEmpty-in a P w x h) n h
 
 pub take-in : (c : ℕ) (r : Repeat) (P : Language) (b : ℕ) (w : List ℕ) → T (bit c b) → P w → afterLetter c r P (b ∷ w)
 take-in c once P b w x h = (x, h)

@@ -10,12 +10,12 @@ use native.Mathlib.Omega.{arith}
 use lib.Dec.{T, leb}
 use Rattle.model.specs.Lists.{_∈_, All}
 use Rattle.model.specs.Bits.{bit}
-use Rattle.model.specs.Tree.{Alts, canLoop, canSkip, end, last, letter, more, once, option, plus, Repeat, Seq, star, union}
-use Rattle.model.specs.Edges.{altsEnd, endsOf, seqEnd, startsOf, ways}
+use Rattle.model.specs.Tree.{Alts, canLoop, canOmit, canSkip, end, last, letter, Mark, more, once, option, optional, plus, Repeat, Seq, star, union, unmarked}
+use Rattle.model.specs.Edges.{altsEmpty, altsEnd, endsOf, seqEnd, startsOf, ways}
 use Rattle.model.proofs.Language.Arcs.{altsArcs, Arc, arc, arcs, Branch, branch-parts, forkArc, Letter, letter-parts, letterArc, loopArc, propagateArc}
-use Rattle.model.proofs.Language.Languages.{after, afterAlts, afterLetter, Language, Many, seqEnd-le}
+use Rattle.model.proofs.Language.Languages.{after, afterAlts, afterLetter, afterMark, afterUnion, Language, Many, seqEnd-le}
 use Rattle.model.proofs.Language.Texts.{AltsTexts, at, byte, end-of, LeadsTo, still, Texts, texts-table, to}
-use Rattle.model.proofs.Laws.Bool.{le-or-lt, pick-gt, pick-le}
+use Rattle.model.proofs.Laws.Bool.{le-or-lt, or-left, pick-gt, pick-le}
 use Rattle.model.proofs.Laws.Lists.{all-left, all-right}
 
 at-end : (s : Seq) (t : ℕ) (P : Language) (w : List ℕ) → after s P w → Texts s t P (seqEnd s t) w
@@ -56,6 +56,11 @@ module _ (E : Arc → Type 0) where
   abbrev FromEnds : Alts → ℕ → ℕ → Type 0
   FromEnds a p e = (w : List ℕ) (q : ℕ) → q ∈ endsOf (ways a p) → LeadsTo E w q → LeadsTo E w e
 
+  past-union : (m : Mark) {P Q : Language} {u : ℕ} → (T (canOmit m) → Reaches P u) → Reaches Q u → Reaches (afterMark m P Q) u
+  past-union unmarked f g w x = g w x
+  past-union optional f g w (inl x) = f tt w x
+  past-union optional f g w (inr x) = g w x
+
   -- THE THEOREM: a text of state q's language leads to q
   mutual
     pub texts-lead : (s : Seq) (t k : ℕ) (P : Language) → All E (arcs s t k) → Reaches P t
@@ -68,16 +73,16 @@ module _ (E : Arc → Type 0) where
           | inl e ↦ subst (LeadsTo E w) e (h w (at (pick-le q t P rest (omega arith)) x))
           | inr l ↦ texts-lead s (suc t) k (afterLetter c r P) (B .rest) (letter-leads c r s t k P B h) q l j w (at (pick-gt q t P rest l) x)
         ]
-    texts-lead (union a s) t k P A h q i j w x =
+    texts-lead (union m a s) t k P A h q i j w x =
         go (eq-or-lt-of-le i) (le-or-lt q (altsEnd a t))
         (λ l m y. alts-lead a t t k P (B .alts) from-start q l m w y)
-        (λ l y. texts-lead s (suc (altsEnd a t)) k (afterAlts a P) (B .rest) (λ v z. ends-lead a t t u k P (B .alts) from-start to-end v z) q l j w y)
+        (λ l y. texts-lead s (suc (altsEnd a t)) k (afterUnion m a P) (B .rest) (past-union m over-it (λ v z. ends-lead a t t u k P (B .alts) from-start to-end v z)) q l j w y)
       where
         u : ℕ
         u = suc (altsEnd a t)
 
-        B : Branch E a s t k
-        B = branch-parts E a s t k A
+        B : Branch E m a s t k
+        B = branch-parts E m a s t k A
 
         from-start : FromStarts a t P
         from-start r z v y = still (arc (forkArc (ways a t)) k t u) (B .forks) (inl (refl, z)) (h v y)
@@ -85,11 +90,14 @@ module _ (E : Arc → Type 0) where
         to-end : FromEnds a t u
         to-end v z y m = still (arc (forkArc (ways a t)) k t u) (B .forks) (inr (y, refl)) m
 
+        over-it : T (canOmit m) → Reaches P u
+        over-it x v y = still (arc propagateArc k t u) (B .skips (or-left (canOmit m) (altsEmpty a) x)) (refl, refl) (h v y)
+
         inner : Language
         inner = AltsTexts a t t P q
 
         rest : Language
-        rest = Texts s u (afterAlts a P) q
+        rest = Texts s u (afterUnion m a P) q
 
         past : t < q → cond (leb q (altsEnd a t)) inner rest w
         past l = at (pick-gt q t P (cond (leb q (altsEnd a t)) inner rest) l) x

@@ -5,7 +5,7 @@ use mathlib.Core.List.{List, [], _∷_, _++_}
 use Prim.Native.Nat.{ℕ, suc}
 use Rattle.model.specs.Lists.{each}
 use Rattle.model.specs.Tree.{Alts, canLoop, canSkip, end, last, letter, more, Seq, Tree, union}
-use Rattle.model.specs.Edges.{altsEmpty, altsEnd, altsParts, letterAt, Part, parts, seqEnd, unionAt, ways}
+use Rattle.model.specs.Edges.{altsEnd, altsParts, letterAt, Part, parts, seqEnd, unionAt, unionEmpty, ways}
 use Rattle.model.proofs.Language.Arcs.{altsArcs, Arc, arc, arcs, forkArc, letterArc, loopArc, propagateArc, when}
 use Rattle.model.proofs.Laws.Each.{each-app}
 
@@ -32,10 +32,10 @@ mutual
 
       skips : Arc
       skips = arc propagateArc k t (suc t)
-  seq-arcs (union a s) t k =
-      ap₂ (λ (l m : List Arc). when (altsEmpty a) (arc propagateArc k t u) (arc (forkArc (ways a t)) k t u ∷ (l ++ m))) (alts-arcs a t k) (seq-arcs s u k)
-      ∙ ap (λ (l : List Arc). when (altsEmpty a) (arc propagateArc k t u) (arc (forkArc (ways a t)) k t u ∷ l)) (sym (each-app arcsOf (altsParts a t k) (parts s u k)))
-      ∙ when-app (altsEmpty a) (arc propagateArc k t u) (arc (forkArc (ways a t)) k t u ∷ []) (each arcsOf (altsParts a t k ++ parts s u k))
+  seq-arcs (union m a s) t k =
+      ap₂ (λ (l r : List Arc). when (unionEmpty m a) (arc propagateArc k t u) (arc (forkArc (ways a t)) k t u ∷ (l ++ r))) (alts-arcs a t k) (seq-arcs s u k)
+      ∙ ap (λ (l : List Arc). when (unionEmpty m a) (arc propagateArc k t u) (arc (forkArc (ways a t)) k t u ∷ l)) (sym (each-app arcsOf (altsParts a t k) (parts s u k)))
+      ∙ when-app (unionEmpty m a) (arc propagateArc k t u) (arc (forkArc (ways a t)) k t u ∷ []) (each arcsOf (altsParts a t k ++ parts s u k))
     where
       u : ℕ
       u = suc (altsEnd a t)

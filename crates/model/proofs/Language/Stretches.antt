@@ -7,9 +7,9 @@ use Prim.Native.Nat.{ℕ}
 use lib.Dec.{T}
 use Rattle.model.specs.Lists.{All}
 use Rattle.model.specs.Bits.{bit}
-use Rattle.model.specs.Tree.{Alts, end, last, letter, more, once, option, plus, Repeat, Seq, star, union}
-use Rattle.model.specs.Ends.{AltsSpell, LetterSpells, Spells}
-use Rattle.model.proofs.Language.Languages.{after, afterAlts, afterLetter, Any, Language, Many, One}
+use Rattle.model.specs.Tree.{Alts, end, last, letter, Mark, more, once, option, optional, plus, Repeat, Seq, star, union, unmarked}
+use Rattle.model.specs.Ends.{AltsSpell, GroupSpells, LetterSpells, Spells}
+use Rattle.model.proofs.Language.Languages.{after, afterAlts, afterLetter, afterMark, afterUnion, Any, Language, Many, One}
 use Rattle.model.proofs.Laws.Lists.{all-app}
 
 -- every byte is in the class
@@ -74,15 +74,26 @@ join P Q R w h =
     let m = h .3 in
     (m .0, m .1 ++ h .1, h .2 ∙ ap (λ (z : List ℕ). feed z (h .1)) (m .2) ∙ sym (feed-app (m .0) (m .1) (h .1)), m .3, (m .1, h .1, refl, m .4, h .4))
 
+mark-out : (m : Mark) (P Q : Language) (R : List ℕ → Type 0) (w : List ℕ) → (Q w → Then P R w) → afterMark m P Q w → Then P (GroupSpells m R) w
+mark-out unmarked P Q R w f h = f h
+mark-out optional P Q R w f (inl h) = (w, [], refl, h, inl refl)
+mark-out optional P Q R w f (inr h) = let r = f h in (r .0, r .1, r .2, r .3, inr (r .4))
+
+mark-in : (m : Mark) (P Q : Language) (R : List ℕ → Type 0) (u x : List ℕ) → P u → (R x → Q (feed u x)) → GroupSpells m R x → afterMark m P Q (feed u x)
+mark-in unmarked P Q R u x p f h = f h
+mark-in optional P Q R u x p f (inl h) = inl (subst (λ (v : List ℕ). P (feed u v)) (sym h) p)
+mark-in optional P Q R u x p f (inr h) = inr (f h)
+
 mutual
   pub after-out : (s : Seq) (P : Language) (w : List ℕ) → after s P w → Then P (Spells s) w
   after-out end P w h = (w, [], refl, h, refl)
   after-out (letter c r s) P w h =
       let m = after-out s (afterLetter c r P) w h in
       join P (LetterSpells c r) (Spells s) w (m .0, m .1, m .2, letter-out c r P (m .0) (m .3), m .4)
-  after-out (union a s) P w h =
-      let m = after-out s (afterAlts a P) w h in
-      join P (AltsSpell a) (Spells s) w (m .0, m .1, m .2, alts-out a P (m .0) (m .3), m .4)
+  after-out (union m a s) P w h =
+      let n = after-out s (afterUnion m a P) w h in
+      join P (GroupSpells m (AltsSpell a)) (Spells s) w
+      (n .0, n .1, n .2, mark-out m P (afterAlts a P) (AltsSpell a) (n .0) (λ x. alts-out a P (n .0) x) (n .3), n .4)
 
   alts-out : (a : Alts) (P : Language) (w : List ℕ) → afterAlts a P w → Then P (AltsSpell a) w
   alts-out (last s) P w h = after-out s P w h
@@ -95,9 +106,10 @@ mutual
   after-in (letter c r s) P u v p h =
       subst (after s (afterLetter c r P)) (sym (ap (feed u) (h .2) ∙ feed-app u (h .0) (h .1)))
       (after-in s (afterLetter c r P) (feed u (h .0)) (h .1) (letter-in c r P u (h .0) p (h .3)) (h .4))
-  after-in (union a s) P u v p h =
-      subst (after s (afterAlts a P)) (sym (ap (feed u) (h .2) ∙ feed-app u (h .0) (h .1)))
-      (after-in s (afterAlts a P) (feed u (h .0)) (h .1) (alts-in a P u (h .0) p (h .3)) (h .4))
+  after-in (union m a s) P u v p h =
+      subst (after s (afterUnion m a P)) (sym (ap (feed u) (h .2) ∙ feed-app u (h .0) (h .1)))
+      (after-in s (afterUnion m a P) (feed u (h .0)) (h .1)
+      (mark-in m P (afterAlts a P) (AltsSpell a) u (h .0) p (λ x. alts-in a P u (h .0) p x) (h .3)) (h .4))
 
   alts-in : (a : Alts) (P : Language) (u v : List ℕ) → P u → AltsSpell a v → afterAlts a P (feed u v)
   alts-in (last s) P u v p h = after-in s P u v p h

@@ -6,19 +6,19 @@ use Prim.Native.Nat.{ℕ, suc, _≤_, _<_}
 use native.Mathlib.Nat.{le-refl}
 use native.Mathlib.Omega.{arith}
 use lib.Dec.{leb}
-use Rattle.model.specs.Tree.{Alts, end, last, letter, more, Repeat, Seq, union}
+use Rattle.model.specs.Tree.{Alts, end, last, letter, Mark, more, Repeat, Seq, union}
 use Rattle.model.specs.Edges.{altsEnd, seqEnd}
 use Rattle.model.proofs.Language.Languages.{altsEnd-lt, seqEnd-le}
 use Rattle.model.proofs.Laws.Bool.{pick-gt, pick-le}
 
 -- how a value goes through a letter, past a union, and from a union's start t into the alternative that starts in p
-module _ {ℓ} (X : Type ℓ) (through : ℕ → Repeat → X → X) (past : Alts → X → X) (inside : ℕ → ℕ → X → X) where
+module _ {ℓ} (X : Type ℓ) (through : ℕ → Repeat → X → X) (past : Mark → Alts → X → X) (inside : ℕ → ℕ → X → X) where
   -- the value of state q, where v is handed to the start of a sequence; or to the start t of a union with the alternatives after p
   abbrev mutual
     pub value : Seq → ℕ → X → ℕ → X
     value end t v = λ q. v
     value (letter c r s) t v = λ q. cond (leb q t) v (value s (suc t) (through c r v) q)
-    value (union a s) t v = λ q. cond (leb q t) v (cond (leb q (altsEnd a t)) (altsValue a t t v q) (value s (suc (altsEnd a t)) (past a v) q))
+    value (union m a s) t v = λ q. cond (leb q t) v (cond (leb q (altsEnd a t)) (altsValue a t t v q) (value s (suc (altsEnd a t)) (past m a v) q))
 
     pub altsValue : Alts → ℕ → ℕ → X → ℕ → X
     altsValue (last s) t p v = λ q. value s (suc p) (inside t (suc p) v) q
@@ -28,7 +28,7 @@ module _ {ℓ} (X : Type ℓ) (through : ℕ → Repeat → X → X) (past : Alt
   abbrev pub out : Seq → X → X
   out end v = v
   out (letter c r s) v = out s (through c r v)
-  out (union a s) v = out s (past a v)
+  out (union m a s) v = out s (past m a v)
 
   -- ---- the table W has what is handed on
   module _ (W : ℕ → X) where
@@ -36,7 +36,7 @@ module _ {ℓ} (X : Type ℓ) (through : ℕ → Repeat → X → X) (past : Alt
       pub Has : Seq → ℕ → X → Type ℓ
       Has end t v = W t ≡ v
       Has (letter c r s) t v = (W t ≡ v) × Has s (suc t) (through c r v)
-      Has (union a s) t v = (W t ≡ v) × HasA a t t v × Has s (suc (altsEnd a t)) (past a v)
+      Has (union m a s) t v = (W t ≡ v) × HasA a t t v × Has s (suc (altsEnd a t)) (past m a v)
 
       pub HasA : Alts → ℕ → ℕ → X → Type ℓ
       HasA (last s) t p v = Has s (suc p) (inside t (suc p) v)
@@ -45,12 +45,12 @@ module _ {ℓ} (X : Type ℓ) (through : ℕ → Repeat → X → X) (past : Alt
     pub has-start : (s : Seq) (t : ℕ) (v : X) → Has s t v → W t ≡ v
     has-start end t v h = h
     has-start (letter c r s) t v h = h .0
-    has-start (union a s) t v h = h .0
+    has-start (union m a s) t v h = h .0
 
     pub has-end : (s : Seq) (t : ℕ) (v : X) → Has s t v → W (seqEnd s t) ≡ out s v
     has-end end t v h = h
     has-end (letter c r s) t v h = has-end s (suc t) (through c r v) (h .1)
-    has-end (union a s) t v h = has-end s (suc (altsEnd a t)) (past a v) (h .2)
+    has-end (union m a s) t v h = has-end s (suc (altsEnd a t)) (past m a v) (h .2)
 
     -- what agrees with the values on a sequence's states has it
     mutual
@@ -60,10 +60,10 @@ module _ {ℓ} (X : Type ℓ) (through : ℕ → Repeat → X → X) (past : Alt
         A t (le-refl t) (seqEnd-le (letter c r s) t) ∙ pick-le t t v (value s (suc t) (through c r v) t) (le-refl t),
         has s (suc t) (through c r v) (λ q h k. A q (omega arith) k ∙ pick-gt q t v (value s (suc t) (through c r v) q) h),
       )
-      has (union a s) t v A = (
-        A t (le-refl t) (seqEnd-le (union a s) t) ∙ pick-le t t v (rest t) (le-refl t),
+      has (union m a s) t v A = (
+        A t (le-refl t) (seqEnd-le (union m a s) t) ∙ pick-le t t v (rest t) (le-refl t),
         hasA a t t v (λ q h k. A q (omega arith) (omega (arith, seqEnd-le s (suc z))) ∙ pick-gt q t v (rest q) h ∙ pick-le q z (altsValue a t t v q) (after q) k),
-        has s (suc z) (past a v) (λ q h k. A q (omega (arith, altsEnd-lt a t)) k ∙ pick-gt q t v (rest q) (omega (arith, altsEnd-lt a t))
+        has s (suc z) (past m a v) (λ q h k. A q (omega (arith, altsEnd-lt a t)) k ∙ pick-gt q t v (rest q) (omega (arith, altsEnd-lt a t))
             ∙ pick-gt q z (altsValue a t t v q) (after q) h),
       )
         where
@@ -71,7 +71,7 @@ module _ {ℓ} (X : Type ℓ) (through : ℕ → Repeat → X → X) (past : Alt
           z = altsEnd a t
 
           after : ℕ → X
-          after = value s (suc z) (past a v)
+          after = value s (suc z) (past m a v)
 
           rest : ℕ → X
           rest q = cond (leb q z) (altsValue a t t v q) (after q)

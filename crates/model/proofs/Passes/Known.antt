@@ -8,8 +8,8 @@ use Prim.Native.Nat.{ℕ, suc, _+_, _≤_, _<_}
 use native.Mathlib.Omega.{arith}
 use lib.Dec.{T}
 use Rattle.model.specs.Lists.{_∈_, All}
-use Rattle.model.specs.Tree.{Alts, canSkip, end, last, letter, more, Repeat, Seq, union}
-use Rattle.model.specs.Edges.{altsDepth, altsEmpty, altsEnd, depth, endsOf, seqEmpty, seqEnd, startsOf, Way, ways}
+use Rattle.model.specs.Tree.{Alts, canOmit, canSkip, end, last, letter, Mark, more, Repeat, Seq, union}
+use Rattle.model.specs.Edges.{altsDepth, altsEmpty, altsEnd, depth, endsOf, seqEmpty, seqEnd, startsOf, unionEmpty, Way, ways}
 use Rattle.model.proofs.Language.Arcs.{altsArcs, Arc, arc, ArcKind, arcs, branch-parts, branch-whole, forkArc, letter-parts, letter-whole, letterArc, loopArc, propagateArc}
 use Rattle.model.proofs.Language.Values.{Has, has-end, has-start, HasA, out, table, value}
 use Rattle.model.proofs.Laws.Bool.{and-both, and-split, or-left, or-right}
@@ -28,8 +28,8 @@ past-item skips v = record { level = v .level; home = v .home; source = v .sourc
 abbrev through : ℕ → Repeat → Info → Info
 through c r v = past-item (canSkip r) v
 
-abbrev past : Alts → Info → Info
-past a v = past-item (altsEmpty a) v
+abbrev past : Mark → Alts → Info → Info
+past m a v = past-item (unionEmpty m a) v
 
 abbrev inside : ℕ → ℕ → Info → Info
 inside t p v = record { level = suc (v .level); home = p; source = t; free = true }
@@ -50,20 +50,20 @@ end-free (letter c r s) v h =
     let x = end-free s (through c r v) h in
     let y = and-split (canSkip r) (v .free) (x .1) in
     (and-both (canSkip r) (seqEmpty s) (y .0) (x .0), y .1)
-end-free (union a s) v h =
-    let x = end-free s (past a v) h in
-    let y = and-split (altsEmpty a) (v .free) (x .1) in
-    (and-both (altsEmpty a) (seqEmpty s) (y .0) (x .0), y .1)
+end-free (union m a s) v h =
+    let x = end-free s (past m a v) h in
+    let y = and-split (unionEmpty m a) (v .free) (x .1) in
+    (and-both (unionEmpty m a) (seqEmpty s) (y .0) (x .0), y .1)
 
 end-level : (s : Seq) (v : Info) → at-end s v .level ≡ v .level
 end-level end v = refl
 end-level (letter c r s) v = end-level s (through c r v)
-end-level (union a s) v = end-level s (past a v)
+end-level (union m a s) v = end-level s (past m a v)
 
 end-home : (s : Seq) (v : Info) → at-end s v .home ≡ v .home
 end-home end v = refl
 end-home (letter c r s) v = end-home s (through c r v)
-end-home (union a s) v = end-home s (past a v)
+end-home (union m a s) v = end-home s (past m a v)
 
 -- ---- what an arc of depth k says of its states, in a tree of depth d: a propagate arc from q to r
 pub record Skip (W : ℕ → Info) (d k q r : ℕ) : Type 0 where
@@ -167,21 +167,21 @@ module _ (E : Arc → Type 0) (W : ℕ → Info) (d : ℕ) where
           skips = λ n. skip-fits k t (suc t) v (canSkip r) (omega arith) e (K .0) (start-of s (suc t) (through c r v) (K .1)) n;
           rest = fits s (suc t) k (through c r v) b e (letter-parts E c r s t k A .rest) (K .1);
         })
-    fits (union a s) t k v b e A K =
+    fits (union m a s) t k v b e A K =
         let u = suc (altsEnd a t) in
-        let i = start-of s u (past a v) (K .2) in
-        let B = branch-parts E a s t k A in
-        branch-whole ArcFits a s t k (record {
-          skips = λ n. skip-fits k t u v (altsEmpty a) (omega arith) e (K .0) i n;
+        let i = start-of s u (past m a v) (K .2) in
+        let B = branch-parts E m a s t k A in
+        branch-whole ArcFits m a s t k (record {
+          skips = λ n. skip-fits k t u v (unionEmpty m a) (omega arith) e (K .0) i n;
           forks = record {
             low = omega arith;
             level-from = ap (λ (i : Info). i .level) (K .0) ∙ e;
             level-to = ap (λ (i : Info). i .level) i ∙ e;
             begins = begins-fit a t t k v e (K .1);
-            ends = ends-fit a t t u k v e (B .skips) (K .1);
+            ends = ends-fit a t t u k v e (λ n. B .skips (or-right (canOmit m) (altsEmpty a) n)) (K .1);
           };
           alts = alts-fit a t t k v (omega arith) e (B .alts) (K .1);
-          rest = fits s u k (past a v) (omega arith) e (B .rest) (K .2);
+          rest = fits s u k (past m a v) (omega arith) e (B .rest) (K .2);
         })
 
     alts-fit : (a : Alts) (t p k : ℕ) (v : Info) → suc k + altsDepth a ≤ d → v .level ≡ k → All E (altsArcs a p k) → KnownA W a t p v → All ArcFits (altsArcs a p k)

@@ -117,6 +117,10 @@ pub over-free : (r : List ℕ) → T (over r) → T (free r)
 over-free [] h = tt
 over-free (x ∷ xs) h = among (λ y. not (within y (bytes "?*+{"))) x (bytes "|)") h tt
 
+pub free-past : (r : List ℕ) → T (free r) → past (byte "?") r ≡ bad r
+free-past [] h = refl
+free-past (x ∷ xs) h = past-other (λ y. not (within y (bytes "?*+{"))) (byte "?") x xs h tt
+
 pub opens-free : (l : List ℕ) → T (opens l) → T (free l)
 opens-free [] h = absurd h
 opens-free (x ∷ xs) h = not-among (λ y. not (within y (bytes "|)?*+{"))) x (bytes "?*+{") h tt

@@ -8,8 +8,8 @@ use native.Mathlib.Omega.{arith}
 use lib.ListN.{length, length-append}
 use Rattle.model.specs.Bytes.{byte}
 use Rattle.model.specs.Tree.{Alts, glue, last, more, Seq}
-use Rattle.model.specs.Grammar.{bracket, IsItem, IsSeq}
-use Rattle.model.specs.Models.Reader.{bind, case, got, over, past, Read, readAlts, readItem, readPiece, readSeq}
+use Rattle.model.specs.Grammar.{grouped, IsItem, IsSeq}
+use Rattle.model.specs.Models.Reader.{bind, case, got, over, past, Read, readAlts, readItem, readMark, readPiece, readSeq}
 use Rattle.model.proofs.Reading.Answers.{Holds, opens-long, past-cases, Sound, sound-holds, stopped, took}
 use Rattle.model.proofs.Reading.Decides.{item-opens, seq-opens, sound-alts, sound-item, sound-seq}
 
@@ -30,7 +30,8 @@ abbrev pub seqBody : (List ℕ → Read Seq) → (List ℕ → Read Seq) → Lis
 seqBody I S l = bind (I l) (λ h r. cond (over r) (got h r) (bind (S r) (λ t r′. got (glue h t) r′)))
 
 abbrev pub itemBody : (List ℕ → Read Alts) → List ℕ → Read Seq
-itemBody A l = case (past (byte "(") l) (λ x r. bind (A r) (λ a r′. bind (past (byte ")") r′) (λ y r″. got (bracket a) r″))) (readPiece l)
+itemBody A l =
+    case (past (byte "(") l) (λ x r. bind (A r) (λ a r′. bind (past (byte ")") r′) (λ y r″. bind (readMark r″) (λ m r‴. got (grouped a m) r‴)))) (readPiece l)
 
 -- ---- a sequence takes at least one byte, and so does an item
 seq-short : (l u r : List ℕ) {s : Seq} → l ≡ u ++ r → IsSeq u s → length r < length l

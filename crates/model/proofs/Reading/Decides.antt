@@ -9,11 +9,11 @@ use native.Mathlib.Omega.{arith}
 use lib.Dec.{T}
 use lib.ListN.{length, length-append}
 use Rattle.model.specs.Bytes.{byte, bytes}
-use Rattle.model.specs.Tree.{Alts, Seq}
-use Rattle.model.specs.Grammar.{also, bracket, group, IsAlts, IsItem, IsRule, IsSeq, item, lone, only, rule, then}
-use Rattle.model.specs.Models.Reader.{bad, got, over, Read, readAlts, readItem, readPiece, readRule, readSeq, whole}
+use Rattle.model.specs.Tree.{Alts, Mark, Seq}
+use Rattle.model.specs.Grammar.{also, bracket, group, IsAlts, IsItem, IsMark, IsRule, IsSeq, item, lone, nothing, only, query, rule, then}
+use Rattle.model.specs.Models.Reader.{bad, got, over, Read, readAlts, readItem, readMark, readPiece, readRule, readSeq, whole}
 use Rattle.model.proofs.Laws.Bool.{is-true}
-use Rattle.model.proofs.Reading.Answers.{begins-append, begins-opens, begins-past, bind-past-sound, bind-sound, case-past-sound, closes, closes-over, closes-past, cond-sound, free, opens, opens-append, opens-free, opens-long, opens-over, over-free, parted, Sound, stopped, took}
+use Rattle.model.proofs.Reading.Answers.{begins-append, begins-opens, begins-past, bind-past-sound, bind-sound, case-past-sound, closes, closes-over, closes-past, cond-sound, free, free-past, opens, opens-append, opens-free, opens-long, opens-over, over-free, parted, Sound, stopped, took}
 use Rattle.model.proofs.Reading.Letters.{complete-letter, letter-begins, sound-letter}
 use Rattle.model.proofs.Reading.Signs.{complete-sign, sound-sign}
 
@@ -23,6 +23,9 @@ sound-piece l =
     bind-sound (sound-letter l) (λ u c r e d.
     bind-sound (sound-sign r) (λ v q r′ f b.
     took (u ++ v) (cc (append-assoc u v r′)) (lone refl refl d b)))
+
+sound-mark : (l : List ℕ) → Sound IsMark l (readMark l)
+sound-mark l = case-past-sound (byte "?") l (λ z r p. took (bytes "?") p (query refl refl)) (took [] refl (nothing refl refl))
 
 mutual
   pub sound-alts : (n : ℕ) (l : List ℕ) → Sound IsAlts l (readAlts n l)
@@ -46,7 +49,8 @@ mutual
   sound-item (suc n) l =
       case-past-sound (byte "(") l
       (λ z r p. bind-sound (sound-alts n r) (λ u a r′ e d.
-      bind-past-sound (byte ")") r′ (λ y r″ q. took (byte "(" ∷ (u ++ bytes ")")) (cc (append-assoc u (bytes ")") r″)) (group refl refl d))))
+      bind-past-sound (byte ")") r′ (λ y r″ q.
+      bind-sound (sound-mark r″) (λ v m r‴ f b. took (byte "(" ∷ (u ++ (byte ")" ∷ v))) (cc (append-assoc u (byte ")" ∷ v) r‴)) (group refl refl d b)))))
       (sound-piece l)
 
 pub sound-rule : (w : List ℕ) (s : Seq) → readRule w ≡ some s → IsRule w s
@@ -65,9 +69,13 @@ mutual
 
   pub item-opens : {w : List ℕ} {s : Seq} → IsItem w s → T (opens w)
   item-opens (lone {u} {v} p q d b) = rw p (opens-append u v (begins-opens u (letter-begins d)))
-  item-opens (group p q d) = rw p tt
+  item-opens (group p q d b) = rw p tt
 
 -- ---- what is in the grammar is read, and what may follow it is left
+complete-mark : {w : List ℕ} {m : Mark} → IsMark w m → (r : List ℕ) → T (free r) → readMark (w ++ r) ≡ got m r
+complete-mark (nothing p q) r c = rw (p, q, free-past r c)
+complete-mark (query p q) r c = rw (p, q)
+
 mutual
   pub complete-alts : {w : List ℕ} {a : Alts} → IsAlts w a → (n : ℕ) (r : List ℕ) → T (closes r) → 3 * length (w ++ r) + 3 ≤ n → readAlts n (w ++ r) ≡ got a r
   complete-alts (only d) zero r c k = absurd (omega arith)
@@ -98,10 +106,10 @@ mutual
   complete-item (lone p q d b) zero r c k = absurd (omega arith)
   complete-item (lone {w} {u} {v} p q d b) (suc n) r c k =
       rw (parted w u v r p, begins-past (u ++ (v ++ r)) (begins-append u (v ++ r) (letter-begins d)), complete-letter d (v ++ r), complete-sign b r c, q)
-  complete-item (group p q d) zero r c k = absurd (omega arith)
-  complete-item (group {w} {u} p q d) (suc n) r c k =
-      let e = parted w (byte "(" ∷ u) (bytes ")") r p in
-      rw (e, complete-alts d n (byte ")" ∷ r) tt (omega (arith, ap length e)), q)
+  complete-item (group p q d b) zero r c k = absurd (omega arith)
+  complete-item (group {w} {u} {v} p q d b) (suc n) r c k =
+      let e = parted w (byte "(" ∷ u) (byte ")" ∷ v) r p in
+      rw (e, complete-alts d n (byte ")" ∷ (v ++ r)) tt (omega (arith, ap length e)), complete-mark b r c, q)
 
 pub complete-rule : {w : List ℕ} {s : Seq} → IsRule w s → readRule w ≡ some s
 complete-rule (rule {w} p d) =

@@ -1,7 +1,8 @@
--- EVERY RULE'S TREE IS WELL FORMED: each class holds some byte and only bytes, no sequence is empty and each union has at least two alternatives;
--- for the grammar has no empty class, no empty sequence, and brackets around one alternative vanish.
+-- EVERY RULE'S TREE IS WELL FORMED: each class holds some byte and only bytes, no sequence is empty, each union without `?` has at least two
+-- alternatives, and none of one with `?` can be empty; for the grammar has no empty class, no empty sequence, brackets around one alternative
+-- vanish, and so does a `?` that is not needed.
 use mathlib.Core.Path.{_≡_}
-use mathlib.Core.Bool.{not, _&&_}
+use mathlib.Core.Bool.{Bool, true, false, not, _&&_}
 use mathlib.Core.List.{List, _∷_}
 use Prim.Native.Nat.{ℕ, zero, suc, _+_, _-_, _^_, _≤_, _<_}
 use native.Mathlib.Nat.{le-refl}
@@ -12,10 +13,11 @@ use lib.Pow.{pow-pos, pow-lt}
 use Rattle.model.specs.Lists.{within}
 use Rattle.model.specs.Bits.{bit}
 use Rattle.model.specs.Bytes.{byte, IsEscape, number, plain, sign, signs}
-use Rattle.model.specs.Tree.{Alts, end, glue, last, letter, more, once, option, plus, Repeat, Seq, star, union}
-use Rattle.model.specs.Grammar.{absent, also, asterisk, beside, braces, bracket, class, copies, cross, dot, escape, escaped, group, IsAlts, IsItem, IsLetter, IsMember, IsMembers, IsRule, IsSeq, IsSign, IsSingle, item, itself, lone, member, only, plain-byte, question, range, repeated, rule, Sign, single, span, then, times}
+use Rattle.model.specs.Tree.{Alts, end, glue, last, letter, Mark, more, once, option, optional, plus, Repeat, Seq, star, union, unmarked}
+use Rattle.model.specs.Grammar.{absent, also, asterisk, beside, braces, bracket, class, copies, cross, dot, escape, escaped, group, grouped, IsAlts, IsItem, IsLetter, IsMark, IsMember, IsMembers, IsRule, IsSeq, IsSign, IsSingle, item, itself, lone, member, nothing, only, plain-byte, query, question, range, repeated, rule, Sign, single, span, then, times}
+use Rattle.model.specs.Edges.{altsEmpty}
 use Rattle.model.proofs.Laws.Bits.{bit-some}
-use Rattle.model.proofs.Laws.Bool.{and-both, and-split}
+use Rattle.model.proofs.Laws.Bool.{and-both, and-split, cond-cases}
 use Rattle.model.proofs.Laws.Trees.{NonEmpty}
 use Rattle.model.proofs.Reading.Answers.{among}
 use Rattle.model.proofs.Reading.Escapes.{hex-small}
@@ -26,17 +28,24 @@ pub record Class (c : ℕ) : Type 0 where
   pub some-byte : 1 ≤ c
   pub bytes-only : c < 2 ^ 256
 
--- the union has at least two alternatives
-abbrev pub Several : Alts → Type 0
-Several (last s) = ⊥
-Several (more s a) = Unit {0}
+-- the mark that the grammar leaves a union: none where it has several alternatives, `?` where none of them can be empty
+abbrev pub several : Alts → Bool
+several (last s) = false
+several (more s a) = true
+
+abbrev pub marking : Mark → (several empty : Bool) → Bool
+marking unmarked n e = n
+marking optional n e = not e
+
+abbrev pub Marked : Mark → Alts → Type 0
+Marked m a = T (marking m (several a) (altsEmpty a))
 
 -- and so for all that lies within
 abbrev mutual
   pub Good : Seq → Type 0
   Good end = Unit {0}
   Good (letter c r s) = Class c × Good s
-  Good (union a s) = Several a × GoodAlts a × Good s
+  Good (union m a s) = Marked m a × GoodAlts a × Good s
 
   pub GoodAlts : Alts → Type 0
   GoodAlts (last s) = NonEmpty s × Good s
@@ -102,12 +111,12 @@ glue-well h t a b = well (glue h t) (full h (a .full)) (good h (a .good))
     full : (h : Seq) → NonEmpty h → NonEmpty (glue h t)
     full end f = absurd f
     full (letter c r s) f = tt
-    full (union a s) f = tt
+    full (union m a s) f = tt
 
     good : (h : Seq) → Good h → Good (glue h t)
     good end g = b .good
     good (letter c r s) g = (g .0, good s (g .1))
-    good (union a s) g = (g .0, g .1, good s (g .2))
+    good (union m a s) g = (g .0, g .1, good s (g .2))
 
 copies-good : (n c : ℕ) (r : Repeat) (s : Seq) → Class c → Good s → Good (copies n c r s)
 copies-good zero c r s h g = g
@@ -132,7 +141,11 @@ repeated-well c h (braces {x} {y} p q k l b) =
 
 bracket-well : (a : Alts) → GoodAlts a → WellFormed (bracket a)
 bracket-well (last s) g = well s (g .0) (g .1)
-bracket-well (more s a) g = well (union (more s a) end) tt (tt, g, tt)
+bracket-well (more s a) g = well (union unmarked (more s a) end) tt (tt, g, tt)
+
+grouped-well : {w : List ℕ} {m : Mark} (a : Alts) → IsMark w m → GoodAlts a → WellFormed (grouped a m)
+grouped-well a (nothing p q) g = rw q (bracket-well a g)
+grouped-well a (query p q) g = rw q (cond-cases WellFormed (altsEmpty a) (λ e. bracket-well a g) (λ e. well (union optional a end) tt (e, g, tt)))
 
 mutual
   alts-good : {w : List ℕ} {a : Alts} → IsAlts w a → GoodAlts a
@@ -145,7 +158,7 @@ mutual
 
   item-well : {w : List ℕ} {s : Seq} → IsItem w s → WellFormed s
   item-well (lone {c} p q d b) = rw q (repeated-well c (letter-class d) b)
-  item-well (group {a} p q d) = rw q (bracket-well a (alts-good d))
+  item-well (group {a} p q d b) = rw q (grouped-well a b (alts-good d))
 
 -- EVERY RULE'S TREE IS WELL FORMED
 pub rule-well : {w : List ℕ} {s : Seq} → IsRule w s → WellFormed s

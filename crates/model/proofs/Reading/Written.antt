@@ -4,14 +4,16 @@ use mathlib.Core.Path.{_≡_, refl, subst}
 use mathlib.Core.Logic.{_↔_}
 use mathlib.Core.List.{List, [], _∷_, _++_, append-nil, append-assoc}
 use Prim.Native.Nat.{ℕ}
-use Rattle.model.specs.Bytes.{byte, bytes}
-use Rattle.model.specs.Tree.{Alts, end, glue, last, letter, more, once, option, plus, Repeat, Seq, star, union}
-use Rattle.model.specs.Grammar.{absent, also, asterisk, cross, group, IsAlts, IsItem, IsRule, IsSeq, IsSign, item, lone, only, plainly, question, rule, then}
-use Rattle.model.specs.Writing.{altsWriting, classWriting, repeatWriting, writing}
+use Rattle.model.specs.Bytes.{byte}
+use Rattle.model.specs.Tree.{Alts, end, glue, last, letter, Mark, more, once, option, optional, plus, Repeat, Seq, star, union, unmarked}
+use Rattle.model.specs.Grammar.{absent, also, asterisk, cross, group, grouped, IsAlts, IsItem, IsMark, IsRule, IsSeq, IsSign, item, lone, nothing, only, plainly, query, question, rule, then}
+use Rattle.model.specs.Edges.{altsEmpty}
+use Rattle.model.specs.Writing.{altsWriting, classWriting, markWriting, repeatWriting, writing}
+use Rattle.model.proofs.Laws.Bool.{is-false}
 use Rattle.model.proofs.Laws.Trees.{glue-end, NonEmpty}
 use Rattle.model.proofs.Reading.ClassWritten.{class-letter}
 use Rattle.model.proofs.Reading.Decides.{one-tree}
-use Rattle.model.proofs.Reading.WellFormed.{Good, GoodAlts, rule-well, Several, WellFormed}
+use Rattle.model.proofs.Reading.WellFormed.{Good, GoodAlts, Marked, rule-well, WellFormed}
 
 repeat-sign : (r : Repeat) → IsSign (repeatWriting r) (plainly r)
 repeat-sign once = absent refl refl
@@ -21,32 +23,37 @@ repeat-sign plus = cross refl refl
 
 -- the sequence s has the bytes w: it is empty, or in the grammar
 data Wrote (s : Seq) (w : List ℕ) : Type 0 where
-  nothing : s ≡ end → w ≡ [] → Wrote s w
+  naught : s ≡ end → w ≡ [] → Wrote s w
   something : IsSeq w s → Wrote s w
 
 prepend : (u v : List ℕ) (h t : Seq) → IsItem u h → Wrote t v → IsSeq (u ++ v) (glue h t)
-prepend u v h t d (nothing p q) = rw (p, q, glue-end h, append-nil u) (item d)
+prepend u v h t d (naught p q) = rw (p, q, glue-end h, append-nil u) (item d)
 prepend u v h t d (something b) = then refl refl d b
 
 wrote : (s : Seq) (w : List ℕ) → NonEmpty s → Wrote s w → IsSeq w s
-wrote s w f (nothing p q) = absurd (subst NonEmpty p f)
+wrote s w f (naught p q) = absurd (subst NonEmpty p f)
 wrote s w f (something d) = d
 
-group-item : (a : Alts) (u : List ℕ) → Several a → IsAlts u a → IsItem (byte "(" ∷ (u ++ bytes ")")) (union a end)
-group-item (last s) u k d = absurd k
-group-item (more s a) u k d = group refl refl d
+mark-sign : (m : Mark) → IsMark (markWriting m) m
+mark-sign unmarked = nothing refl refl
+mark-sign optional = query refl refl
+
+grouped-is : (m : Mark) (a : Alts) → Marked m a → union m a end ≡ grouped a m
+grouped-is unmarked (last s) k = absurd k
+grouped-is unmarked (more s a) k = refl
+grouped-is optional a k = rw (is-false (altsEmpty a) k)
 
 mutual
   seq-written : (s : Seq) → Good s → Wrote s (writing s)
-  seq-written end g = nothing refl refl
+  seq-written end g = naught refl refl
   seq-written (letter c r s) g =
       let front = lone refl refl (class-letter c (g .0)) (repeat-sign r) in
       something (subst (λ (w : List ℕ). IsSeq w (letter c r s)) (append-assoc (classWriting c) (repeatWriting r) (writing s))
       (prepend (classWriting c ++ repeatWriting r) (writing s) (letter c r end) s front (seq-written s (g .1))))
-  seq-written (union a s) g =
-      let front = group-item a (altsWriting a) (g .0) (alts-written a (g .1)) in
-      something (subst (λ (w : List ℕ). IsSeq (byte "(" ∷ w) (union a s)) (append-assoc (altsWriting a) (bytes ")") (writing s))
-      (prepend (byte "(" ∷ (altsWriting a ++ bytes ")")) (writing s) (union a end) s front (seq-written s (g .2))))
+  seq-written (union m a s) g =
+      let front = group refl (grouped-is m a (g .0)) (alts-written a (g .1)) (mark-sign m) in
+      something (subst (λ (w : List ℕ). IsSeq (byte "(" ∷ w) (union m a s)) (append-assoc (altsWriting a) (byte ")" ∷ markWriting m) (writing s))
+      (prepend (byte "(" ∷ (altsWriting a ++ (byte ")" ∷ markWriting m))) (writing s) (union m a end) s front (seq-written s (g .2))))
 
   alts-written : (a : Alts) → GoodAlts a → IsAlts (altsWriting a) a
   alts-written (last s) g = only (wrote s (writing s) (g .0) (seq-written s (g .1)))

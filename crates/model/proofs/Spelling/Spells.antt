@@ -8,15 +8,15 @@ use lib.Dec.{T}
 use lib.ListN.{length}
 use Rattle.model.specs.Lists.{_∈_, All}
 use Rattle.model.specs.Bits.{bit}
-use Rattle.model.specs.Tree.{Alts, canLoop, canSkip, end, last, letter, more, once, option, plus, Repeat, Seq, star, Tree, union}
-use Rattle.model.specs.Edges.{accepting, altsEnd, endsOf, seqEnd, startsOf, ways}
-use Rattle.model.specs.Ends.{AltsSpell, LetterSpells, Spells}
+use Rattle.model.specs.Tree.{Alts, canLoop, canSkip, end, last, letter, Mark, more, once, option, optional, plus, Repeat, Seq, star, Tree, union, unmarked}
+use Rattle.model.specs.Edges.{accepting, altsEnd, endsOf, seqEnd, startsOf, unionEmpty, ways}
+use Rattle.model.specs.Ends.{AltsSpell, GroupSpells, LetterSpells, Spells}
 use Rattle.model.specs.Live.{itself, onward}
 use Rattle.model.specs.Models.Leads.{Leads}
 use Rattle.model.specs.Spelling.{between, Reaches, Spelled}
 use Rattle.model.proofs.Definitions.Free.{free-is}
 use Rattle.model.proofs.Definitions.Takes.{takes-is}
-use Rattle.model.proofs.Language.Arcs.{altsArcs, Arc, arc, arcs, branch-parts, Byte, forkArc, Letter, letter-parts, letterArc, loopArc, propagateArc, Still}
+use Rattle.model.proofs.Language.Arcs.{altsArcs, Arc, arc, arcs, Branch, branch-parts, Byte, forkArc, Letter, letter-parts, letterArc, loopArc, propagateArc, Still}
 use Rattle.model.proofs.Language.Carried.{carried, Carries}
 use Rattle.model.proofs.Language.Languages.{Language}
 use Rattle.model.proofs.Language.Stretches.{after-out, feed}
@@ -62,24 +62,42 @@ module _ (E : Arc → Type 0) where
           many (b ∷ v) a = one b v (a .0) (loop (l tt) v (a .1))
       go plus l z (b, y, e, k, a) = subst (λ (v : List ℕ). Goes E t v (suc t)) (sym e) (one b y k (loop (l tt) y a))
 
+  -- from an alternative's start to its end
+  abbrev Through : Alts → ℕ → List ℕ → Type 0
+  Through a p v = (i : ℕ) × (j : ℕ) × (i ∈ startsOf (ways a p)) × (j ∈ endsOf (ways a p)) × Goes E i v j
+
+  -- a union by one of its alternatives, or over it where its mark lets it be left out
+  union-goes : (m : Mark) (a : Alts) (s : Seq) (t k : ℕ) → Branch E m a s t k → (x : List ℕ) → (AltsSpell a x → Through a t x)
+      → GroupSpells m (AltsSpell a) x → Goes E t x (suc (altsEnd a t))
+  union-goes m a s t k B x f h = go m (B .skips) h
+    where
+      u : ℕ
+      u = suc (altsEnd a t)
+
+      inside : AltsSpell a x → Goes E t x u
+      inside h =
+          let F = arc (forkArc (ways a t)) k t u in
+          let w = f h in
+          let on = goes-on (w .4) (still F (B .forks) (inr (w .3, refl)) here) in
+          subst (λ (z : List ℕ). Goes E t z u) (append-nil x) (still F (B .forks) (inl (refl, w .2)) on)
+
+      go : (m : Mark) → (T (unionEmpty m a) → E (arc propagateArc k t u)) → GroupSpells m (AltsSpell a) x → Goes E t x u
+      go unmarked z h = inside h
+      go optional z (inl o) = subst (λ (v : List ℕ). Goes E t v u) (sym o) (still (arc propagateArc k t u) (z tt) (refl, refl) here)
+      go optional z (inr h) = inside h
+
   mutual
     spells-goes : (s : Seq) (t k : ℕ) → All E (arcs s t k) → (v : List ℕ) → Spells s v → Goes E t v (seqEnd s t)
     spells-goes end t k A v h = subst (λ (x : List ℕ). Goes E t x t) (sym h) here
     spells-goes (letter c r s) t k A v (x, y, e, h, l) =
         let B = letter-parts E c r s t k A in
         subst (λ (w : List ℕ). Goes E t w (seqEnd s (suc t))) (sym e) (goes-on (letter-goes c r s t k B x h) (spells-goes s (suc t) k (B .rest) y l))
-    spells-goes (union a s) t k A v (x, y, e, h, l) =
-        let B = branch-parts E a s t k A in
+    spells-goes (union m a s) t k A v (x, y, e, h, l) =
+        let B = branch-parts E m a s t k A in
         let u = suc (altsEnd a t) in
-        let F = arc (forkArc (ways a t)) k t u in
-        let w = alts-goes a t k (B .alts) x h in
-        let on = goes-on (w .4) (still F (B .forks) (inr (w .3, refl)) here) in
-        subst (λ (z : List ℕ). Goes E t z (seqEnd s u)) (sym e)
-        (goes-on (subst (λ (z : List ℕ). Goes E t z u) (append-nil x) (still F (B .forks) (inl (refl, w .2)) on)) (spells-goes s u k (B .rest) y l))
+        subst (λ (z : List ℕ). Goes E t z (seqEnd s u)) (sym e) (goes-on (union-goes m a s t k B x (λ i. alts-goes a t k (B .alts) x i) h) (spells-goes s u k (B .rest) y l))
 
-    -- from an alternative's start to its end
-    alts-goes : (a : Alts) (p k : ℕ) → All E (altsArcs a p k) → (v : List ℕ) → AltsSpell a v
-        → (i : ℕ) × (j : ℕ) × (i ∈ startsOf (ways a p)) × (j ∈ endsOf (ways a p)) × Goes E i v j
+    alts-goes : (a : Alts) (p k : ℕ) → All E (altsArcs a p k) → (v : List ℕ) → AltsSpell a v → Through a p v
     alts-goes (last s) p k A v h = (suc p, seqEnd s (suc p), inl refl, inl refl, spells-goes s (suc p) (suc k) A v h)
     alts-goes (more s a) p k A v (inl h) =
         let z = seqEnd s (suc p) in

@@ -21,7 +21,7 @@ abbrev mutual
   pub Full : Seq → Type 0
   Full end = Unit
   Full (letter c r s) = Full s
-  Full (union a s) = FullA a × Full s
+  Full (union m a s) = FullA a × Full s
 
   pub FullA : Alts → Type 0
   FullA (last s) = NonEmpty s × Full s
@@ -30,7 +30,7 @@ abbrev mutual
 non-empty : (s : Seq) (t : ℕ) → NonEmpty s → t < seqEnd s t
 non-empty end t h = absurd h
 non-empty (letter c r s) t h = seqEnd-le s (suc t)
-non-empty (union a s) t h = omega (arith, altsEnd-lt a t, seqEnd-le s (suc (altsEnd a t)))
+non-empty (union m a s) t h = omega (arith, altsEnd-lt a t, seqEnd-le s (suc (altsEnd a t)))
 
 -- ---- the starts of the alternatives after state p lie past p, the last one of them highest and, where none is empty, before the last end
 last-of : (a : Alts) (p z : ℕ) → lastStart ((suc p, z) ∷ ways a z) ≡ lastStart (ways a z)

@@ -10,7 +10,7 @@ use native.Mathlib.Omega.{arith}
 use lib.Dec.{T, eqb, eqb→eq, eqb-refl}
 use Rattle.model.specs.Lists.{All, any}
 use Rattle.model.specs.Tree.{Alts, canLoop, canSkip, end, last, letter, more, Seq, union}
-use Rattle.model.specs.Edges.{altsEmpty, altsEnd, seqEnd, Way, ways}
+use Rattle.model.specs.Edges.{altsEnd, seqEnd, unionEmpty, Way, ways}
 use Rattle.model.proofs.Language.Arcs.{altsArcs, Arc, arc, ArcKind, arcs, branch-whole, forkArc, letter-whole, letterArc, loopArc, propagateArc, when}
 use Rattle.model.proofs.Laws.Bool.{is-true, unequal}
 use Rattle.model.proofs.Laws.Lists.{all-app, all-map, In, in-split, later, sooner}
@@ -25,9 +25,9 @@ mutual
   depths end t k = tt
   depths (letter c r s) t k =
       letter-whole (deeper k) c r s t k (record { takes = le-refl k; loops = λ x. le-refl k; skips = λ x. le-refl k; rest = depths s (suc t) k })
-  depths (union a s) t k =
+  depths (union m a s) t k =
       let alts = all-map (deeper (suc k)) (deeper k) (λ e h. omega arith) (altsArcs a t k) (altsDepths a t k) in
-      branch-whole (deeper k) a s t k (record { skips = λ x. le-refl k; forks = le-refl k; alts = alts; rest = depths s (suc (altsEnd a t)) k })
+      branch-whole (deeper k) m a s t k (record { skips = λ x. le-refl k; forks = le-refl k; alts = alts; rest = depths s (suc (altsEnd a t)) k })
 
   altsDepths : (a : Alts) (p k : ℕ) → All (deeper (suc k)) (altsArcs a p k)
   altsDepths (last s) p k = depths s (suc p) (suc k)
@@ -164,7 +164,7 @@ module _ (X : Type 0) (pickP : ℕ → ℕ → List X) (pickF : List Way → ℕ
           looped : (l : Bool) → In-order t z (itemsOf k (es (canSkip r))) → In-order t z (itemsOf k (when l (arc (loopArc c) j (suc t) (suc t)) (es (canSkip r))))
           looped true A = no-item (itemsOf k (es (canSkip r))) A
           looped false A = A
-      rows (union a s) t j k F = go (altsEmpty a) (eqb j k) refl (altsRows a t j k (F .0)) (rows s (suc (altsEnd a t)) j k (F .1))
+      rows (union m a s) t j k F = go (unionEmpty m a) (eqb j k) refl (altsRows a t j k (F .0)) (rows s (suc (altsEnd a t)) j k (F .1))
         where
           u : ℕ
           u = suc (altsEnd a t)

@@ -4,7 +4,7 @@ use mathlib.Core.List.{List, [], _∷_}
 use Prim.Native.Nat.{ℕ, zero, suc, _+_, _*_}
 use lib.ListN.{getD, take, drop}
 use Rattle.model.specs.Bits.{bit, mask}
-use Rattle.model.specs.Tree.{once, option, plus, Repeat, star}
+use Rattle.model.specs.Tree.{Mark, once, option, optional, plus, Repeat, star, unmarked}
 use Rattle.model.specs.Models.Tokens.{aBar, aClose, aLetter, anOpen, Token}
 use Rattle.model.specs.Models.Words.{value}
 
@@ -67,15 +67,19 @@ repeatOf true false = option
 repeatOf false true = plus
 repeatOf false false = once
 
+abbrev pub markOf : (skips : Bool) → Mark
+markOf true = optional
+markOf false = unmarked
+
 -- anything odd is a bar: the comparison with what is laid out will tell
 abbrev pub tokenOf : (isLetter : Bool) (class : ℕ) (skips loops closes opens : Bool) → Token
 tokenOf true c s l k o = aLetter c (repeatOf s l)
-tokenOf false c s l true o = aClose
+tokenOf false c s l true o = aClose (markOf s)
 tokenOf false c s l false true = anOpen
 tokenOf false c s l false false = aBar
 
 -- the token after state i: a letter if some letter mask has state i + 1, optional if a propagate edge enters that state, looping if some repeat
--- mask has it; else a close if it is a gather target; else an open if i is a scatter source
+-- mask has it; else a close if it is a gather target, showing whether a propagate edge enters it; else an open if i is a scatter source
 abbrev pub tokenAt : List ℕ → ℕ → Token
 tokenAt ws i =
     let W = widthWord ws in

@@ -6,7 +6,7 @@ use Prim.Native.Nat.{ℕ, zero, suc, max}
 use lib.Dec.{leb, ltb, eqb}
 use lib.ListN.{length, getD}
 use Rattle.model.specs.Bits.{bit, mask}
-use Rattle.model.specs.Tree.{canLoop, canSkip, Repeat}
+use Rattle.model.specs.Tree.{canLoop, canOmit, canSkip, Mark, optional, Repeat, unmarked}
 use Rattle.model.specs.Image.{join, section, width, words}
 use Rattle.model.specs.Models.Tokens.{aBar, aClose, aLetter, anOpen, classOf, loopClassOf, Token}
 
@@ -53,15 +53,15 @@ abbrev pub afterBar : ℕ → Bool → List Frame → Scan
 afterBar z c [] = scan (suc z) false c []
 afterBar z c (f ∷ st) = scan (suc z) true true (nextAlternative f z c ∷ st)
 
-abbrev pub afterClose : ℕ → Bool → List Frame → Scan
-afterClose z c [] = scan (suc z) false c []
-afterClose z c (f ∷ st) = scan (suc z) false (f .emptyOutside && (f .emptyBefore || c)) st
+abbrev pub afterClose : Mark → ℕ → Bool → List Frame → Scan
+afterClose m z c [] = scan (suc z) false c []
+afterClose m z c (f ∷ st) = scan (suc z) false (f .emptyOutside && canOmit m) st
 
 abbrev pub step : Token → Scan → Scan
 step (aLetter c r) q = scan (suc (q .position)) false (q .canBeEmpty && canSkip r) (q .stack)
 step anOpen q = scan (suc (q .position)) true true (opened q ∷ q .stack)
 step aBar q = afterBar (q .position) (q .canBeEmpty) (q .stack)
-step aClose q = afterClose (q .position) (q .canBeEmpty) (q .stack)
+step (aClose m) q = afterClose m (q .position) (q .canBeEmpty) (q .stack)
 
 -- ---- the places that a token marks: of the mask `w` of depth k, the state x
 -- the kinds of masks: letter and loop places (depth 0 alone), those of scatter and gather, and the states where propagate edges start and end
@@ -133,22 +133,22 @@ closeMarks z d f a gather-target k x = eqb x (suc z) && eqb d k
 closeMarks z d f a leaving k x = false
 closeMarks z d f a entering k x = false
 
--- by the open unions; a close also bridges a union that can be empty
+-- by the open unions; a close also bridges its union if it shows so
 abbrev pub barMarksIn : ℕ → List Frame → Which → ℕ → ℕ → Bool
 barMarksIn z [] w k x = false
 barMarksIn z (f ∷ st) w k x = barMarks z (length st) w k x
 
-abbrev pub closeMarksIn : ℕ → Bool → List Frame → Which → ℕ → ℕ → Bool
-closeMarksIn z c [] w k x = false
-closeMarksIn z c (f ∷ st) w k x =
+abbrev pub closeMarksIn : Mark → ℕ → List Frame → Which → ℕ → ℕ → Bool
+closeMarksIn m z [] w k x = false
+closeMarksIn m z (f ∷ st) w k x =
     closeMarks z (length st) (cond (f .barred) (f .firstEnd) z) (f .alternative) w k x
-    || ((f .emptyBefore || c) && bridgeMarks (f .start) (suc z) (length st) w k x)
+    || (canOmit m && bridgeMarks (f .start) (suc z) (length st) w k x)
 
 abbrev pub mark : Token → Scan → Which → ℕ → ℕ → Bool
 mark (aLetter c r) q w k x = letterMarks r (q .position) (length (q .stack)) w k x
 mark anOpen q w k x = openMarks (q .position) (length (q .stack)) w k x
 mark aBar q w k x = barMarksIn (q .position) (q .stack) w k x
-mark aClose q w k x = closeMarksIn (q .position) (q .canBeEmpty) (q .stack) w k x
+mark (aClose m) q w k x = closeMarksIn m (q .position) (q .stack) w k x
 
 -- LAY OUT: what the tokens that are still to come mark
 abbrev pub layOut : List Token → Scan → Which → ℕ → ℕ → Bool
@@ -164,16 +164,22 @@ abbrev pub inside : List Frame → Bool
 inside [] = false
 inside (f ∷ st) = true
 
-abbrev pub afterSomeBar : List Frame → Bool
-afterSomeBar [] = false
-afterSomeBar (f ∷ st) = f .barred
+-- a close may show m after several alternatives or one, of which some can be empty or none: a union that can be empty has an edge over it,
+-- and a union of one alternative has one that only `?` explains
+abbrev pub fitting : Mark → (several empty : Bool) → Bool
+fitting unmarked several empty = several && not empty
+fitting optional several empty = several || not empty
 
--- what is asked of a token where it stands: no alternative is empty, a union has at least two
+abbrev pub fittingIn : Mark → Bool → List Frame → Bool
+fittingIn m c [] = false
+fittingIn m c (f ∷ st) = fitting m (f .barred) (f .emptyBefore || c)
+
+-- what is asked of a token where it stands: no alternative is empty, a close shows what fits
 abbrev pub check : Token → Scan → Bool
 check (aLetter c r) q = true
 check anOpen q = ltb (length (q .stack)) 8
 check aBar q = inside (q .stack) && not (q .noItem)
-check aClose q = afterSomeBar (q .stack) && not (q .noItem)
+check (aClose m) q = fittingIn m (q .canBeEmpty) (q .stack) && not (q .noItem)
 
 abbrev pub valid : List Token → Scan → Bool
 valid [] q = outside (q .stack) && not (q .noItem)
@@ -185,7 +191,7 @@ reach [] q = 0
 reach (aLetter c r ∷ ys) q = reach ys (step (aLetter c r) q)
 reach (anOpen ∷ ys) q = max (suc (length (q .stack))) (reach ys (step anOpen q))
 reach (aBar ∷ ys) q = reach ys (step aBar q)
-reach (aClose ∷ ys) q = reach ys (step aClose q)
+reach (aClose m ∷ ys) q = reach ys (step (aClose m) q)
 
 -- ---- the image from its sets
 -- the W words of a set of states below m; the three masks of one depth
@@ -218,11 +224,11 @@ assemble m W d L R B =
 -- the letters' and the loops' sets of a row of tokens: token i leads to state i + 1
 abbrev pub tokenLetters : List Token → ℕ → ℕ → Bool
 tokenLetters l b zero = false
-tokenLetters l b (suc i) = bit (classOf (getD l i aClose)) b
+tokenLetters l b (suc i) = bit (classOf (getD l i aBar)) b
 
 abbrev pub tokenLoops : List Token → ℕ → ℕ → Bool
 tokenLoops l b zero = false
-tokenLoops l b (suc i) = bit (loopClassOf (getD l i aClose)) b
+tokenLoops l b (suc i) = bit (loopClassOf (getD l i aBar)) b
 
 -- THE IMAGE LAID OUT for a row of tokens
 abbrev pub laid : List Token → List ℕ

@@ -10,8 +10,8 @@ use lib.Bits.{bitOr}
 use lib.ListN.{length}
 use Rattle.model.specs.Lists.{within}
 use Rattle.model.specs.Bytes.{byte, bytes, digital, hexadecimal, plain, signs}
-use Rattle.model.specs.Tree.{Alts, glue, last, more, once, option, plus, Seq, star}
-use Rattle.model.specs.Grammar.{bare, bracket, every, plainly, repeated, Sign, span, times}
+use Rattle.model.specs.Tree.{Alts, glue, last, Mark, more, once, option, optional, plus, Seq, star, unmarked}
+use Rattle.model.specs.Grammar.{bare, bracket, every, grouped, plainly, repeated, Sign, span, times}
 
 -- what was read and the bytes after it, or the bytes from the one on that cannot be read
 pub data Read (A : Type 0) : Type 0 where
@@ -130,6 +130,10 @@ readSign (x ∷ xs) =
     (cond (eqb x (byte "+")) (got (plainly plus) xs)
     (cond (eqb x (byte "{")) (readBraces xs) (got (plainly once) (x ∷ xs)))))
 
+-- the `?` of a group, if it has one
+abbrev pub readMark : List ℕ → Read Mark
+readMark r = case (past (byte "?") r) (λ x r′. got optional r′) (got unmarked r)
+
 -- a letter with its repeat sign
 abbrev pub readPiece : List ℕ → Read Seq
 readPiece l = bind (readLetter l) (λ c r. bind (readSign r) (λ q r′. got (repeated c q) r′))
@@ -152,7 +156,8 @@ abbrev mutual
 
   pub readItem : ℕ → List ℕ → Read Seq
   readItem zero l = bad l
-  readItem (suc n) l = case (past (byte "(") l) (λ x r. bind (readAlts n r) (λ a r′. bind (past (byte ")") r′) (λ y r″. got (bracket a) r″))) (readPiece l)
+  readItem (suc n) l =
+      case (past (byte "(") l) (λ x r. bind (readAlts n r) (λ a r′. bind (past (byte ")") r′) (λ y r″. bind (readMark r″) (λ m r‴. got (grouped a m) r‴)))) (readPiece l)
 
 -- ---- rules
 -- alternatives with nothing after them

@@ -40,8 +40,8 @@ sane-step aBar q S t = go (q .stack) (S .behind) (S .shallow)
       );
       shallow = l;
     }
-sane-step aClose q S t = go (q .stack) (S .behind) (S .shallow)
+sane-step (aClose m) q S t = go (q .stack) (S .behind) (S .shallow)
   where
-    go : (st : List Frame) → Behind (q .position) st → length st ≤ 8 → Sane (afterClose (q .position) (q .canBeEmpty) st)
+    go : (st : List Frame) → Behind (q .position) st → length st ≤ 8 → Sane (afterClose m (q .position) (q .canBeEmpty) st)
     go [] B l = record { behind = tt; shallow = omega arith }
     go (f ∷ st) B l = record { behind = behind-more (q .position) st (B .3); shallow = omega arith }

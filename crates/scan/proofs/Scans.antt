@@ -10,15 +10,16 @@ use borrow.Author.Tests.{lt-ltb, ne-eqb}
 use lib.Dec.{T, eqb, ltb, ltb→lt}
 use lib.ListN.{getD, length, set}
 use lib.Seq.{getD-set-other, getD-set-same}
-use Rattle.model.specs.Models.LayOut.{afterSomeBar, check, inside, nextAlternative, outside, scan, step}
+use Rattle.model.specs.Models.LayOut.{check, fitting, fittingIn, inside, nextAlternative, outside, scan, step}
 use Rattle.model.specs.Models.LayOut as model
 use Rattle.model.specs.Models.Tokens.{aBar, aClose, aLetter, anOpen}
-use Rattle.model.specs.Tree.{canSkip, Repeat}
+use Rattle.model.specs.Tree.{canOmit, canSkip, Mark, Repeat}
 use Rattle.model.proofs.Laws.Bool.{and-split}
 use Rattle.scan.specs.Scans.{Behind, frameOf, Innermost, Known, noFrame, openedAt, Ready, scanOf, stackOf, withFrames}
-use Rattle.scan.specs.Tokens.{tokenOf}
+use Rattle.scan.specs.Tokens.{markOf, tokenOf}
 use Rattle.scan.specs.declared.Frame.{Frame}
 use Rattle.scan.specs.declared.Scan.{Scan}
+use Rattle.scan.specs.declared.token.Mark as token
 use Rattle.scan.specs.declared.token.Token.{Token}
 use Rattle.scan.specs.declared.token.Token.the-variants.{Bar, Close, Open}
 
@@ -87,28 +88,33 @@ module _ (q : Scan) (fs : List Frame) where
         (top-set fs (q .depth) f h l ∙ ap (λ (g : model.Frame). g ∷ stackOf fs (q .depth - 1)) e)
         ∙ sym (ap (model.afterBar (q .position) (q .«can_be_empty»)) stack-is)
 
-    pub closed-scan : (f : Frame)
+    pub closed-scan : (f : Frame) (m : Mark) (omits : Bool) → omits ≡ canOmit m
         → scanOf (withFrames
         (record {
           position = q .position + 1;
           «no_item» = false;
-          «can_be_empty» = top .«empty_outside» && (top .«empty_before» || q .«can_be_empty»);
+          «can_be_empty» = top .«empty_outside» && omits;
           depth = q .depth - 1;
         })
-        (set fs (q .depth) f)) ≡ step aClose (scanOf (withFrames q fs))
-    closed-scan f =
-        ap₂ (λ (p : ℕ) (st : List model.Frame). scan p false (top .«empty_outside» && (top .«empty_before» || q .«can_be_empty»)) st) (add-one (q .position))
+        (set fs (q .depth) f)) ≡ step (aClose m) (scanOf (withFrames q fs))
+    closed-scan f m omits e =
+        ap (λ (b : Bool). scan (q .position + 1) false (top .«empty_outside» && b) (stackOf (set fs (q .depth) f) (q .depth - 1))) e
+        ∙ ap₂ (λ (p : ℕ) (st : List model.Frame). scan p false (top .«empty_outside» && canOmit m) st) (add-one (q .position))
         (stack-below fs (q .depth) f (q .depth - 1) (omega arith))
-        ∙ sym (ap (model.afterClose (q .position) (q .«can_be_empty»)) stack-is)
+        ∙ sym (ap (model.afterClose m (q .position) (q .«can_be_empty»)) stack-is)
 
-pub barred-is : (q : Scan) (fs : List Frame) (top : Frame) → Innermost q top fs → (ltb 0 (q .depth) && top .barred) ≡ afterSomeBar (stackOf fs (q .depth))
-barred-is q fs top I = go (q .depth) I
+pub fitting-is : (q : Scan) (fs : List Frame) (top : Frame) (m : Mark) → Innermost q top fs
+    → (ltb 0 (q .depth) && fitting m (top .barred) (top .«empty_before» || q .«can_be_empty»)) ≡ fittingIn m (q .«can_be_empty») (stackOf fs (q .depth))
+fitting-is q fs top m I = go (q .depth) I
   where
-    go : (n : ℕ) → (0 < n → getD fs (n - 1) noFrame ≡ top) → (ltb 0 n && top .barred) ≡ afterSomeBar (stackOf fs n)
+    asked : Frame → Bool
+    asked f = fitting m (f .barred) (f .«empty_before» || q .«can_be_empty»)
+
+    go : (n : ℕ) → (0 < n → getD fs (n - 1) noFrame ≡ top) → (ltb 0 n && asked top) ≡ fittingIn m (q .«can_be_empty») (stackOf fs n)
     go zero J = refl
     go (suc n) J =
-        ap (λ (b : Bool). b && top .barred) (lt-ltb 0 (suc n) (zero-lt-suc n))
-        ∙ sym (ap afterSomeBar (top-is fs (suc n) (zero-lt-suc n)) ∙ ap (λ (f : Frame). f .barred) (J (zero-lt-suc n)))
+        ap (λ (b : Bool). b && asked top) (lt-ltb 0 (suc n) (zero-lt-suc n))
+        ∙ sym (ap (fittingIn m (q .«can_be_empty»)) (top-is fs (suc n) (zero-lt-suc n)) ∙ ap asked (J (zero-lt-suc n)))
 
 -- ---- what a token that fits says of the depth
 module _ (q : Known) (y : Token) (R : Ready q y) where
@@ -127,22 +133,22 @@ module _ (q : Known) (y : Token) (R : Ready q y) where
   some-open zero t = absurd t
   some-open (suc n) t = zero-lt-suc n
 
-  barred-open : (n : ℕ) → T (afterSomeBar (stackOf (q .frames) n)) → 0 < n
-  barred-open zero t = absurd t
-  barred-open (suc n) t = zero-lt-suc n
+  fitting-open : (m : Mark) (n : ℕ) → T (fittingIn m (q .«can_be_empty») (stackOf (q .frames) n)) → 0 < n
+  fitting-open m zero t = absurd t
+  fitting-open m (suc n) t = zero-lt-suc n
 
   pub ready-bar : y ≡ Bar → 0 < q .depth
   ready-bar e =
       some-open (q .depth) (and-split (inside (stackOf (q .frames) (q .depth))) (not (q .«no_item»))
       (subst (λ (z : Token). T (check (tokenOf z) (scanOf q))) e (R .fits)) .0)
 
-  pub ready-close : y ≡ Close → 0 < q .depth
-  ready-close e =
-      barred-open (q .depth) (and-split (afterSomeBar (stackOf (q .frames) (q .depth))) (not (q .«no_item»))
+  pub ready-close : (m : token.Mark) → y ≡ Close m → 0 < q .depth
+  ready-close m e =
+      fitting-open (markOf m) (q .depth) (and-split (fittingIn (markOf m) (q .«can_be_empty») (stackOf (q .frames) (q .depth))) (not (q .«no_item»))
       (subst (λ (z : Token). T (check (tokenOf z) (scanOf q))) e (R .fits)) .0)
 
   -- the places of the innermost union lie behind
-  pub ready-top : y ≡ Close → (topFrame (q .frames) (q .depth) .alternative < 511) × (topFrame (q .frames) (q .depth) .start < 512)
-  ready-top e =
-      let b = subst (Behind (q .position)) (top-is (q .frames) (q .depth) (ready-close e)) (R .sane .behind) in
+  pub ready-top : (m : token.Mark) → y ≡ Close m → (topFrame (q .frames) (q .depth) .alternative < 511) × (topFrame (q .frames) (q .depth) .start < 512)
+  ready-top m e =
+      let b = subst (Behind (q .position)) (top-is (q .frames) (q .depth) (ready-close m e)) (R .sane .behind) in
       (omega (arith, b .2, R .below), omega (arith, b .0, R .below))

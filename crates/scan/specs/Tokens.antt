@@ -2,8 +2,10 @@
 use Prim.Native.Nat.{ℕ, zero, suc}
 use Rattle.model.specs.Models.Tokens.{aBar, aClose, aLetter, anOpen}
 use Rattle.model.specs.Models.Tokens as model
-use Rattle.model.specs.Tree.{once, option, plus, star}
+use Rattle.model.specs.Tree.{once, option, optional, plus, star, unmarked}
 use Rattle.model.specs.Tree as tree
+use Rattle.scan.specs.declared.token.Mark.{Mark}
+use Rattle.scan.specs.declared.token.Mark.the-variants.{Optional, Unmarked}
 use Rattle.scan.specs.declared.token.Repeat.{Repeat}
 use Rattle.scan.specs.declared.token.Repeat.the-variants.{Once, Option, Plus, Star}
 use Rattle.scan.specs.declared.token.Token.{Token}
@@ -15,14 +17,18 @@ repeatOf Option = option
 repeatOf Star = star
 repeatOf Plus = plus
 
+abbrev pub markOf : Mark → tree.Mark
+markOf Unmarked = unmarked
+markOf Optional = optional
+
 -- a tape has no classes: its letters have the class 0
 abbrev pub tokenOf : Token → model.Token
 tokenOf (Letter r) = aLetter 0 (repeatOf r)
 tokenOf Open = anOpen
 tokenOf Bar = aBar
-tokenOf Close = aClose
+tokenOf (Close m) = aClose (markOf m)
 
--- 0 to 3 a letter, taken once, `?`, `*` or `+`; 4 an open, 5 a bar; all else is a close, which is written 6
+-- 0 to 3 a letter, taken once, `?`, `*` or `+`; 4 an open, 5 a bar, 6 a close; all else is a close with an edge over its union, which is written 7
 abbrev pub readKind : ℕ → Token
 readKind zero = Letter Once
 readKind (suc zero) = Letter Option
@@ -30,4 +36,5 @@ readKind (suc (suc zero)) = Letter Star
 readKind (suc (suc (suc zero))) = Letter Plus
 readKind (suc (suc (suc (suc zero)))) = Open
 readKind (suc (suc (suc (suc (suc zero))))) = Bar
-readKind (suc (suc (suc (suc (suc (suc k)))))) = Close
+readKind (suc (suc (suc (suc (suc (suc zero)))))) = Close Unmarked
+readKind (suc (suc (suc (suc (suc (suc (suc k))))))) = Close Optional

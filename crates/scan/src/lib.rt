@@ -2,16 +2,18 @@
 // first, which is not handed on from token to token: the innermost frame is read, and one frame is stored.
 pub mod token;
 
+use crate::token::Mark;
 use crate::token::Repeat;
 use crate::token::Token;
+use crate::token::can_omit;
 use crate::token::can_skip;
 ghost use mathlib.Core.Path.{_≡_};
 ghost use mathlib.Core.Bool.{false};
 ghost use Prim.Native.Nat.{_-_, _<_, _≤_};
-ghost use Rattle.model.specs.Models.LayOut.{nextAlternative};
+ghost use Rattle.model.specs.Models.LayOut.{fitting, nextAlternative};
 ghost use Rattle.model.specs.Models.Tokens.{aBar, aClose, aLetter, anOpen};
 ghost use Rattle.scan.specs.Scans.{BeginSays, EndSays, FitSays, frameOf, noFrame, openedAt, ReadyAt, StepSays};
-ghost use Rattle.scan.specs.Tokens.{repeatOf, tokenOf};
+ghost use Rattle.scan.specs.Tokens.{markOf, repeatOf, tokenOf};
 
 // An open union: its start; whether a bar was met, and then its first alternative's end; the start of the alternative at hand; whether an
 // alternative before that one can be empty; whether what stands before the union in its own sequence can be empty.
@@ -73,7 +75,19 @@ pub fn innermost(depth: usize) -> usize
     if depth == 0 { 0 } else { depth - 1 }
 }
 
-// What is asked of a token where it stands, with the innermost frame: no alternative is empty, a union has at least two, and none lies deeper than 8.
+// Whether a close may show its mark after several alternatives or one, of which some can be empty or none: a union that can be empty has an edge
+// over it, and a union of one alternative has one that only `?` explains.
+fn may_show(mark: Mark, several: bool, empty: bool) -> bool
+    ensures { λ r. ⌜ r ≡ fitting (markOf mark) several empty ⌝ }
+{
+    match mark {
+        Mark::Unmarked => several & !empty,
+        Mark::Optional => several | !empty,
+    }
+}
+
+// What is asked of a token where it stands, with the innermost frame: no alternative is empty, a close shows what fits its union, and none lies
+// deeper than 8.
 pub fn fits(scan: Scan, frame: Frame, token: Token) -> bool
     ensures { λ r. ⌜ FitSays scan frame (tokenOf token) r ⌝ }
 {
@@ -82,7 +96,10 @@ pub fn fits(scan: Scan, frame: Frame, token: Token) -> bool
         Token::Letter(_) => true,
         Token::Open => depth < 8,
         Token::Bar => (depth > 0) & !scan.no_item,
-        Token::Close => (depth > 0) & frame.barred & !scan.no_item,
+        Token::Close(mark) => {
+            let fitting = may_show(mark, frame.barred, frame.empty_before | scan.can_be_empty);
+            (depth > 0) & fitting & !scan.no_item
+        }
     }
 }
 
@@ -189,14 +206,15 @@ fn after_bar(scan: Scan, frame: Frame) -> Next
     }
 }
 
-fn after_close(scan: Scan, frame: Frame) -> Next
+fn after_close(scan: Scan, frame: Frame, mark: Mark) -> Next
     requires { ⌜ (scan .position < 511) × ((0 < scan .depth) × (scan .depth ≤ 8)) ⌝ }
-    ensures { λ r. ⌜ StepSays scan frame aClose r ⌝ }
+    ensures { λ r. ⌜ StepSays scan frame (aClose (markOf mark)) r ⌝ }
 {
+    let omits = can_omit(mark);
     let next = Scan {
         position: scan.position + 1,
         no_item: false,
-        can_be_empty: frame.empty_outside & (frame.empty_before | scan.can_be_empty),
+        can_be_empty: frame.empty_outside & omits,
         depth: scan.depth - 1,
     };
     Next {
@@ -238,9 +256,9 @@ pub fn step_over(scan: Scan, frame: Frame, token: Token) -> Next
                 stays
             }
         }
-        Token::Close => {
+        Token::Close(mark) => {
             if depth > 0 {
-                after_close(scan, frame)
+                after_close(scan, frame, mark)
             } else {
                 stays
             }

@@ -1,7 +1,7 @@
 // Tokens, and the numbers that stand for them on a tape.
 ghost use mathlib.Core.Path.{_≡_};
-ghost use Rattle.model.specs.Tree.{canLoop, canSkip};
-ghost use Rattle.scan.specs.Tokens.{readKind, repeatOf};
+ghost use Rattle.model.specs.Tree.{canLoop, canOmit, canSkip};
+ghost use Rattle.scan.specs.Tokens.{markOf, readKind, repeatOf};
 
 // How often a letter is taken: once, `?`, `*`, `+`.
 pub enum Repeat {
@@ -11,13 +11,19 @@ pub enum Repeat {
     Plus,
 }
 
+// What a group keeps after its `)`: nothing, or `?`. A close on a tape shows by it whether an edge leads over its union.
+pub enum Mark {
+    Unmarked,
+    Optional,
+}
+
 // A letter leads from a state to the next, an open from a union's start to its first alternative's start, a bar from an alternative's end to the
 // next one's start, a close from the last alternative's end to the union's end. A letter's class is not on the tape.
 pub enum Token {
     Letter(Repeat),
     Open,
     Bar,
-    Close,
+    Close(Mark),
 }
 
 // The token that a number on the tape stands for.
@@ -31,7 +37,8 @@ pub fn read_kind(kind: u8) -> Token
         3 => Token::Letter(Repeat::Plus),
         4 => Token::Open,
         5 => Token::Bar,
-        _ => Token::Close,
+        6 => Token::Close(Mark::Unmarked),
+        _ => Token::Close(Mark::Optional),
     }
 }
 
@@ -56,5 +63,15 @@ pub fn can_loop(repeat: Repeat) -> bool
         Repeat::Option => false,
         Repeat::Star => true,
         Repeat::Plus => true,
+    }
+}
+
+// A union that may be left out.
+pub fn can_omit(mark: Mark) -> bool
+    ensures { λ r. ⌜ r ≡ canOmit (markOf mark) ⌝ }
+{
+    match mark {
+        Mark::Unmarked => false,
+        Mark::Optional => true,
     }
 }

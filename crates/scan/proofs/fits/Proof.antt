@@ -4,9 +4,9 @@ use mathlib.Core.Path.{sym, ap, _∙_}
 use Prim.Native.Nat.{ℕ}
 use lib.Dec.{ltb}
 use Rattle.model.specs.Models.LayOut.{check}
-use Rattle.scan.proofs.Scans.{barred-is, inside-is, length-stack}
+use Rattle.scan.proofs.Scans.{fitting-is, inside-is, length-stack}
 use Rattle.scan.specs.Scans.{scanOf, withFrames}
-use Rattle.scan.specs.Tokens.{tokenOf}
+use Rattle.scan.specs.Tokens.{markOf, tokenOf}
 use Rattle.scan.specs.declared.token.Token.{Token}
 use borrow.Author.Needs.{needs}
 use Rattle.scan.proofs.fits.Statement.{statement}
@@ -21,8 +21,11 @@ enum-told-2 c = search needs
 enum-told-3 : tie.Need-enum-told-3
 enum-told-3 c = search needs
 
-enum-told-4 : tie.Need-enum-told-4
-enum-told-4 c = search needs
+enum-known-token : tie.Need-enum-known-token
+enum-known-token c = search needs
+
+may-show-requires : tie.Need-may-show-requires
+may-show-requires c κs = search needs
 
 returns : tie.Need-returns
 returns c = λ fs I. sym (ap (λ (y : Token). check (tokenOf y) (scanOf (withFrames (c .before .before .args .scan) fs))) (c .enum-told .given .1))
@@ -40,11 +43,15 @@ returns-3 c = λ fs I.
 
 returns-4 : tie.Need-returns-4
 returns-4 c = λ fs I.
-    let a = c .before .before .before .before .args in
-    ap (λ (b : Bool). b && not (a .scan .«no_item»)) (barred-is (a .scan) fs (a .frame) I)
-    ∙ sym (ap (λ (y : Token). check (tokenOf y) (scanOf (withFrames (a .scan) fs))) (c .before .before .enum-told4 .given .1))
+    let m = c .before .may-show in
+    let t = c .before .before .before .before .before .token in
+    let a = c .before .before .before .before .before .before .before .args in
+    let q = a .scan in
+    ap (λ (b : Bool). (ltb 0 (q .depth) && b) && not (q .«no_item»)) (m .ensures)
+    ∙ ap (λ (b : Bool). b && not (q .«no_item»)) (fitting-is q fs (a .frame) (markOf (t .given .0 .0)) I)
+    ∙ sym (ap (λ (y : Token). check (tokenOf y) (scanOf (withFrames q fs))) (t .given .1))
 
 pub fits-spec : {M : Type 1} → statement M
 fits-spec =
     tie.close
-    (tie.spec enum-told enum-told-2 enum-told-3 enum-told-4 returns returns-2 returns-3 returns-4)
+    (tie.spec enum-told enum-told-2 enum-told-3 enum-known-token may-show-requires returns returns-2 returns-3 returns-4)

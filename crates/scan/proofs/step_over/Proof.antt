@@ -35,11 +35,11 @@ enum-told-2 c = search needs
 after-bar-requires : tie.Need-after-bar-requires
 after-bar-requires c κs = (omega (arith, c .before .before .before .before .if1 .left), (c .if4 .taken, c .before .before .before .if2 .left))
 
-enum-told-3 : tie.Need-enum-told-3
-enum-told-3 c = search needs
+enum-known-token-2 : tie.Need-enum-known-token-2
+enum-known-token-2 c = search needs
 
 after-close-requires : tie.Need-after-close-requires
-after-close-requires c κs = (omega (arith, c .before .before .before .before .if1 .left), (c .if5 .taken, c .before .before .before .if2 .left))
+after-close-requires c κs = (omega (arith, c .before .before .before .before .before .if1 .left), (c .if5 .taken, c .before .before .before .before .if2 .left))
 
 returns-3 : tie.Need-returns-3
 returns-3 c = λ A.
@@ -68,13 +68,14 @@ returns-7 c = λ A.
 
 returns-8 : tie.Need-returns-8
 returns-8 c = λ A.
-    let a = c .before .before .before .before .before .before .before .args in
-    subst (λ (y : Token). StepSays (a .scan) (a .frame) (tokenOf y) (c .after-close .result)) (sym (c .before .before .enum-told3 .given .1)) (c .after-close .ensures)
+    let a = c .before .before .before .before .before .before .before .before .args in
+    subst (λ (y : Token). StepSays (a .scan) (a .frame) (tokenOf y) (c .after-close .result)) (sym (c .before .before .before .token2 .given .1)) (c .after-close .ensures)
 
 returns-9 : tie.Need-returns-9
 returns-9 c = λ A.
-    let a = c .before .before .before .before .before .before .args in
-    absurd (omega (arith, ready-close (withFrames (a .scan) (A .frames)) (a .token) (A .ready) (c .before .enum-told3 .given .1), c .if5 .left))
+    let t = c .before .before .token2 in
+    let a = c .before .before .before .before .before .before .before .args in
+    absurd (omega (arith, ready-close (withFrames (a .scan) (A .frames)) (a .token) (A .ready) (t .given .0 .0) (t .given .1), c .if5 .left))
 
 pub step-over-spec : {M : Type 1} → statement M
 step-over-spec =
@@ -88,7 +89,7 @@ step-over-spec =
     after-open-requires
     enum-told-2
     after-bar-requires
-    enum-told-3
+    enum-known-token-2
     after-close-requires
     returns-3
     returns-4

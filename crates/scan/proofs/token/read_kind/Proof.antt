@@ -1,4 +1,4 @@
--- `token::read_kind` is a table: each of the first six numbers has its arm, and what is past them is a close.
+-- `token::read_kind` is a table: each of the first seven numbers has its arm, and what is past them is a close with an edge over its union.
 use mathlib.Core.Path.{sym, ap}
 use borrow.Author.Needs.{needs}
 use Rattle.scan.proofs.Tokens.{read-close}
@@ -25,10 +25,13 @@ returns-6 : tie.Need-returns-6
 returns-6 c = search needs
 
 returns-7 : tie.Need-returns-7
-returns-7 c =
+returns-7 c = sym (ap readKind (c .match .keys7))
+
+returns-8 : tie.Need-returns-8
+returns-8 c =
     let r = c .match .rest in
-    read-close (c .before .args .kind) (r .0 .0 .0 .0 .0 .1) (r .0 .0 .0 .0 .1) (r .0 .0 .0 .1) (r .0 .0 .1) (r .0 .1) (r .1)
+    read-close (c .before .args .kind) (r .0 .0 .0 .0 .0 .0 .1) (r .0 .0 .0 .0 .0 .1) (r .0 .0 .0 .0 .1) (r .0 .0 .0 .1) (r .0 .0 .1) (r .0 .1) (r .1)
 
 pub read-kind-spec : {M : Type 1} → statement M
 read-kind-spec =
-    tie.close (tie.spec returns returns-2 returns-3 returns-4 returns-5 returns-6 returns-7)
+    tie.close (tie.spec returns returns-2 returns-3 returns-4 returns-5 returns-6 returns-7 returns-8)

@@ -12,19 +12,19 @@ bare-step : (y : Token) (q : Scan) → step (bare y) q ≡ step y q
 bare-step (aLetter c r) q = refl
 bare-step anOpen q = refl
 bare-step aBar q = refl
-bare-step aClose q = refl
+bare-step (aClose m) q = refl
 
 bare-mark : (y : Token) (q : Scan) (w : Which) (k x : ℕ) → mark (bare y) q w k x ≡ mark y q w k x
 bare-mark (aLetter c r) q w k x = refl
 bare-mark anOpen q w k x = refl
 bare-mark aBar q w k x = refl
-bare-mark aClose q w k x = refl
+bare-mark (aClose m) q w k x = refl
 
 bare-check : (y : Token) (q : Scan) → check (bare y) q ≡ check y q
 bare-check (aLetter c r) q = refl
 bare-check anOpen q = refl
 bare-check aBar q = refl
-bare-check aClose q = refl
+bare-check (aClose m) q = refl
 
 -- ---- so do rows of them
 pub bares-length : (l : List Token) → length (bares l) ≡ length l
@@ -45,4 +45,4 @@ bares-reach [] q = refl
 bares-reach (aLetter c r ∷ ys) q = bares-reach ys (step (aLetter c r) q)
 bares-reach (anOpen ∷ ys) q = ap (max (suc (length (q .stack)))) (bares-reach ys (step anOpen q))
 bares-reach (aBar ∷ ys) q = bares-reach ys (step aBar q)
-bares-reach (aClose ∷ ys) q = bares-reach ys (step aClose q)
+bares-reach (aClose m ∷ ys) q = bares-reach ys (step (aClose m) q)

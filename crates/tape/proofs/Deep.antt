@@ -7,7 +7,7 @@ use Prim.Native.Nat.{ℕ, suc, _≤_, _<_, max}
 use native.Mathlib.Omega.{arith}
 use lib.Dec.{T, eqb, eqb→eq, leb, ltb}
 use lib.ListN.{length}
-use Rattle.model.specs.Tree.{canLoop, canSkip, Repeat}
+use Rattle.model.specs.Tree.{canLoop, canOmit, canSkip, Repeat}
 use Rattle.model.specs.Models.LayOut.{barMarks, barMarksIn, bridgeMarks, closeMarks, closeMarksIn, entering, Frame, gather-block, gather-source, gather-target, layOut, leaving, letter-place, letterMarks, loop-place, openMarks, reach, Scan, scatter-block, scatter-source, scatter-target, step, Which}
 use Rattle.model.specs.Models.Tokens.{aBar, aClose, aLetter, anOpen, Token}
 use Rattle.model.proofs.Laws.Bool.{and-split, or-split}
@@ -148,32 +148,32 @@ module _ (k x : ℕ) where
               → Below w (reached (aBar ∷ ys) (record { position = z; noItem = e; canBeEmpty = c; stack = f ∷ st }))
           go (inl m) = less w (max (suc (length st)) (reach ys after)) (omega (arith, bar-depth z (length st) w m))
           go (inr m) = ih m
-  deep (aClose ∷ ys) q w t = in-close ys (q .position) (q .noItem) (q .canBeEmpty) (q .stack) w t (λ m. deep ys (step aClose q) w m)
+  deep (aClose o ∷ ys) q w t = in-close ys (q .position) (q .noItem) (q .canBeEmpty) (q .stack) w t (λ m. deep ys (step (aClose o) q) w m)
     where
       in-close : (ys : List Token) (z : ℕ) (e c : Bool) (st : List Frame) (w : Which)
-          → T (closeMarksIn z c st w k x || layOut ys (step aClose (record { position = z; noItem = e; canBeEmpty = c; stack = st })) w k x)
-          → (T (layOut ys (step aClose (record { position = z; noItem = e; canBeEmpty = c; stack = st })) w k x)
-          → Below w (reached ys (step aClose (record { position = z; noItem = e; canBeEmpty = c; stack = st }))))
-          → Below w (reached (aClose ∷ ys) (record { position = z; noItem = e; canBeEmpty = c; stack = st }))
+          → T (closeMarksIn o z st w k x || layOut ys (step (aClose o) (record { position = z; noItem = e; canBeEmpty = c; stack = st })) w k x)
+          → (T (layOut ys (step (aClose o) (record { position = z; noItem = e; canBeEmpty = c; stack = st })) w k x)
+          → Below w (reached ys (step (aClose o) (record { position = z; noItem = e; canBeEmpty = c; stack = st }))))
+          → Below w (reached (aClose o ∷ ys) (record { position = z; noItem = e; canBeEmpty = c; stack = st }))
       in-close ys z e c [] w t ih = ih t
-      in-close ys z e c (f ∷ st) w t ih = go (or-split (closeMarksIn z c (f ∷ st) w k x) (layOut ys after w k x) t)
+      in-close ys z e c (f ∷ st) w t ih = go (or-split (closeMarksIn o z (f ∷ st) w k x) (layOut ys after w k x) t)
         where
           d : ℕ
           d = length st
 
           after : Scan
-          after = step aClose (record { position = z; noItem = e; canBeEmpty = c; stack = f ∷ st })
+          after = step (aClose o) (record { position = z; noItem = e; canBeEmpty = c; stack = f ∷ st })
 
           first : ℕ
           first = cond (f .barred) (f .firstEnd) z
 
-          here : T (closeMarks z d first (f .alternative) w k x) ⊎ T ((f .emptyBefore || c) && bridgeMarks (f .start) (suc z) d w k x) → k ≡ d
+          here : T (closeMarks z d first (f .alternative) w k x) ⊎ T (canOmit o && bridgeMarks (f .start) (suc z) d w k x) → k ≡ d
           here (inl m) = close-depth z d first (f .alternative) w m
-          here (inr m) = bridge-depth (f .start) (suc z) d w (and-split (f .emptyBefore || c) (bridgeMarks (f .start) (suc z) d w k x) m .1)
+          here (inr m) = bridge-depth (f .start) (suc z) d w (and-split (canOmit o) (bridgeMarks (f .start) (suc z) d w k x) m .1)
 
-          go : T (closeMarksIn z c (f ∷ st) w k x) ⊎ T (layOut ys after w k x)
-              → Below w (reached (aClose ∷ ys) (record { position = z; noItem = e; canBeEmpty = c; stack = f ∷ st }))
+          go : T (closeMarksIn o z (f ∷ st) w k x) ⊎ T (layOut ys after w k x)
+              → Below w (reached (aClose o ∷ ys) (record { position = z; noItem = e; canBeEmpty = c; stack = f ∷ st }))
           go (inl m) =
               less w (max (suc d) (reach ys after))
-              (omega (arith, here (or-split (closeMarks z d first (f .alternative) w k x) ((f .emptyBefore || c) && bridgeMarks (f .start) (suc z) d w k x) m)))
+              (omega (arith, here (or-split (closeMarks z d first (f .alternative) w k x) (canOmit o && bridgeMarks (f .start) (suc z) d w k x) m)))
           go (inr m) = raise w (max d (reach ys after)) (max (suc d) (reach ys after)) (omega arith) (ih m)

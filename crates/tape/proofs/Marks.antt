@@ -7,7 +7,7 @@ use native.Mathlib.Numerals.{add-one}
 use native.Mathlib.Omega.{arith}
 use lib.Dec.{T, eqb, eqb-refl, eqb→eq, le→leb, leb, leb→le, lt→ltb, ltb, ltb→lt}
 use lib.ListN.{length}
-use Rattle.model.specs.Tree.{canLoop, canSkip, Repeat}
+use Rattle.model.specs.Tree.{canLoop, canOmit, canSkip, Repeat}
 use Rattle.model.specs.Models.LayOut.{barMarks, barMarksIn, bridgeMarks, closeMarks, closeMarksIn, entering, Frame, gather-block, gather-source, gather-target, leaving, letter-place, letterMarks, loop-place, mark, openMarks, Scan, scatter-block, scatter-source, scatter-target, Which}
 use Rattle.model.specs.Models.Tokens.{aBar, aClose, aLetter, anOpen, Token}
 use Rattle.model.proofs.Laws.Bool.{and-both, and-split, is-not, same-truth}
@@ -81,20 +81,20 @@ module _ (k x : ℕ) where
   plain : (e v u : Bool) → v ≡ u → v ≡ (u || (e && false))
   plain e v u h = h ∙ sym (or-false u) ∙ ap (λ (b : Bool). u || b) (sym (and-false e))
 
-  close-covers : (f : Frame) (z d : ℕ) (c : Bool) (w : Which)
-      → covers (closeStroke f z d c w) k x
-      ≡ (closeMarks z d (cond (f .barred) (f .firstEnd) z) (f .alternative) w k x || ((f .emptyBefore || c) && bridgeMarks (f .start) (suc z) d w k x))
-  close-covers f z d c letter-place = plain (f .emptyBefore || c) _ false none-covers
-  close-covers f z d c loop-place = plain (f .emptyBefore || c) _ false none-covers
-  close-covers f z d c scatter-block = plain (f .emptyBefore || c) _ _ (next-covers d (f .alternative))
-  close-covers f z d c scatter-source = plain (f .emptyBefore || c) _ false none-covers
-  close-covers f z d c scatter-target = plain (f .emptyBefore || c) _ false none-covers
-  close-covers f z d c gather-block =
-      plain (f .emptyBefore || c) _ _ (ap (λ (n : ℕ). (leb (cond (f .barred) (f .firstEnd) z) x && ltb x n) && eqb d k) (add-one z))
-  close-covers f z d c gather-source = plain (f .emptyBefore || c) _ _ (one-covers d z)
-  close-covers f z d c gather-target = plain (f .emptyBefore || c) _ _ (next-covers d z)
-  close-covers f z d c leaving = if-covers (f .emptyBefore || c) d (f .start)
-  close-covers f z d c entering = next-if-covers (f .emptyBefore || c) d z
+  close-covers : (f : Frame) (z d : ℕ) (o : Bool) (w : Which)
+      → covers (closeStroke f z d o w) k x
+      ≡ (closeMarks z d (cond (f .barred) (f .firstEnd) z) (f .alternative) w k x || (o && bridgeMarks (f .start) (suc z) d w k x))
+  close-covers f z d o letter-place = plain o _ false none-covers
+  close-covers f z d o loop-place = plain o _ false none-covers
+  close-covers f z d o scatter-block = plain o _ _ (next-covers d (f .alternative))
+  close-covers f z d o scatter-source = plain o _ false none-covers
+  close-covers f z d o scatter-target = plain o _ false none-covers
+  close-covers f z d o gather-block =
+      plain o _ _ (ap (λ (n : ℕ). (leb (cond (f .barred) (f .firstEnd) z) x && ltb x n) && eqb d k) (add-one z))
+  close-covers f z d o gather-source = plain o _ _ (one-covers d z)
+  close-covers f z d o gather-target = plain o _ _ (next-covers d z)
+  close-covers f z d o leaving = if-covers o d (f .start)
+  close-covers f z d o entering = next-if-covers o d z
 
   -- THE STROKE'S PLACES ARE THE TOKEN'S
   pub stroke-marks : (y : Token) (q : Scan) (w : Which) → covers (strokeOf y q w) k x ≡ mark y q w k x
@@ -105,8 +105,8 @@ module _ (k x : ℕ) where
       go : (st : List Frame) → covers (barStrokeIn (q .position) st w) k x ≡ barMarksIn (q .position) st w k x
       go [] = none-covers
       go (f ∷ st) = bar-covers (q .position) (length st) w
-  stroke-marks aClose q w = go (q .stack)
+  stroke-marks (aClose m) q w = go (q .stack)
     where
-      go : (st : List Frame) → covers (closeStrokeIn (q .position) (q .canBeEmpty) st w) k x ≡ closeMarksIn (q .position) (q .canBeEmpty) st w k x
+      go : (st : List Frame) → covers (closeStrokeIn m (q .position) st w) k x ≡ closeMarksIn m (q .position) st w k x
       go [] = none-covers
-      go (f ∷ st) = close-covers f (q .position) (length st) (q .canBeEmpty) w
+      go (f ∷ st) = close-covers f (q .position) (length st) (canOmit m) w

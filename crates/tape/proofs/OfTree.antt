@@ -23,7 +23,8 @@ use Rattle.model.proofs.Image.Places.{tree-sets}
 use Rattle.model.proofs.Image.Rows.{set-bit, set-same}
 use Rattle.model.proofs.Image.Shown.{letters-are, loops-are}
 use Rattle.model.proofs.Image.Tokens.{length-tokens}
-use Rattle.model.proofs.Image.Valid.{good-valid, GoodUnions}
+use Rattle.model.proofs.Image.Unions.{GoodUnions}
+use Rattle.model.proofs.Image.Valid.{good-valid}
 use Rattle.model.proofs.Image.WellFormed.{well-formed}
 use Rattle.model.proofs.Laws.Bits.{below-same}
 use Rattle.model.proofs.Laws.Bool.{and-both, is-not, is-true}

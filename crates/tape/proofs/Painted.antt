@@ -14,7 +14,8 @@ use Rattle.model.proofs.Image.LetterPlaces.{position-step}
 use Rattle.model.proofs.Image.Rows.{wide}
 use Rattle.model.proofs.Image.SameBits.{holds-one}
 use Rattle.model.proofs.Image.Tokens.{length-tokens}
-use Rattle.model.proofs.Image.Valid.{good-full, valid-tree}
+use Rattle.model.proofs.Image.Unions.{good-full}
+use Rattle.model.proofs.Image.Valid.{valid-tree}
 use Rattle.model.proofs.Image.Within.{lay-low}
 use Rattle.model.proofs.Laws.Bool.{and-split, is-not, is-true}
 use Rattle.model.proofs.Words.Holds.{Holds, set-holds}

@@ -27,7 +27,7 @@ reach-cons : (deepest : ℕ) (y : tokens.Token) (l : List tokens.Token) (q : mod
 reach-cons deepest (aLetter c r) l q = refl
 reach-cons deepest anOpen l q = omega arith
 reach-cons deepest aBar l q = refl
-reach-cons deepest aClose l q = refl
+reach-cons deepest (aClose m) l q = refl
 
 module _ (t : Tape) (q : Known) (i : ℕ) (A : Along t q i) (deepest : ℕ) (R : Reaching t q i deepest) where
   pub reaching-step : (y : Token) → i < t .length → y ≡ readKind (getD (t .kinds) i 0) → (r : Known) → scanOf r ≡ step (tokenOf y) (scanOf q)

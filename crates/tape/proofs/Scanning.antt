@@ -44,9 +44,9 @@ letter-flat aBar q = go (q .stack)
     go : (st : List model.Frame) → barStrokeIn (q .position) st letter-place .row ≡ 0
     go [] = refl
     go (f ∷ st) = refl
-letter-flat aClose q = go (q .stack)
+letter-flat (aClose m) q = go (q .stack)
   where
-    go : (st : List model.Frame) → closeStrokeIn (q .position) (q .canBeEmpty) st letter-place .row ≡ 0
+    go : (st : List model.Frame) → closeStrokeIn m (q .position) st letter-place .row ≡ 0
     go [] = refl
     go (f ∷ st) = refl
 
@@ -58,9 +58,9 @@ loop-flat aBar q = go (q .stack)
     go : (st : List model.Frame) → barStrokeIn (q .position) st loop-place .row ≡ 0
     go [] = refl
     go (f ∷ st) = refl
-loop-flat aClose q = go (q .stack)
+loop-flat (aClose m) q = go (q .stack)
   where
-    go : (st : List model.Frame) → closeStrokeIn (q .position) (q .canBeEmpty) st loop-place .row ≡ 0
+    go : (st : List model.Frame) → closeStrokeIn m (q .position) st loop-place .row ≡ 0
     go [] = refl
     go (f ∷ st) = refl
 

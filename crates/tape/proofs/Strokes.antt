@@ -1,15 +1,18 @@
 -- What a token marks, by the depth and the innermost of the code's frames.
 use mathlib.Core.Path.{_≡_, refl, sym, ap, _∙_, subst}
+use mathlib.Core.Bool.{Bool}
 use mathlib.Core.List.{List}
 use Prim.Native.Nat.{ℕ, _-_, _<_}
 use Rattle.model.specs.Models.LayOut.{entering, gather-block, gather-source, gather-target, leaving, letter-place, loop-place, scatter-block, scatter-source, scatter-target, Which}
 use Rattle.model.specs.Models.LayOut as model
+use Rattle.model.specs.Tree.{canOmit}
 use Rattle.tape.specs.Masks.{Painted, paintThree, paintTwo}
 use Rattle.scan.specs.Scans.{frameOf, Innermost, scanOf, withFrames}
 use Rattle.tape.specs.Strokes.{barStroke, barStrokeIn, closeStroke, closeStrokeIn, letterStroke, noStroke, openStroke, Stroke, strokeOf}
-use Rattle.scan.specs.Tokens.{repeatOf, tokenOf}
+use Rattle.scan.specs.Tokens.{markOf, repeatOf, tokenOf}
 use Rattle.scan.specs.declared.Frame.{Frame}
 use Rattle.scan.specs.declared.Scan.{Scan}
+use Rattle.scan.specs.declared.token.Mark.{Mark}
 use Rattle.scan.specs.declared.token.Repeat.{Repeat}
 use Rattle.scan.specs.declared.token.Token.{Token}
 use Rattle.scan.specs.declared.token.Token.the-variants.{Bar, Close, Letter, Open}
@@ -50,12 +53,13 @@ module _ (q : Scan) (fs : List Frame) {x : Token} where
         ∙ ap (λ (n : ℕ). barStroke (q .position) n w) (length-stack fs (q .depth - 1))))
         (record { places = refl; scatter = a; gather = b; propagate = refl })
 
-    pub close-painted : (top : Frame) → Innermost q top fs → x ≡ Close → {p s g r s′ g′ r′ : List ℕ}
-        → let f = closeStroke (frameOf top) (q .position) (q .depth - 1) (q .«can_be_empty») in
+    pub close-painted : (top : Frame) → Innermost q top fs → (m : Mark) → x ≡ Close m → (over : Bool) → over ≡ canOmit (markOf m) → {p s g r s′ g′ r′ : List ℕ}
+        → let f = closeStroke (frameOf top) (q .position) (q .depth - 1) over in
         s′ ≡ paintThree s (f scatter-block) (f scatter-source) (f scatter-target) → g′ ≡ paintThree g (f gather-block) (f gather-source) (f gather-target)
         → r′ ≡ paintThree r noStroke (f leaving) (f entering) → Painted p s g r p s′ g′ r′ (marked q fs x)
-    close-painted top I e a b d =
-        told Close e
-        (λ w. sym (ap (λ (st : List model.Frame). closeStrokeIn (q .position) (q .«can_be_empty») st w) (stack-is q fs top I h)
-        ∙ ap (λ (n : ℕ). closeStroke (frameOf top) (q .position) n (q .«can_be_empty») w) (length-stack fs (q .depth - 1))))
+    close-painted top I m e over o a b d =
+        told (Close m) e
+        (λ w. ap (λ (b : Bool). closeStroke (frameOf top) (q .position) (q .depth - 1) b w) o
+        ∙ sym (ap (λ (st : List model.Frame). closeStrokeIn (markOf m) (q .position) st w) (stack-is q fs top I h)
+        ∙ ap (λ (n : ℕ). closeStroke (frameOf top) (q .position) n (canOmit (markOf m)) w) (length-stack fs (q .depth - 1))))
         (record { places = refl; scatter = a; gather = b; propagate = d })

@@ -34,7 +34,7 @@ abbrev classed : Token → Token
 classed (aLetter c r) = aLetter 1 r
 classed anOpen = anOpen
 classed aBar = aBar
-classed aClose = aClose
+classed (aClose m) = aClose m
 
 abbrev allClassed : List Token → List Token
 allClassed [] = []
@@ -47,7 +47,7 @@ fine : (y : Token) → Fine (classed y)
 fine (aLetter c r) = record { some-byte = omega arith; bytes-only = small 255 }
 fine anOpen = tt
 fine aBar = tt
-fine aClose = tt
+fine (aClose m) = tt
 
 all-fine : (l : List Token) → AllFine (allClassed l)
 all-fine [] = tt
@@ -57,7 +57,7 @@ bare-classed : (y : code.Token) → bare (classed (tokenOf y)) ≡ tokenOf y
 bare-classed (Letter r) = refl
 bare-classed Open = refl
 bare-classed Bar = refl
-bare-classed Close = refl
+bare-classed (Close m) = refl
 
 bares-classed : (ks : List ℕ) → bares (allClassed (readKinds ks)) ≡ readKinds ks
 bares-classed [] = refl

@@ -1,10 +1,10 @@
 -- The stroke of a token before a state below 511 lies within nine rows of 512 states, in every sane scan.
-use mathlib.Core.Bool.{Bool, true, false, cond, _||_}
+use mathlib.Core.Bool.{Bool, true, false, cond}
 use mathlib.Core.List.{List, [], _∷_}
 use Prim.Native.Nat.{ℕ, _+_, _≤_, _<_}
 use native.Mathlib.Omega.{arith}
 use lib.ListN.{length}
-use Rattle.model.specs.Tree.{canLoop, canSkip, Repeat}
+use Rattle.model.specs.Tree.{canLoop, canOmit, canSkip, Repeat}
 use Rattle.model.specs.Models.LayOut.{entering, Frame, gather-block, gather-source, gather-target, leaving, letter-place, loop-place, Scan, scatter-block, scatter-source, scatter-target, Which}
 use Rattle.model.specs.Models.Tokens.{aBar, aClose, aLetter, anOpen, Token}
 use Rattle.scan.specs.Scans.{Behind, Sane}
@@ -61,17 +61,17 @@ module _ (t d : ℕ) (ht : t < 511) (hd : d < 9) where
   bar-within leaving = none-within
   bar-within entering = none-within
 
-  close-within : (f : Frame) (c : Bool) → f .start ≤ t → f .alternative ≤ t → (w : Which) → Within (closeStroke f t d c w)
-  close-within f c hs ha letter-place = none-within
-  close-within f c hs ha loop-place = none-within
-  close-within f c hs ha scatter-block = one-within d (f .alternative + 1) hd (omega arith)
-  close-within f c hs ha scatter-source = none-within
-  close-within f c hs ha scatter-target = none-within
-  close-within f c hs ha gather-block = (hd, omega arith)
-  close-within f c hs ha gather-source = one-within d t hd (omega arith)
-  close-within f c hs ha gather-target = one-within d (t + 1) hd (omega arith)
-  close-within f c hs ha leaving = if-within (f .emptyBefore || c) d (f .start) hd (omega arith)
-  close-within f c hs ha entering = if-within (f .emptyBefore || c) d (t + 1) hd (omega arith)
+  close-within : (f : Frame) (o : Bool) → f .start ≤ t → f .alternative ≤ t → (w : Which) → Within (closeStroke f t d o w)
+  close-within f o hs ha letter-place = none-within
+  close-within f o hs ha loop-place = none-within
+  close-within f o hs ha scatter-block = one-within d (f .alternative + 1) hd (omega arith)
+  close-within f o hs ha scatter-source = none-within
+  close-within f o hs ha scatter-target = none-within
+  close-within f o hs ha gather-block = (hd, omega arith)
+  close-within f o hs ha gather-source = one-within d t hd (omega arith)
+  close-within f o hs ha gather-target = one-within d (t + 1) hd (omega arith)
+  close-within f o hs ha leaving = if-within o d (f .start) hd (omega arith)
+  close-within f o hs ha entering = if-within o d (t + 1) hd (omega arith)
 
 -- EVERY TOKEN'S STROKE LIES WITHIN
 pub stroke-within : (y : Token) (q : Scan) (w : Which) → Sane q → q .position < 511 → Within (strokeOf y q w)
@@ -82,8 +82,8 @@ stroke-within aBar q w S h = go (q .stack) (S .shallow)
     go : (st : List Frame) → length st ≤ 8 → Within (barStrokeIn (q .position) st w)
     go [] l = none-within
     go (f ∷ st) l = bar-within (q .position) (length st) h (omega arith) w
-stroke-within aClose q w S h = go (q .stack) (S .behind) (S .shallow)
+stroke-within (aClose m) q w S h = go (q .stack) (S .behind) (S .shallow)
   where
-    go : (st : List Frame) → Behind (q .position) st → length st ≤ 8 → Within (closeStrokeIn (q .position) (q .canBeEmpty) st w)
+    go : (st : List Frame) → Behind (q .position) st → length st ≤ 8 → Within (closeStrokeIn m (q .position) st w)
     go [] B l = none-within
-    go (f ∷ st) B l = close-within (q .position) (length st) h (omega arith) f (q .canBeEmpty) (B .0) (B .2) w
+    go (f ∷ st) B l = close-within (q .position) (length st) h (omega arith) f (canOmit m) (B .0) (B .2) w

@@ -4,20 +4,24 @@ use Prim.Native.Nat.{ℕ}
 use Rattle.model.specs.Image.{words}
 use Rattle.model.specs.Lists.{each}
 use Rattle.model.specs.Models.Tokens.{aBar, aClose, aLetter, anOpen, classOf, Token}
-use Rattle.model.specs.Tree.{once, option, plus, Repeat, star}
+use Rattle.model.specs.Tree.{Mark, once, option, optional, plus, Repeat, star, unmarked}
 
--- the kinds of a tape: 0 to 3 a letter, taken once, `?`, `*` or `+`; 4 an open, 5 a bar, 6 a close
+-- the kinds of a tape: 0 to 3 a letter, taken once, `?`, `*` or `+`; 4 an open, 5 a bar, 6 a close, 7 a close with an edge over its union
 abbrev pub repeatKind : Repeat → ℕ
 repeatKind once = 0
 repeatKind option = 1
 repeatKind star = 2
 repeatKind plus = 3
 
+abbrev pub markKind : Mark → ℕ
+markKind unmarked = 6
+markKind optional = 7
+
 abbrev pub kindOf : Token → ℕ
 kindOf (aLetter c r) = repeatKind r
 kindOf anOpen = 4
 kindOf aBar = 5
-kindOf aClose = 6
+kindOf (aClose m) = markKind m
 
 -- the words of one token, and of a row of them
 abbrev pub tokenWords : Token → List ℕ

@@ -1,9 +1,9 @@
 -- STROKES: the places that one token marks in the masks of one kind are a run of states at one depth. `Models.LayOut` has the same places as sets.
-use mathlib.Core.Bool.{Bool, cond, _||_}
+use mathlib.Core.Bool.{Bool, cond}
 use mathlib.Core.List.{List, [], _∷_}
 use Prim.Native.Nat.{ℕ, _+_}
 use lib.ListN.{length}
-use Rattle.model.specs.Tree.{canLoop, canSkip, Repeat}
+use Rattle.model.specs.Tree.{canLoop, canOmit, canSkip, Mark, Repeat}
 use Rattle.model.specs.Models.LayOut.{entering, Frame, gather-block, gather-source, gather-target, leaving, letter-place, loop-place, Scan, scatter-block, scatter-source, scatter-target}
 use Rattle.model.specs.Models.LayOut as model
 use Rattle.model.specs.Models.Tokens.{aBar, aClose, aLetter, anOpen, Token}
@@ -62,31 +62,31 @@ barStroke z d gather-target = noStroke
 barStroke z d leaving = noStroke
 barStroke z d entering = noStroke
 
--- the close of the union f at depth d after the alternative that ends in z, where c says whether that alternative can be empty
+-- the close of the union f at depth d after the alternative that ends in z, where o says whether an edge leads over the union
 abbrev pub closeStroke : Frame → ℕ → ℕ → Bool → model.Which → Stroke
-closeStroke f z d c letter-place = noStroke
-closeStroke f z d c loop-place = noStroke
-closeStroke f z d c scatter-block = oneState d (f .alternative + 1)
-closeStroke f z d c scatter-source = noStroke
-closeStroke f z d c scatter-target = noStroke
-closeStroke f z d c gather-block = stroke d (cond (f .barred) (f .firstEnd) z) (z + 1)
-closeStroke f z d c gather-source = oneState d z
-closeStroke f z d c gather-target = oneState d (z + 1)
-closeStroke f z d c leaving = cond (f .emptyBefore || c) (oneState d (f .start)) noStroke
-closeStroke f z d c entering = cond (f .emptyBefore || c) (oneState d (z + 1)) noStroke
+closeStroke f z d o letter-place = noStroke
+closeStroke f z d o loop-place = noStroke
+closeStroke f z d o scatter-block = oneState d (f .alternative + 1)
+closeStroke f z d o scatter-source = noStroke
+closeStroke f z d o scatter-target = noStroke
+closeStroke f z d o gather-block = stroke d (cond (f .barred) (f .firstEnd) z) (z + 1)
+closeStroke f z d o gather-source = oneState d z
+closeStroke f z d o gather-target = oneState d (z + 1)
+closeStroke f z d o leaving = cond o (oneState d (f .start)) noStroke
+closeStroke f z d o entering = cond o (oneState d (z + 1)) noStroke
 
 -- by the open unions
 abbrev pub barStrokeIn : ℕ → List Frame → model.Which → Stroke
 barStrokeIn z [] w = noStroke
 barStrokeIn z (f ∷ st) w = barStroke z (length st) w
 
-abbrev pub closeStrokeIn : ℕ → Bool → List Frame → model.Which → Stroke
-closeStrokeIn z c [] w = noStroke
-closeStrokeIn z c (f ∷ st) w = closeStroke f z (length st) c w
+abbrev pub closeStrokeIn : Mark → ℕ → List Frame → model.Which → Stroke
+closeStrokeIn m z [] w = noStroke
+closeStrokeIn m z (f ∷ st) w = closeStroke f z (length st) (canOmit m) w
 
 -- WHAT A TOKEN MARKS
 abbrev pub strokeOf : Token → Scan → model.Which → Stroke
 strokeOf (aLetter c r) q w = letterStroke r (q .position) (length (q .stack)) w
 strokeOf anOpen q w = openStroke (q .position) (length (q .stack)) w
 strokeOf aBar q w = barStrokeIn (q .position) (q .stack) w
-strokeOf aClose q w = closeStrokeIn (q .position) (q .canBeEmpty) (q .stack) w
+strokeOf (aClose m) q w = closeStrokeIn m (q .position) (q .stack) w

@@ -29,7 +29,7 @@ abbrev pub bare : model.Token → model.Token
 bare (aLetter c r) = aLetter 0 r
 bare anOpen = anOpen
 bare aBar = aBar
-bare aClose = aClose
+bare (aClose m) = aClose m
 
 abbrev pub bares : List model.Token → List model.Token
 bares [] = []
@@ -53,7 +53,7 @@ abbrev pub deeperBy : ℕ → ℕ → model.Token → ℕ
 deeperBy deepest depth (aLetter c r) = deepest
 deeperBy deepest depth anOpen = max deepest (suc depth)
 deeperBy deepest depth aBar = deepest
-deeperBy deepest depth aClose = deepest
+deeperBy deepest depth (aClose m) = deepest
 
 -- LAY OUT: the masks of kind w; none has a state where the tape is not a tree's
 abbrev pub tableOf : Tape → Which → Table

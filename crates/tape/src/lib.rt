@@ -24,7 +24,8 @@ ghost use Rattle.tape.specs.Says.{Laid, MasksSay, ShapeSays};
 ghost use Rattle.tape.specs.Tapes.{deeperBy, Kinds, ScanLays, shapeOf};
 ghost use Rattle.scan.specs.Tokens.{tokenOf};
 
-// The first `length` of the kinds are a tree's tokens: 0 to 3 a letter, taken once, `?`, `*` or `+`; 4 an open, 5 a bar, 6 a close.
+// The first `length` of the kinds are a tree's tokens: 0 to 3 a letter, taken once, `?`, `*` or `+`; 4 an open, 5 a bar,
+// 6 a close, 7 a close with an edge over its union.
 pub struct Tape {
     pub kinds: [u8; 512],
     pub length: usize,
@@ -51,7 +52,7 @@ fn deeper(deepest: usize, depth: usize, token: Token) -> usize
         Token::Letter(_) => deepest,
         Token::Open => larger(deepest, depth + 1),
         Token::Bar => deepest,
-        Token::Close => deepest,
+        Token::Close(_) => deepest,
     }
 }
 

@@ -9,6 +9,7 @@ use scan::first_end_of;
 use scan::token::Repeat;
 use scan::token::Token;
 use scan::token::can_loop;
+use scan::token::can_omit;
 use scan::token::can_skip;
 ghost use mathlib.Core.Path.{_≡_};
 ghost use Prim.Native.Nat.{_<_};
@@ -55,8 +56,8 @@ fn mark_bar(scatter: &mut [u64], gather: &mut [u64], position: usize, depth: usi
     mark(gather, 1, depth, position);
 }
 
-// The close after the alternative that ends in `position`, of a union at `depth`, which ends in the next state. `can_be_empty` is said of that
-// alternative; where some alternative can be empty, a propagate edge leads over the union.
+// The close after the alternative that ends in `position`, of a union at `depth`, which ends in the next state; `over` says whether a propagate edge
+// leads over the union.
 fn mark_close(
     scatter: &mut [u64],
     gather: &mut [u64],
@@ -64,25 +65,19 @@ fn mark_close(
     frame: Frame,
     position: usize,
     depth: usize,
-    can_be_empty: bool,
+    over: bool,
 )
     requires { ⌜ (position < 511) × (depth < 9) × (frame .alternative < 511) × (frame .start < 512) × (length (now scatter) ≡ 216) × (length (now gather) ≡ 216) × (length (now propagate) ≡ 216) ⌝ }
-    ensures scatter { λ r. ⌜ now (scatter .exit) ≡ paintThree (now (scatter .entry)) (closeStroke (frameOf frame) position depth «can_be_empty» scatter-block) (closeStroke (frameOf frame) position depth «can_be_empty» scatter-source) (closeStroke (frameOf frame) position depth «can_be_empty» scatter-target) ⌝ }
-    ensures gather { λ r. ⌜ now (gather .exit) ≡ paintThree (now (gather .entry)) (closeStroke (frameOf frame) position depth «can_be_empty» gather-block) (closeStroke (frameOf frame) position depth «can_be_empty» gather-source) (closeStroke (frameOf frame) position depth «can_be_empty» gather-target) ⌝ }
-    ensures propagate { λ r. ⌜ now (propagate .exit) ≡ paintThree (now (propagate .entry)) noStroke (closeStroke (frameOf frame) position depth «can_be_empty» leaving) (closeStroke (frameOf frame) position depth «can_be_empty» entering) ⌝ }
+    ensures scatter { λ r. ⌜ now (scatter .exit) ≡ paintThree (now (scatter .entry)) (closeStroke (frameOf frame) position depth over scatter-block) (closeStroke (frameOf frame) position depth over scatter-source) (closeStroke (frameOf frame) position depth over scatter-target) ⌝ }
+    ensures gather { λ r. ⌜ now (gather .exit) ≡ paintThree (now (gather .entry)) (closeStroke (frameOf frame) position depth over gather-block) (closeStroke (frameOf frame) position depth over gather-source) (closeStroke (frameOf frame) position depth over gather-target) ⌝ }
+    ensures propagate { λ r. ⌜ now (propagate .exit) ≡ paintThree (now (propagate .entry)) noStroke (closeStroke (frameOf frame) position depth over leaving) (closeStroke (frameOf frame) position depth over entering) ⌝ }
 {
     mark(scatter, 0, depth, frame.alternative + 1);
     let first_end = first_end_of(frame, position);
     mark_run(gather, 0, depth, first_end, position + 1);
     mark(gather, 1, depth, position);
     mark(gather, 2, depth, position + 1);
-    bridge(
-        propagate,
-        frame.empty_before | can_be_empty,
-        depth,
-        frame.start,
-        position + 1,
-    );
+    bridge(propagate, over, depth, frame.start, position + 1);
 }
 
 // What a token that fits marks.
@@ -101,19 +96,18 @@ pub fn mark_token(
 {
     let position = scan.position;
     let depth = scan.depth;
-    let empty = scan.can_be_empty;
     match token {
         Token::Letter(repeat) => mark_letter(places, propagate, repeat, position, depth),
         Token::Open => mark_open(scatter, position, depth),
         Token::Bar => mark_bar(scatter, gather, position, depth - 1),
-        Token::Close => mark_close(
+        Token::Close(shown) => mark_close(
             scatter,
             gather,
             propagate,
             frame,
             position,
             depth - 1,
-            empty,
+            can_omit(shown),
         ),
     }
 }

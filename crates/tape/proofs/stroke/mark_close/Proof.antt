@@ -1,4 +1,4 @@
--- `stroke::mark_close`: scatter's block, gather's three one after another, and the edge over a union that can be empty.
+-- `stroke::mark_close`: scatter's block, gather's three one after another, and the edge over the union if there is one.
 use mathlib.Core.List.{List}
 use mathlib.Core.Path.{ap, _∙_}
 use Prim.Native.Nat.{ℕ, _+_}
@@ -49,13 +49,13 @@ same-length-3 c = search needs
 
 returns : tie.Need-returns
 returns c =
-    let a = c .before .before .before .before .before .before .before .before .before .before .before .before .before .before .before .before .before .before .before .before .before .before .before .before .before .before .args in (
-      c .before .before .before .before .before .before .before .before .before .before .before .before .before .before .before .before .before .before .before .before .mark .ensures,
+    let a = c .before .before .before .before .before .before .before .before .before .before .before .before .before .before .before .before .before .before .before .before .before .before .before .before .before .args in (
+      c .before .before .before .before .before .before .before .before .before .before .before .before .before .before .before .before .before .before .before .mark .ensures,
       (
-        c .before .before .before .before .before .before .before .mark3 .ensures
-            ∙ ap (λ (ms : List ℕ). strokeIn ms 2 (oneState (a .depth) (a .position + 1))) (c .before .before .before .before .before .before .before .before .before .before .before .mark2 .ensures
-            ∙ ap (λ (ms : List ℕ). strokeIn ms 1 (oneState (a .depth) (a .position))) (c .before .before .before .before .before .before .before .before .before .before .before .before .before .before .before .mark-run .ensures
-            ∙ ap (λ (n : ℕ). strokeIn (a .gather .now) 0 (stroke (a .depth) n (a .position + 1))) (c .before .before .before .before .before .before .before .before .before .before .before .before .before .before .before .before .before .first-end-of .ensures))),
+        c .before .before .before .before .before .before .mark3 .ensures
+            ∙ ap (λ (ms : List ℕ). strokeIn ms 2 (oneState (a .depth) (a .position + 1))) (c .before .before .before .before .before .before .before .before .before .before .mark2 .ensures
+            ∙ ap (λ (ms : List ℕ). strokeIn ms 1 (oneState (a .depth) (a .position))) (c .before .before .before .before .before .before .before .before .before .before .before .before .before .before .mark-run .ensures
+            ∙ ap (λ (n : ℕ). strokeIn (a .gather .now) 0 (stroke (a .depth) n (a .position + 1))) (c .before .before .before .before .before .before .before .before .before .before .before .before .before .before .before .before .first-end-of .ensures))),
         c .before .before .bridge .ensures,
       ),
     )

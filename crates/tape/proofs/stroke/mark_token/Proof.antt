@@ -51,25 +51,28 @@ mark-bar-requires c κs =
     let Z = s .pre .1 in
     (R .below, omega (arith, ready-depth q (s .args .token) R), Z .scatter, Z .gather)
 
-enum-told-3 : tie.Need-enum-told-3
-enum-told-3 c = search needs
+enum-known-token-2 : tie.Need-enum-known-token-2
+enum-known-token-2 c = search needs
 
 sub-mark-close : tie.Need-sub-mark-close
 sub-mark-close c =
-    let s = c .before .before .before .before .before .before .before .before .before in
+    let s = c .before .before .before .before .before .before .before .before .before .before in
     let q = withFrames (s .args .scan) (s .pre .0 .frames) in
-    let R = s .pre .0 .ready in
-    let Z = s .pre .1 in
-    ready-close q (s .args .token) R (c .before .before .before .enum-told3 .given .1)
+    let t = c .before .before .before .before .token2 .given in
+    ready-close q (s .args .token) (s .pre .0 .ready) (t .0 .0) (t .1)
+
+can-omit-requires : tie.Need-can-omit-requires
+can-omit-requires c κs = search needs
 
 mark-close-requires : tie.Need-mark-close-requires
 mark-close-requires c κs =
-    let s = c .before .before .before .before .before .before .before .before .before in
+    let s = c .before .before .before .before .before .before .before .before .before .before .before in
     let q = withFrames (s .args .scan) (s .pre .0 .frames) in
     let R = s .pre .0 .ready in
     let Z = s .pre .1 in
-    let told = c .before .before .before .enum-told3 .given .1 in
-    let top = subst (λ (f : Frame). (f .alternative < 511) × (f .start < 512)) (s .pre .0 .top (ready-close q (s .args .token) R told)) (ready-top q (s .args .token) R told) in
+    let t = c .before .before .before .before .before .token2 .given in
+    let inner = ready-close q (s .args .token) R (t .0 .0) (t .1) in
+    let top = subst (λ (f : Frame). (f .alternative < 511) × (f .start < 512)) (s .pre .0 .top inner) (ready-top q (s .args .token) R (t .0 .0) (t .1)) in
     (R .below, omega (arith, ready-depth q (s .args .token) R), top .0, top .1, Z .scatter, Z .gather, Z .propagate)
 
 same-length : tie.Need-same-length
@@ -116,13 +119,13 @@ same-length-8 c = search needs
 
 returns-4 : tie.Need-returns-4
 returns-4 c = λ fs I.
-    let s = c .before .before .before .before .before .before .before .before .before .before .before .before .before .before .before .before in
+    let s = c .before .before .before .before .before .before .before .before .before .before .before .before .before .before .before .before .before .before in
     let q = withFrames (s .args .scan) (s .pre .0 .frames) in
-    let R = s .pre .0 .ready in
-    let Z = s .pre .1 in
-    let told = c .before .before .before .before .before .before .before .before .before .before .enum-told3 .given .1 in
+    let t = c .before .before .before .before .before .before .before .before .before .before .before .before .token2 .given in
+    let o = c .before .before .before .before .before .before .before .can-omit in
     let m = c .before .before .before .before .before .before .mark-close .ensures in
-    close-painted (s .args .scan) fs (ready-close q (s .args .token) R told) (s .args .frame) I told (m .0) (m .1 .0) (m .1 .1)
+    let inner = ready-close q (s .args .token) (s .pre .0 .ready) (t .0 .0) (t .1) in
+    close-painted (s .args .scan) fs inner (s .args .frame) I (t .0 .0) (t .1) (o .result) (o .ensures) (m .0) (m .1 .0) (m .1 .1)
 
 pub mark-token-spec : {M : Type 1} → statement M
 mark-token-spec =
@@ -135,8 +138,9 @@ mark-token-spec =
     enum-told-2
     sub-mark-bar
     mark-bar-requires
-    enum-told-3
+    enum-known-token-2
     sub-mark-close
+    can-omit-requires
     mark-close-requires
     same-length
     same-length-2

@@ -8,10 +8,10 @@ use lib.Bits.{bitOr}
 use lib.ListN.{drop, getD, length, replicate, take}
 use Rattle.model.specs.Bits.{bit}
 use Rattle.model.specs.Image.{width}
-use Rattle.model.specs.Models.Apart.{depthWord, gatherAt, propagateAt, repeatOf, scatterAt, stateWord, widthWord}
+use Rattle.model.specs.Models.Apart.{depthWord, gatherAt, markOf, propagateAt, repeatOf, scatterAt, stateWord, widthWord}
 use Rattle.model.specs.Models.Words.{eachWord, value}
 use Rattle.tape.specs.Joins.{joinWord, Only}
-use Rattle.tape.specs.Rows.{repeatKind}
+use Rattle.tape.specs.Rows.{markKind, repeatKind}
 use Rattle.tape.specs.declared.Tape.{Tape}
 use Rattle.apart.specs.declared.Header.{Header}
 use Rattle.apart.specs.declared.Header.the-variants.{Other, Sound}
@@ -81,7 +81,7 @@ marksOf ws W d = record {
 abbrev pub kindAt : Marks → ℕ → ℕ
 kindAt marks i =
     cond (bit (value (marks .letters)) (suc i)) (repeatKind (repeatOf (bit (value (marks .entered)) (suc i)) (bit (value (marks .loops)) (suc i))))
-    (cond (bit (value (marks .closes)) (suc i)) 6 (cond (bit (value (marks .opens)) i) 4 5))
+    (cond (bit (value (marks .closes)) (suc i)) (markKind (markOf (bit (value (marks .entered)) (suc i)))) (cond (bit (value (marks .opens)) i) 4 5))
 
 pub record ShownBy (marks : Marks) (n : ℕ) (t : Tape) : Type 0 where
   pub long : t .length ≡ n

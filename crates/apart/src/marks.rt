@@ -4,8 +4,8 @@ use tape::Tape;
 ghost use mathlib.Core.Path.{_≡_};
 ghost use Prim.Native.Nat.{_+_, _*_, _≤_, _<_};
 ghost use lib.ListN.{length as lengthOf};
-ghost use Rattle.model.specs.Models.Apart.{repeatOf};
-ghost use Rattle.tape.specs.Rows.{repeatKind};
+ghost use Rattle.model.specs.Models.Apart.{markOf, repeatOf};
+ghost use Rattle.tape.specs.Rows.{markKind, repeatKind};
 ghost use Rattle.apart.specs.Work.{ShownBy, enteredRow, enteredWords, kindAt, marksOf, orFirst, someRow, someWord};
 
 // The states that some mask has: of the letters, of the repeats, of those that a propagate edge enters, of the gather targets and of the scatter
@@ -106,6 +106,13 @@ fn letter_kind(skips: bool, loops: bool) -> u8
     }
 }
 
+// A close's kind: without an edge over its union, or with one.
+fn close_kind(over: bool) -> u8
+    ensures { λ r. ⌜ r ≡ markKind (markOf over) ⌝ }
+{
+    if over { 7 } else { 6 }
+}
+
 // The token from state i to the next.
 fn kind_at(marks: Marks, i: usize) -> u8
     requires { ⌜ i < 511 ⌝ }
@@ -120,7 +127,7 @@ fn kind_at(marks: Marks, i: usize) -> u8
         return letter_kind(row_has_bit(entered, i + 1), row_has_bit(loops, i + 1));
     }
     if row_has_bit(closes, i + 1) {
-        return 6;
+        return close_kind(row_has_bit(entered, i + 1));
     }
     if row_has_bit(opens, i) { 4 } else { 5 }
 }

@@ -14,9 +14,9 @@ use Rattle.tape.specs.Tables.{Table}
 use Rattle.tape.specs.Tapes.{propagateBlockTable, propagateSourceTable, propagateTargetTable, tableOf}
 use Rattle.tape.specs.declared.Tape.{Tape}
 
--- the kinds of a tape are those of the tokens; what is past the kinds of tokens is a close
+-- the kinds of a tape are those of the tokens; what is past the kinds of tokens is a close with an edge over its union
 abbrev pub KindsAre : List ℕ → List ℕ → Type 0
-KindsAre row kinds = (i : ℕ) → i < 511 → getD kinds i 0 ≡ min (getD row (5 * i) 0) 6
+KindsAre row kinds = (i : ℕ) → i < 511 → getD kinds i 0 ≡ min (getD row (5 * i) 0) 7
 
 -- byte b is in the class of token i; token i leads to state i + 1
 abbrev pub inClass : List ℕ → ℕ → ℕ → Bool

@@ -5,11 +5,11 @@ ghost use Prim.Native.Nat.{_+_, _*_, _≤_, min};
 ghost use Rattle.model.specs.Image.{width as widthOf};
 ghost use Rattle.image.specs.Work.{KindsAre};
 
-// A kind of the tape; what is past the kinds of tokens is a close to it.
+// A kind of the tape; what is past the kinds of tokens is to it a close with an edge over its union.
 fn kind_of(word: u64) -> u8
-    ensures { λ r. ⌜ r ≡ min word 6 ⌝ }
+    ensures { λ r. ⌜ r ≡ min word 7 ⌝ }
 {
-    if word < 6 { word as u8 } else { 6 }
+    if word < 7 { word as u8 } else { 7 }
 }
 
 // The tokens without their classes.

@@ -8,12 +8,12 @@ use native.Mathlib.Nat.{le-of-suc-le-suc, not-suc-le-zero, zero-add, zero-lt-suc
 use native.Mathlib.Omega.{arith}
 use lib.ListN.{drop, getD, length, take}
 use Rattle.model.specs.Bits.{bit, mask}
-use Rattle.model.specs.Models.Apart.{anyBelow, bitOf, bitOfThree, chunk, depthWord, gatherAt, gatherIn, lettersIn, propagateAt, propagateIn, repeatOf, repeatsIn, scatterAt, scatterIn, stateWord, tape, tokenAt, tokenOf, tokensBetween, tokensFrom, widthWord}
+use Rattle.model.specs.Models.Apart.{anyBelow, bitOf, bitOfThree, chunk, depthWord, gatherAt, gatherIn, lettersIn, markOf, propagateAt, propagateIn, repeatOf, repeatsIn, scatterAt, scatterIn, stateWord, tape, tokenAt, tokenOf, tokensBetween, tokensFrom, widthWord}
 use Rattle.model.specs.Models.Tokens.{Token}
 use Rattle.model.specs.Models.Words.{Fit, value}
 use Rattle.model.proofs.Image.SameBits.{fit-drop, fit-take}
 use Rattle.model.proofs.Laws.Bits.{below-same}
-use Rattle.tape.specs.Rows.{kindOf, repeatKind}
+use Rattle.tape.specs.Rows.{kindOf, markKind, repeatKind}
 use Rattle.tape.specs.Tapes.{bare, bares, readKinds, tokensOf}
 use Rattle.scan.specs.Tokens as kinds
 use Rattle.tape.specs.declared.Tape.{Tape}
@@ -24,7 +24,7 @@ use Rattle.apart.proofs.Laws.Address.{chunk-at, repeats-at, three-at}
 use Rattle.apart.proofs.Laws.Rows.{entered-long, Mask, only-bit, only-fit, rows-bit, rows-fit, rows-length, words-long}
 
 -- ---- a token by its kind
-kind-is : (l : Bool) (class : ℕ) (s p c o : Bool) → cond l (repeatKind (repeatOf s p)) (cond c 6 (cond o 4 5)) ≡ kindOf (tokenOf l class s p c o)
+kind-is : (l : Bool) (class : ℕ) (s p c o : Bool) → cond l (repeatKind (repeatOf s p)) (cond c (markKind (markOf s)) (cond o 4 5)) ≡ kindOf (tokenOf l class s p c o)
 kind-is true class s p c o = refl
 kind-is false class s p true o = refl
 kind-is false class s p false true = refl
@@ -142,7 +142,7 @@ module _ (ws : List ℕ) (fit : Fit ws) where
     kind-of-token : (i : ℕ) → kindAt (marksOf ws W d) i ≡ kindOf (tokenAt ws i)
     kind-of-token i =
         (λ j. cond (letters-row ws fit W d narrow long (suc i) j) (repeatKind (repeatOf (entered-row (suc i) j) (loops-row (suc i) j)))
-        (cond (closes-row (suc i) j) 6 (cond (opens-row i j) 4 5)))
+        (cond (closes-row (suc i) j) (markKind (markOf (entered-row (suc i) j))) (cond (opens-row i j) 4 5)))
         ∙ kind-is (anyBelow 256 (λ b. bitOf W (lettersIn ws) b (suc i))) (mask 256 (λ b. bitOf W (lettersIn ws) b (suc i)))
         (anyBelow (suc d) (λ k. bitOfThree W (propagateIn ws) 0 k (suc i) && not (bitOfThree W (propagateIn ws) 1 k (suc i))))
         (anyBelow 256 (λ b. bitOf W (repeatsIn ws) b (suc i)))

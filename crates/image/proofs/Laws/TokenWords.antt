@@ -17,7 +17,7 @@ use Rattle.model.proofs.Words.RowBits.{row-bit}
 use Rattle.tape.specs.Rows.{kindOf, rowWords, tokenWords}
 use Rattle.image.specs.Work.{inClass}
 
-word-of : (l : List Token) (i j : ℕ) → i < length l → j < 5 → getD (rowWords l) (5 * i + j) 0 ≡ getD (tokenWords (getD l i aClose)) j 0
+word-of : (l : List Token) (i j : ℕ) → i < length l → j < 5 → getD (rowWords l) (5 * i + j) 0 ≡ getD (tokenWords (getD l i aBar)) j 0
 word-of [] i j h k = absurd (not-suc-le-zero h)
 word-of (y ∷ ys) zero j h k =
     let e : 5 * 0 + j ≡ j = omega arith in
@@ -38,21 +38,21 @@ class-small : (y : Token) → Fine y → classOf y < 2 ^ 256
 class-small (aLetter c r) f = f .bytes-only
 class-small anOpen f = pow-pos 256
 class-small aBar f = pow-pos 256
-class-small aClose f = pow-pos 256
+class-small (aClose m) f = pow-pos 256
 
 -- ---- a row that begins with the words of the tokens l
 module _ (l : List Token) (row : List ℕ) (n : ℕ) (long : n ≡ length l) (are : take (5 * n) row ≡ rowWords l) where
-  word-at : (i j : ℕ) → i < length l → j < 5 → getD row (5 * i + j) 0 ≡ getD (tokenWords (getD l i aClose)) j 0
+  word-at : (i j : ℕ) → i < length l → j < 5 → getD row (5 * i + j) 0 ≡ getD (tokenWords (getD l i aBar)) j 0
   word-at i j h k =
       let m : 5 * i + j < 5 * n = omega arith in
       sym (getD-take (5 * n) row (5 * i + j) 0 m) ∙ ap (λ (ws : List ℕ). getD ws (5 * i + j) 0) are ∙ word-of l i j h k
 
-  pub kind-at : (i : ℕ) → i < length l → getD row (5 * i) 0 ≡ kindOf (getD l i aClose)
+  pub kind-at : (i : ℕ) → i < length l → getD row (5 * i) 0 ≡ kindOf (getD l i aBar)
   kind-at i h = let e : 5 * i ≡ 5 * i + 0 = omega arith in ap (λ (p : ℕ). getD row p 0) e ∙ word-at i 0 h (omega arith)
 
-  pub in-class : (i b : ℕ) → i < length l → b < 256 → AllFine l → inClass row b i ≡ bit (classOf (getD l i aClose)) b
+  pub in-class : (i b : ℕ) → i < length l → b < 256 → AllFine l → inClass row b i ≡ bit (classOf (getD l i aBar)) b
   in-class i b h k f =
       let e : 5 * i + 1 + b / 64 ≡ 5 * i + suc (b / 64) = omega arith in
       ap (λ (p : ℕ). bit (getD row p 0) (b % 64)) e
       ∙ ap (λ (w : ℕ). bit w (b % 64)) (word-at i (suc (b / 64)) h (omega arith))
-      ∙ class-word (classOf (getD l i aClose)) b (class-small (getD l i aClose) (fine-at l i f)) k
+      ∙ class-word (classOf (getD l i aBar)) b (class-small (getD l i aBar) (fine-at l i f)) k

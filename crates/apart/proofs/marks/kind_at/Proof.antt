@@ -5,9 +5,9 @@ use Prim.Native.Nat.{ℕ, _+_}
 use native.Mathlib.Numerals.{add-one}
 use borrow.Author.Needs.{needs}
 use Rattle.model.specs.Bits.{bit}
-use Rattle.model.specs.Models.Apart.{repeatOf}
+use Rattle.model.specs.Models.Apart.{markOf, repeatOf}
 use Rattle.model.specs.Models.Words.{value}
-use Rattle.tape.specs.Rows.{repeatKind}
+use Rattle.tape.specs.Rows.{markKind, repeatKind}
 use Rattle.apart.specs.Work.{kindAt}
 use Rattle.apart.specs.declared.marks.Marks.{Marks}
 use Rattle.apart.proofs.marks.kind_at.Statement.{statement}
@@ -24,26 +24,29 @@ module _ (marks : Marks) (i : ℕ) where
   abbrev ifLetter : ℕ → ℕ
   ifLetter n = repeatKind (repeatOf (bit (value (marks .entered)) n) (bit (value (marks .loops)) n))
 
+  abbrev ifClose : ℕ → ℕ
+  ifClose n = markKind (markOf (bit (value (marks .entered)) n))
+
   abbrev ifNeither : ℕ
   ifNeither = cond (bit (value (marks .opens)) i) 4 5
 
   abbrev kind : ℕ → ℕ
-  kind n = cond (letter n) (ifLetter n) (cond (close n) 6 ifNeither)
+  kind n = cond (letter n) (ifLetter n) (cond (close n) (ifClose n) ifNeither)
 
   next : kind (i + 1) ≡ kindAt marks i
   next = ap kind (add-one i)
 
   is-letter : letter (i + 1) ≡ true → ifLetter (i + 1) ≡ kindAt marks i
-  is-letter e = ap (λ (b : Bool). cond b (ifLetter (i + 1)) (cond (close (i + 1)) 6 ifNeither)) (sym e) ∙ next
+  is-letter e = ap (λ (b : Bool). cond b (ifLetter (i + 1)) (cond (close (i + 1)) (ifClose (i + 1)) ifNeither)) (sym e) ∙ next
 
-  no-letter : letter (i + 1) ≡ false → cond (close (i + 1)) 6 ifNeither ≡ kindAt marks i
-  no-letter e = ap (λ (b : Bool). cond b (ifLetter (i + 1)) (cond (close (i + 1)) 6 ifNeither)) (sym e) ∙ next
+  no-letter : letter (i + 1) ≡ false → cond (close (i + 1)) (ifClose (i + 1)) ifNeither ≡ kindAt marks i
+  no-letter e = ap (λ (b : Bool). cond b (ifLetter (i + 1)) (cond (close (i + 1)) (ifClose (i + 1)) ifNeither)) (sym e) ∙ next
 
-  is-close : letter (i + 1) ≡ false → close (i + 1) ≡ true → 6 ≡ kindAt marks i
-  is-close e f = ap (λ (b : Bool). cond b 6 ifNeither) (sym f) ∙ no-letter e
+  is-close : letter (i + 1) ≡ false → close (i + 1) ≡ true → ifClose (i + 1) ≡ kindAt marks i
+  is-close e f = ap (λ (b : Bool). cond b (ifClose (i + 1)) ifNeither) (sym f) ∙ no-letter e
 
   is-neither : letter (i + 1) ≡ false → close (i + 1) ≡ false → ifNeither ≡ kindAt marks i
-  is-neither e f = ap (λ (b : Bool). cond b 6 ifNeither) (sym f) ∙ no-letter e
+  is-neither e f = ap (λ (b : Bool). cond b (ifClose (i + 1)) ifNeither) (sym f) ∙ no-letter e
 
 add-row-has-bit : tie.Need-add-row-has-bit
 add-row-has-bit c = search needs
@@ -79,19 +82,30 @@ add-row-has-bit-4 c = search needs
 row-has-bit-requires-4 : tie.Need-row-has-bit-requires-4
 row-has-bit-requires-4 c κs = search needs
 
-returns-2 : tie.Need-returns-2
-returns-2 c =
-    let a = c .before .before .before .before .before .before .before .before .before .args in
-    is-close (a .marks) (a .i) (sym (c .before .before .before .row-has-bit .ensures) ∙ c .before .before .if1 .left)
-    (sym (c .before .row-has-bit4 .ensures) ∙ c .if2 .taken)
+add-row-has-bit-5 : tie.Need-add-row-has-bit-5
+add-row-has-bit-5 c = search needs
 
 row-has-bit-requires-5 : tie.Need-row-has-bit-requires-5
 row-has-bit-requires-5 c κs = search needs
 
+close-kind-requires : tie.Need-close-kind-requires
+close-kind-requires c κs = search needs
+
+returns-2 : tie.Need-returns-2
+returns-2 c =
+    let a = c .before .before .before .before .before .before .before .before .before .before .before .args in
+    c .close-kind .ensures
+    ∙ ap (λ (s : Bool). markKind (markOf s)) (c .before .row-has-bit5 .ensures)
+    ∙ is-close (a .marks) (a .i) (sym (c .before .before .before .before .before .row-has-bit .ensures) ∙ c .before .before .before .before .if1 .left)
+    (sym (c .before .before .before .row-has-bit4 .ensures) ∙ c .before .before .if2 .taken)
+
+row-has-bit-requires-6 : tie.Need-row-has-bit-requires-6
+row-has-bit-requires-6 c κs = search needs
+
 returns-3 : tie.Need-returns-3
 returns-3 c =
     let a = c .before .before .before .before .before .before .before .before .before .before .before .args in
-    ap (λ (b : Bool). cond b 4 5) (sym (c .if3 .taken) ∙ c .before .row-has-bit5 .ensures)
+    ap (λ (b : Bool). cond b 4 5) (sym (c .if3 .taken) ∙ c .before .row-has-bit6 .ensures)
     ∙ is-neither (a .marks) (a .i)
     (sym (c .before .before .before .before .before .row-has-bit .ensures) ∙ c .before .before .before .before .if1 .left)
     (sym (c .before .before .before .row-has-bit4 .ensures) ∙ c .before .before .if2 .left)
@@ -99,7 +113,7 @@ returns-3 c =
 returns-4 : tie.Need-returns-4
 returns-4 c =
     let a = c .before .before .before .before .before .before .before .before .before .before .before .args in
-    ap (λ (b : Bool). cond b 4 5) (sym (c .if3 .left) ∙ c .before .row-has-bit5 .ensures)
+    ap (λ (b : Bool). cond b 4 5) (sym (c .if3 .left) ∙ c .before .row-has-bit6 .ensures)
     ∙ is-neither (a .marks) (a .i)
     (sym (c .before .before .before .before .before .row-has-bit .ensures) ∙ c .before .before .before .before .if1 .left)
     (sym (c .before .before .before .row-has-bit4 .ensures) ∙ c .before .before .if2 .left)
@@ -118,7 +132,10 @@ kind-at-spec =
     returns
     add-row-has-bit-4
     row-has-bit-requires-4
-    returns-2
+    add-row-has-bit-5
     row-has-bit-requires-5
+    close-kind-requires
+    returns-2
+    row-has-bit-requires-6
     returns-3
     returns-4)

@@ -27,5 +27,5 @@ pub data ReadSays (rule : List ℕ) (r : Reading) : Type 0 where
 
 -- by the whole rule read as one item, and the rule's length
 abbrev pub outcomeOf : Part → ℕ → Outcome
-outcomeOf (aPart p next) n = cond (ltb p n) NotARule (cond (ltb 511 next) TooManyStates (Tree (next + 1)))
+outcomeOf (aPart p next e) n = cond (ltb p n) NotARule (cond (ltb 511 next) TooManyStates (Tree (next + 1)))
 outcomeOf (noPart p) n = NotARule

@@ -4,22 +4,22 @@ ghost use mathlib.Core.Path.{_≡_};
 ghost use Rattle.rule.specs.Says.{outcomeOf, reading, ReadSays};
 ghost use Rattle.rule.specs.Tokens.{noTokens};
 
+mod groups;
 mod readers;
 mod tokens;
 
-use crate::readers::bracket;
+use crate::groups::bracket;
 use crate::readers::read_alternatives;
 
-// An item or a sequence: the place after it and the number of the token after its own.
+// An item or a sequence: the place after it, the number of the token after its own, and whether it can be empty.
 enum Part {
-    Got(usize, usize),
+    Got(usize, usize, bool),
     Bad(usize),
 }
 
-// Alternatives, one or several: likewise.
+// Alternatives: likewise, and after the number whether they are several.
 enum Alternatives {
-    One(usize, usize),
-    Several(usize, usize),
+    Got(usize, usize, bool, bool),
     Bad(usize),
 }
 
@@ -42,7 +42,7 @@ fn outcome_of(whole: Part, length: usize) -> Outcome
     ensures { λ r. ⌜ r ≡ outcomeOf whole length ⌝ }
 {
     match whole {
-        Part::Got(p, next) => {
+        Part::Got(p, next, _) => {
             if p < length {
                 return Outcome::NotARule;
             }
@@ -72,7 +72,7 @@ pub fn read_rule(rule: &[u8]) -> Reading
     }
     let mut tokens = [0; 2555];
     let alternatives = read_alternatives(rule, 0, &mut tokens, 0);
-    let whole = bracket(&mut tokens, 0, alternatives);
+    let whole = bracket(&mut tokens, alternatives);
     let outcome = outcome_of(whole, rule.len());
     let Outcome::Tree(_) = outcome else {
         return refuse(outcome);

@@ -2,35 +2,52 @@
 // the tokens of what it reads from token n on. The bytes that remain fall from call to call, so brackets may nest as deep as the rule is long.
 use crate::Alternatives;
 use crate::Part;
+use crate::groups::close_item;
 use crate::tokens::BAR;
-use crate::tokens::CLOSE;
-use crate::tokens::insert_open;
 use crate::tokens::put_letter;
 use crate::tokens::put_union;
 use kinds::byte_at;
 use letters::Class;
 use letters::Letter;
 use letters::read_letter;
+use signs::Repeat;
 use signs::Sign;
 use signs::read_sign;
+ghost use mathlib.Core.Bool.{true};
 ghost use mathlib.Core.Path.{_≡_};
-ghost use Prim.Native.Nat.{_+_, _≤_};
-ghost use lib.ListN.{drop, length};
+ghost use Prim.Native.Nat.{ℕ, _+_};
+ghost use lib.ListN.{drop};
+ghost use Rattle.model.specs.Edges.{seqEmpty};
+ghost use Rattle.model.specs.Grammar.{repeated};
 ghost use Rattle.model.specs.Models.Reader.{over, readPiece};
 ghost use Rattle.model.proofs.Reading.Cycle.{alts, item as itemOf, seq};
 ghost use Rattle.letters.specs.Classes.{bytesOf};
-ghost use Rattle.rule.specs.Parts.{afterLetter, AlternativesSay, bracketed, bracketWords, Closes, Countable, PartSays, Ready, Sane, severalOf};
+ghost use Rattle.signs.specs.Answers.{signOf};
+ghost use Rattle.rule.specs.Parts.{afterLetter, AlternativesSay, PartSays, Ready, severalOf};
+
+// Whether a letter with this sign may be left out: `{0,y}` is options alone.
+fn can_be_left_out(repeat: Repeat) -> bool
+    ensures { λ r. ⌜ ((c : ℕ) → r ≡ seqEmpty (repeated c (signOf repeat))) ⌝ }
+{
+    match repeat {
+        Repeat::Once => false,
+        Repeat::Option => true,
+        Repeat::Star => true,
+        Repeat::Plus => false,
+        Repeat::Times(x, _) => x == 0,
+    }
+}
 
 // The repeat sign of a letter.
 fn read_repeated(rule: &[u8], at: usize, class: Class, tokens: &mut [u64; 2555], n: usize) -> Part
     requires { ⌜ Ready (now rule) at (n + 999) ⌝ }
-    ensures { λ r. ⌜ PartSays (now (rule .entry)) n (afterLetter (bytesOf class) (drop at (now (rule .entry)))) (now (tokens .entry)) (now (tokens .exit)) r ⌝ }
+    ensures { λ r. ⌜ PartSays true (now (rule .entry)) n (afterLetter (bytesOf class) (drop at (now (rule .entry)))) (now (tokens .entry)) (now (tokens .exit)) r ⌝ }
 {
     let sign = read_sign(rule, at);
     match sign {
         Sign::Got(repeat, p) => {
             let next = put_letter(tokens, n, class, repeat);
-            Part::Got(p, next)
+            Part::Got(p, next, can_be_left_out(repeat))
         }
         Sign::Bad(p) => Part::Bad(p),
     }
@@ -39,45 +56,13 @@ fn read_repeated(rule: &[u8], at: usize, class: Class, tokens: &mut [u64; 2555],
 // A letter with at most one repeat sign.
 fn read_piece(rule: &[u8], at: usize, tokens: &mut [u64; 2555], n: usize) -> Part
     requires { ⌜ Ready (now rule) at n ⌝ }
-    ensures { λ r. ⌜ PartSays (now (rule .entry)) n (readPiece (drop at (now (rule .entry)))) (now (tokens .entry)) (now (tokens .exit)) r ⌝ }
+    ensures { λ r. ⌜ PartSays true (now (rule .entry)) n (readPiece (drop at (now (rule .entry)))) (now (tokens .entry)) (now (tokens .exit)) r ⌝ }
 {
     let letter = read_letter(rule, at);
     match letter {
         Letter::Got(class, p) => read_repeated(rule, p, class, tokens, n),
         Letter::Bad(p) => Part::Bad(p),
     }
-}
-
-// Alternatives as one item: several are a union, and get its open and its close.
-pub fn bracket(tokens: &mut [u64; 2555], n: usize, alternatives: Alternatives) -> Part
-    requires { ⌜ Countable n alternatives ⌝ }
-    ensures answer { λ r. ⌜ r ≡ bracketed alternatives ⌝ }
-    ensures written { λ r. ⌜ now (tokens .exit) ≡ bracketWords (now (tokens .entry)) n alternatives ⌝ }
-{
-    match alternatives {
-        Alternatives::One(p, next) => Part::Got(p, next),
-        Alternatives::Several(p, next) => {
-            insert_open(tokens, n, next);
-            put_union(tokens, next + 1, CLOSE);
-            Part::Got(p, next + 2)
-        }
-        Alternatives::Bad(p) => Part::Bad(p),
-    }
-}
-
-// Bracketed alternatives, before their `)`.
-fn close_item(rule: &[u8], tokens: &mut [u64; 2555], n: usize, alternatives: Alternatives) -> Part
-    requires { ⌜ (length (now rule) ≤ 1024) × Sane (now rule) n alternatives ⌝ }
-    ensures { λ r. ⌜ Closes (now (rule .entry)) n alternatives (now (tokens .entry)) (now (tokens .exit)) r ⌝ }
-{
-    let item = bracket(tokens, n, alternatives);
-    let Part::Got(p, next) = item else {
-        return item;
-    };
-    if byte_at(rule, p) != b')' {
-        return Part::Bad(p);
-    }
-    Part::Got(p + 1, next)
 }
 
 // Whether a sequence is over here: before `|`, before `)` and at the end.
@@ -91,21 +76,20 @@ fn is_over(rule: &[u8], at: usize) -> bool
     x == b'|' || x == b')'
 }
 
-// Alternatives after a bar, as those of the union that the bar is of.
-fn several(rest: Alternatives) -> Alternatives
-    ensures { λ r. ⌜ r ≡ severalOf rest ⌝ }
+// The alternatives after a bar and the one before it, of which `empty` says whether it can be empty.
+fn several(empty: bool, rest: Alternatives) -> Alternatives
+    ensures { λ r. ⌜ r ≡ severalOf empty rest ⌝ }
 {
     match rest {
-        Alternatives::One(p, next) => Alternatives::Several(p, next),
-        Alternatives::Several(p, next) => Alternatives::Several(p, next),
+        Alternatives::Got(p, next, _, others) => Alternatives::Got(p, next, true, empty | others),
         Alternatives::Bad(p) => Alternatives::Bad(p),
     }
 }
 
-// A letter with at most one repeat sign, or bracketed alternatives without one.
+// A letter with at most one repeat sign, or bracketed alternatives, with `?` or without.
 fn read_item(rule: &[u8], at: usize, tokens: &mut [u64; 2555], n: usize) -> Part
     requires { ⌜ Ready (now rule) at n ⌝ }
-    ensures { λ r. ⌜ PartSays (now (rule .entry)) n (itemOf (drop at (now (rule .entry)))) (now (tokens .entry)) (now (tokens .exit)) r ⌝ }
+    ensures { λ r. ⌜ PartSays true (now (rule .entry)) n (itemOf (drop at (now (rule .entry)))) (now (tokens .entry)) (now (tokens .exit)) r ⌝ }
 {
     if byte_at(rule, at) != b'(' {
         return read_piece(rule, at, tokens, n);
@@ -114,19 +98,25 @@ fn read_item(rule: &[u8], at: usize, tokens: &mut [u64; 2555], n: usize) -> Part
     close_item(rule, tokens, n, alternatives)
 }
 
-// One or more items. "An item that isn't read ends the whole reading at once."
-fn read_sequence(rule: &[u8], at: usize, tokens: &mut [u64; 2555], n: usize) -> Part
+// One or more items of a sequence that can be empty so far or not. "An item that isn't read ends the whole reading at once."
+fn read_sequence(
+    rule: &[u8],
+    at: usize,
+    tokens: &mut [u64; 2555],
+    n: usize,
+    can_be_empty: bool,
+) -> Part
     requires { ⌜ Ready (now rule) at n ⌝ }
-    ensures { λ r. ⌜ PartSays (now (rule .entry)) n (seq (drop at (now (rule .entry)))) (now (tokens .entry)) (now (tokens .exit)) r ⌝ }
+    ensures { λ r. ⌜ PartSays «can_be_empty» (now (rule .entry)) n (seq (drop at (now (rule .entry)))) (now (tokens .entry)) (now (tokens .exit)) r ⌝ }
 {
     let item = read_item(rule, at, tokens, n);
-    let Part::Got(p, next) = item else {
+    let Part::Got(p, next, empty) = item else {
         return item;
     };
     if is_over(rule, p) {
-        return item;
+        return Part::Got(p, next, can_be_empty & empty);
     }
-    read_sequence(rule, p, tokens, next)
+    read_sequence(rule, p, tokens, next, can_be_empty & empty)
 }
 
 // One or more sequences, with `|` between them.
@@ -134,15 +124,15 @@ pub fn read_alternatives(rule: &[u8], at: usize, tokens: &mut [u64; 2555], n: us
     requires { ⌜ Ready (now rule) at n ⌝ }
     ensures { λ r. ⌜ AlternativesSay (now (rule .entry)) n (alts (drop at (now (rule .entry)))) (now (tokens .entry)) (now (tokens .exit)) r ⌝ }
 {
-    let sequence = read_sequence(rule, at, tokens, n);
+    let sequence = read_sequence(rule, at, tokens, n, true);
     match sequence {
-        Part::Got(p, next) => {
+        Part::Got(p, next, empty) => {
             if byte_at(rule, p) != b'|' {
-                return Alternatives::One(p, next);
+                return Alternatives::Got(p, next, false, empty);
             }
             put_union(tokens, next, BAR);
             let rest = read_alternatives(rule, p + 1, tokens, next + 1);
-            several(rest)
+            several(empty, rest)
         }
         Part::Bad(p) => Alternatives::Bad(p),
     }

@@ -10,14 +10,15 @@ ghost use lib.ListN.{drop, length, take};
 ghost use lib.Seq.{sets};
 ghost use Rattle.model.specs.Grammar.{repeated};
 ghost use Rattle.model.specs.Image.{words};
+ghost use Rattle.model.specs.Models.Apart.{markOf};
 ghost use Rattle.model.specs.Models.Tokens.{anOpen, tokens as tokensOf};
 ghost use Rattle.signs.specs.Answers.{signOf};
 ghost use Rattle.letters.specs.Classes.{bytesOf, wordsOf};
 ghost use Rattle.signs.specs.Repeats.{Bounded};
-ghost use Rattle.tape.specs.Rows.{rowWords, tokenWords};
-ghost use Rattle.rule.specs.Tokens.{opened, timesWords};
+ghost use Rattle.tape.specs.Rows.{markKind, rowWords, tokenWords};
+ghost use Rattle.rule.specs.Tokens.{enclosed, opened, timesWords};
 
-// The kinds of tokens: a letter taken once, `?`, `*` or `+`; a union's open, bar and close.
+// The kinds of tokens: a letter taken once, `?`, `*` or `+`; a union's open, bar and close, and a close with an edge over its union.
 pub const ONCE: u64 = 0;
 
 pub const OPTION: u64 = 1;
@@ -31,6 +32,8 @@ pub const OPEN: u64 = 4;
 pub const BAR: u64 = 5;
 
 pub const CLOSE: u64 = 6;
+
+pub const CLOSE_OVER: u64 = 7;
 
 // How many words there is room for: behind a reference to an array only the slice of all of it tells its length.
 fn room(tokens: &[u64]) -> usize
@@ -88,12 +91,27 @@ fn shift(tokens: &mut [u64; 2555], from: usize, to: usize)
 }
 
 // An open before the tokens `from` to `to` less 1.
-pub fn insert_open(tokens: &mut [u64; 2555], from: usize, to: usize)
+fn insert_open(tokens: &mut [u64; 2555], from: usize, to: usize)
     requires { ⌜ (from ≤ to) × (to < 2 ^ 32) ⌝ }
     ensures { λ r. ⌜ now (tokens .exit) ≡ opened (now (tokens .entry)) from (to - from) (tokenWords anOpen) ⌝ }
 {
     shift(tokens, from, to);
     put_union(tokens, from, OPEN);
+}
+
+fn close_kind(over: bool) -> u64
+    ensures { λ r. ⌜ r ≡ markKind (markOf over) ⌝ }
+{
+    if over { CLOSE_OVER } else { CLOSE }
+}
+
+// A union's open before the tokens `from` to `to` less 1, and its close after them; `over` says whether an edge leads over the union.
+pub fn enclose(tokens: &mut [u64; 2555], from: usize, to: usize, over: bool)
+    requires { ⌜ (from ≤ to) × (to < 2 ^ 31) ⌝ }
+    ensures { λ r. ⌜ now (tokens .exit) ≡ enclosed (now (tokens .entry)) from to over ⌝ }
+{
+    insert_open(tokens, from, to);
+    put_union(tokens, to + 1, close_kind(over));
 }
 
 // A letter with its repeat sign, from token n on; and the number of the token after it.

@@ -1,6 +1,7 @@
 -- A RULE IS ITS ALTERNATIVES, READ TO THE LAST BYTE, AS ONE ITEM: the model's reader decides the grammar, so the outcome is the table's.
 use mathlib.Core.Path.{_≡_, refl, sym, ap, _∙_}
 use mathlib.Core.Logic.{_⊎_, inl, inr}
+use mathlib.Core.Bool.{Bool}
 use mathlib.Core.List.{List, [], _∷_}
 use mathlib.Core.Option.{none, some}
 use Prim.Native.Nat.{ℕ, suc, _+_, _≤_, _<_}
@@ -25,7 +26,7 @@ use Rattle.rule.specs.declared.Part.{Part}
 use Rattle.rule.specs.declared.Part.the-variants.{Bad as noPart, Got as aPart}
 use Rattle.rule.specs.declared.Reading.{Reading}
 use Rattle.rule.proofs.Outcome.{the-type}
-use Rattle.rule.proofs.Laws.Cycle.{Grouped, ItemSays}
+use Rattle.rule.proofs.Laws.Groups.{Grouped, ItemSays}
 
 -- the tokens are given with a tree, and with nothing else
 abbrev pub answered : Outcome → List ℕ → Reading
@@ -48,9 +49,9 @@ module _ (rule row : List ℕ) (short : length rule ≤ 1024) where
       no-tree : none ≡ some t → ⊥
       no-tree p = let z : _≡_ {A = ℕ} 0 1 = cc in omega arith
 
-  module _ {a : tree.Alts} {p next : ℕ} (g : Grouped rule 0 (alts rule) noTokens row a p next) where
+  module _ {a : tree.Alts} {p next : ℕ} {e : Bool} (g : Grouped rule 0 (alts rule) noTokens row a tree.unmarked p next e) where
     -- bytes are left
-    left-over : p < length rule → ReadSays rule (answered (outcomeOf (aPart p next) (length rule)) row)
+    left-over : p < length rule → ReadSays rule (answered (outcomeOf (aPart p next e) (length rule)) row)
     left-over h = rw (le-true (suc p) (length rule) h) (not-a-rule short (unread (ap whole (g .took .reads) ∙ rw (drop-cons rule p 0 h))) refl)
 
     -- all bytes are read
@@ -61,10 +62,10 @@ module _ (rule row : List ℕ) (short : length rule ≤ 1024) where
       size : states (bracket a) ≡ next + 1
       size = omega (arith, length-tokens (bracket a), g .count)
 
-      all-read : ReadSays rule (answered (outcomeOf (aPart p next) (length rule)) row)
+      all-read : ReadSays rule (answered (outcomeOf (aPart p next e) (length rule)) row)
       all-read = go (le-or-lt next 511)
         where
-          go : (next ≤ 511) ⊎ (511 < next) → ReadSays rule (answered (outcomeOf (aPart p next) (length rule)) row)
+          go : (next ≤ 511) ⊎ (511 < next) → ReadSays rule (answered (outcomeOf (aPart p next e) (length rule)) row)
           go (inl few) =
               rw (le-false (suc p) (length rule) (omega arith), le-false 512 next (omega arith))
               (read (bracket a) short is-rule (omega (arith, size)) (λ i. reading (Tree (sym size i)) (g .written i)))
@@ -74,8 +75,8 @@ module _ (rule row : List ℕ) (short : length rule ≤ 1024) where
 
   pub whole-says : (item : Part) → ItemSays rule 0 (alts rule) noTokens row item → ReadSays rule (answered (outcomeOf item (length rule)) row)
   whole-says (noPart p) s = not-a-rule short (unread (ap whole (s .reads))) refl
-  whole-says (aPart p next) (a, g) = go (le-or-lt (length rule) p)
+  whole-says (aPart p next e) (a, g) = go (le-or-lt (length rule) p)
     where
-      go : (length rule ≤ p) ⊎ (p < length rule) → ReadSays rule (answered (outcomeOf (aPart p next) (length rule)) row)
+      go : (length rule ≤ p) ⊎ (p < length rule) → ReadSays rule (answered (outcomeOf (aPart p next e) (length rule)) row)
       go (inl h) = all-read g h
       go (inr h) = left-over g h

@@ -5,24 +5,25 @@ use Prim.Native.Nat.{ℕ, _≤_}
 use lib.ListN.{length}
 use borrow.Author.Needs.{needs}
 use Rattle.model.proofs.Reading.Cycle.{alts}
-use Rattle.rule.specs.Parts.{AlternativesSay, bracketed, bracketWords}
+use Rattle.rule.specs.Groups.{bracketed, bracketWords}
+use Rattle.rule.specs.Parts.{AlternativesSay}
 use Rattle.rule.specs.Says.{outcomeOf, ReadSays, too-long}
 use Rattle.rule.specs.Tokens.{noTokens}
 use Rattle.rule.specs.declared.Alternatives.{Alternatives}
 use Rattle.rule.specs.declared.Outcome.{Outcome}
 use Rattle.rule.specs.declared.Outcome.the-variants.{Tree}
 use Rattle.rule.specs.declared.Part.{Part}
-use Rattle.rule.proofs.Laws.Cycle.{countable, item-says, says-sane}
+use Rattle.rule.proofs.Laws.Groups.{bracket-says, countable, says-sane}
 use Rattle.rule.proofs.Laws.Whole.{answered, refused, whole-says}
 use Rattle.rule.proofs.read_rule.Statement.{statement}
 use Rattle.rule.proofs.read_rule.Tie as tie
 
 -- what the parts have answered, put together
 says : (rule now row : List ℕ) (alternatives : Alternatives) (item : Part) (o : Outcome) → length rule ≤ 1024
-    → AlternativesSay rule 0 (alts rule) noTokens now alternatives → item ≡ bracketed alternatives → row ≡ bracketWords now 0 alternatives
+    → AlternativesSay rule 0 (alts rule) noTokens now alternatives → item ≡ bracketed alternatives → row ≡ bracketWords now alternatives
     → o ≡ outcomeOf item (length rule) → ReadSays rule (answered o row)
 says rule now row alternatives item o short s e w q =
-    rw (q, e, w) (whole-says rule (bracketWords now 0 alternatives) short (bracketed alternatives) (item-says rule 0 (alts rule) noTokens now alternatives s))
+    rw (q, e, w) (whole-says rule (bracketWords now alternatives) short (bracketed alternatives) (bracket-says rule (alts rule) noTokens now alternatives s))
 
 refuse-requires : tie.Need-refuse-requires
 refuse-requires c = search needs
@@ -38,7 +39,7 @@ bracket-requires c κs =
     let s = c .before .before .before .before .before in
     let r = c .before .read-alternatives in
     let rule = s .args .rule .now in
-    countable rule 0 (r .result) (c .before .before .before .if1 .left) (says-sane rule 0 (alts rule) noTokens (r .last .1 .1 .0) (r .result) (r .ensures))
+    countable rule (r .result) (c .before .before .before .if1 .left) (says-sane rule 0 (alts rule) noTokens (r .last .1 .1 .0) (r .result) (r .ensures))
 
 outcome-of-requires : tie.Need-outcome-of-requires
 outcome-of-requires c = search needs

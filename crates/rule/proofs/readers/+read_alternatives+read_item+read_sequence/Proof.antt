@@ -1,6 +1,7 @@
 -- The three readers do what the model's three do, by one induction: from call to call the bytes that remain fall, and each way out of a reader is
 -- one law of Laws/Cycle.
 use mathlib.Core.Path.{sym, _∙_, subst}
+use mathlib.Core.Bool.{true}
 use mathlib.Core.List.{List}
 use Prim.Native.Nat.{ℕ, _+_, _-_, _*_, _<_}
 use native.Mathlib.Omega.{arith}
@@ -9,7 +10,8 @@ use lib.ListN.{drop, length}
 use Rattle.model.proofs.Reading.Cycle.{alts, item, seq}
 use Rattle.rule.specs.Parts.{AlternativesSay, PartSays}
 use Rattle.rule.specs.declared.Part.the-variants.{Got as aPart}
-use Rattle.rule.proofs.Laws.Cycle.{alternatives-end, alternatives-go, alternatives-stop, item-bracket, item-letter, item-on, says-sane, sequence-ends, sequence-goes, sequence-on, sequence-stops}
+use Rattle.rule.proofs.Laws.Cycle.{alternatives-end, alternatives-go, alternatives-stop, item-bracket, item-letter, item-on, sequence-ends, sequence-goes, sequence-on, sequence-stops}
+use Rattle.rule.proofs.Laws.Groups.{says-sane}
 use Rattle.kinds.proofs.Laws.Places.{inside}
 use borrow.Fn.Kinds.{In}
 use borrow.Fn.PlainCycle.{Measures, is, falls, and}
@@ -23,7 +25,7 @@ use Rattle.rule.proofs.readers.read_sequence.Reads as read-sequence
 use Rattle.rule.proofs.readers.read_sequence.Kinds as read-sequence-kinds
 use Rattle.rule.proofs.readers.+read_alternatives+read_item+read_sequence.Lts-read_sequence as read-sequence-lts
 use Rattle.kinds.proofs.byte_at.Reads as byte-at-reads
-use Rattle.rule.proofs.readers.close_item.Reads as close-item-reads
+use Rattle.rule.proofs.groups.close_item.Reads as close-item-reads
 use Rattle.rule.proofs.readers.is_over.Reads as is-over-reads
 use Rattle.rule.proofs.readers.read_piece.Reads as read-piece-reads
 use Rattle.rule.proofs.readers.several.Reads as several-reads
@@ -123,13 +125,13 @@ read-sequence-returns t c =
     let a = c .before .before .before .before .before .args in
     let r = c .before .before .read-item in
     let e = c .enum-told .given .1 in
-    subst (PartSays (a .rule .now) (a .n) (seq (drop (a .at) (a .rule .now))) (a .tokens .now) (r .last .1 .1 .0)) (sym e)
+    subst (PartSays (a .can-be-empty) (a .rule .now) (a .n) (seq (drop (a .at) (a .rule .now))) (a .tokens .now) (r .last .1 .1 .0)) (sym e)
     (sequence-stops (a .rule .now) (a .at) (rw e at (r .ensures)))
 
 -- the item that was read
 item-read : (t : ℕ) (k : read-sequence-lts.After-known-told (sequence-callees t) (read-sequence-at t) read-sequence.Post)
     → let a = k .before .before .before .before .before .before .args in let r = k .before .before .before .read-item in let g = k .before .item .given .0 in
-    PartSays (a .rule .now) (a .n) (item (drop (a .at) (a .rule .now))) (a .tokens .now) (r .last .1 .1 .0) (aPart (g .0) (g .1 .0))
+    PartSays true (a .rule .now) (a .n) (item (drop (a .at) (a .rule .now))) (a .tokens .now) (r .last .1 .1 .0) (aPart (g .0) (g .1 .0) (g .1 .1 .0))
 item-read t k = rw (k .before .item .given .1) at (k .before .before .before .read-item .ensures)
 
 read-sequence-is-over-requires : (t : ℕ) → read-sequence-lts.Need-is-over-requires (sequence-callees t) (read-sequence-at t) read-sequence.Post
@@ -139,7 +141,7 @@ read-sequence-returns-2 : (t : ℕ) → read-sequence-lts.Need-returns-2 (sequen
 read-sequence-returns-2 t c =
     let k = c .before .before in
     let a = k .before .before .before .before .before .before .args in
-    sequence-ends (a .rule .now) (a .at) (a .n) (item-read t k .1) (sym (c .before .is-over .ensures) ∙ c .if1 .taken)
+    sequence-ends (a .rule .now) (a .at) (a .n) (item-read t k .1) (a .can-be-empty) (sym (c .before .is-over .ensures) ∙ c .if1 .taken)
 
 read-sequence-read-sequence-requires : (t : ℕ) → read-sequence-lts.Need-read-sequence-requires (sequence-callees t) (read-sequence-at t) read-sequence.Post
 read-sequence-read-sequence-requires t c κs =
@@ -154,7 +156,7 @@ read-sequence-returns-3 t c =
     let k = c .before .before .before .before in
     let a = k .before .before .before .before .before .before .args in
     let r = c .read-sequence in
-    sequence-goes (a .rule .now) (a .at) (a .n) (item-read t k .1) (sym (c .before .before .before .is-over .ensures) ∙ c .before .before .if1 .left)
+    sequence-goes (a .rule .now) (a .at) (a .n) (item-read t k .1) (a .can-be-empty) (sym (c .before .before .before .is-over .ensures) ∙ c .before .before .if1 .left)
     (r .last .1 .1 .0) (r .result) (r .ensures)
 
 -- ---- alternatives
@@ -167,7 +169,7 @@ read-alternatives-enum-known-sequence t c = search needs
 -- the sequence that was read
 sequence-read : (t : ℕ) (k : read-alternatives-lts.After-known-told (alternatives-callees t) (read-alternatives-at t) read-alternatives.Post)
     → let a = k .before .before .before .before .before .before .args in let r = k .before .before .before .read-sequence in let g = k .before .sequence .given .0 in
-    PartSays (a .rule .now) (a .n) (seq (drop (a .at) (a .rule .now))) (a .tokens .now) (r .last .1 .1 .0) (aPart (g .0) (g .1 .0))
+    PartSays true (a .rule .now) (a .n) (seq (drop (a .at) (a .rule .now))) (a .tokens .now) (r .last .1 .1 .0) (aPart (g .0) (g .1 .0) (g .1 .1 .0))
 sequence-read t k = rw (k .before .sequence .given .1) at (k .before .before .before .read-sequence .ensures)
 
 read-alternatives-byte-at-requires : (t : ℕ) → read-alternatives-lts.Need-byte-at-requires (alternatives-callees t) (read-alternatives-at t) read-alternatives.Post

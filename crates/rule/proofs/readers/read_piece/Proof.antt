@@ -1,4 +1,5 @@
 -- A letter, and then its sign; the letter takes at least one byte, which allows for 999 tokens.
+use mathlib.Core.Bool.{true}
 use native.Mathlib.Omega.{arith}
 use borrow.Author.Needs.{needs}
 use Rattle.rule.specs.Parts.{afterLetter, PartSays}
@@ -26,7 +27,7 @@ returns : tie.Need-returns
 returns c =
     let a = c .before .before .before .before .before .before .before .args in
     let t = rw (c .before .before .before .letter .given .1) at (c .before .before .before .before .before .read-letter .ensures) in
-    bind-goes t afterLetter (λ m. PartSays (a .rule .now) (a .n) m (a .tokens .now) (c .read-repeated .last .1 .1 .1 .0) (c .read-repeated .result))
+    bind-goes t afterLetter (λ m. PartSays true (a .rule .now) (a .n) m (a .tokens .now) (c .read-repeated .last .1 .1 .1 .0) (c .read-repeated .result))
     (c .read-repeated .ensures)
 
 returns-2 : tie.Need-returns-2

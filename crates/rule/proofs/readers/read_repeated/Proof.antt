@@ -25,22 +25,28 @@ put-letter-requires c κs =
     let t = rw (c .before .before .sign .given .1) at (c .before .before .before .before .read-sign .ensures) in
     (omega (arith, s .pre .few, s .pre .inside, s .pre .short), sign-bounded (a .rule .now) (a .at) t)
 
+can-be-left-out-requires : tie.Need-can-be-left-out-requires
+can-be-left-out-requires c κs = search needs
+
 enum-known-sign-2 : tie.Need-enum-known-sign-2
 enum-known-sign-2 c = search needs
 
 returns : tie.Need-returns
 returns c =
-    let s = c .before .before .before .before .before .before .before in
+    let s = c .before .before .before .before .before .before .before .before in
     let a = s .args in
-    let q = signOf (c .before .before .before .sign .given .0 .0) in
-    let t = rw (c .before .before .before .sign .given .1) at (c .before .before .before .before .before .read-sign .ensures) in
+    let g = c .before .before .before .before .sign .given in
+    let q = signOf (g .0 .0) in
+    let t = rw (g .1) at (c .before .before .before .before .before .before .read-sign .ensures) in
+    let l = c .before .put-letter .ensures in
     let b = sign-bounded (a .rule .now) (a .at) t in (
       repeated (bytesOf (a .class)) q,
       record {
         took = bind-gives t (repeated (bytesOf (a .class))) refl;
-        count = c .put-letter .ensures .0;
-        written = c .put-letter .ensures .1;
-        few = omega (arith, c .put-letter .ensures .0, repeated-few (bytesOf (a .class)) q b, s .pre .few, sign-on (a .rule .now) (a .at) t (s .pre .inside));
+        count = l .0;
+        written = l .1;
+        few = omega (arith, l .0, repeated-few (bytesOf (a .class)) q b, s .pre .few, sign-on (a .rule .now) (a .at) t (s .pre .inside));
+        empties = c .can-be-left-out .ensures (bytesOf (a .class));
       },
     )
 
@@ -50,4 +56,4 @@ returns-2 c =
     bind-stops (λ q r. got (repeated (bytesOf (a .class)) q) r) (rw (c .before .sign2 .given .1) at (c .before .before .before .read-sign .ensures))
 
 pub read-repeated-spec : {M : Type 1} → statement M
-read-repeated-spec = tie.close (tie.spec read-sign-requires enum-known-sign put-letter-requires enum-known-sign-2 returns returns-2)
+read-repeated-spec = tie.close (tie.spec read-sign-requires enum-known-sign put-letter-requires can-be-left-out-requires enum-known-sign-2 returns returns-2)

@@ -11,17 +11,11 @@ enum-known-rest c = search needs
 enum-known-rest-2 : tie.Need-enum-known-rest-2
 enum-known-rest-2 c = search needs
 
-enum-known-rest-3 : tie.Need-enum-known-rest-3
-enum-known-rest-3 c = search needs
-
 returns : tie.Need-returns
-returns c = ap severalOf (sym (c .before .rest .given .1))
+returns c = ap (severalOf (c .before .before .before .args .empty)) (sym (c .before .rest .given .1))
 
 returns-2 : tie.Need-returns-2
-returns-2 c = ap severalOf (sym (c .before .rest2 .given .1))
-
-returns-3 : tie.Need-returns-3
-returns-3 c = ap severalOf (sym (c .before .rest3 .given .1))
+returns-2 c = ap (severalOf (c .before .before .before .args .empty)) (sym (c .before .rest2 .given .1))
 
 pub several-spec : {M : Type 1} → statement M
-several-spec = tie.close (tie.spec enum-known-rest enum-known-rest-2 enum-known-rest-3 returns returns-2 returns-3)
+several-spec = tie.close (tie.spec enum-known-rest enum-known-rest-2 returns returns-2)

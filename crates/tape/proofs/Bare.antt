@@ -1,10 +1,10 @@
--- A token without its class does the same: neither the scan nor lay out looks at the classes.
+-- A token without its class does the same: neither the scan nor lay out looks at the classes, nor does a union's own mark depend on them.
 use mathlib.Core.Path.{_≡_, refl, ap, ap₂, _∙_}
-use mathlib.Core.Bool.{_&&_, _||_}
+use mathlib.Core.Bool.{Bool, _&&_, _||_}
 use mathlib.Core.List.{List, [], _∷_}
 use Prim.Native.Nat.{ℕ, suc, max}
 use lib.ListN.{length}
-use Rattle.model.specs.Models.LayOut.{check, layOut, mark, reach, Scan, step, valid, Which}
+use Rattle.model.specs.Models.LayOut.{check, emptyIn, layOut, mark, own, owns, reach, Scan, step, valid, Which}
 use Rattle.model.specs.Models.Tokens.{aBar, aClose, aLetter, anOpen, Token}
 use Rattle.tape.specs.Tapes.{bare, bares}
 
@@ -26,6 +26,12 @@ bare-check anOpen q = refl
 bare-check aBar q = refl
 bare-check (aClose m) q = refl
 
+bare-own : (y : Token) (e : Bool) → own (bare y) e ≡ bare (own y e)
+bare-own (aLetter c r) e = refl
+bare-own anOpen e = refl
+bare-own aBar e = refl
+bare-own (aClose m) e = refl
+
 -- ---- so do rows of them
 pub bares-length : (l : List Token) → length (bares l) ≡ length l
 bares-length [] = refl
@@ -46,3 +52,9 @@ bares-reach (aLetter c r ∷ ys) q = bares-reach ys (step (aLetter c r) q)
 bares-reach (anOpen ∷ ys) q = ap (max (suc (length (q .stack)))) (bares-reach ys (step anOpen q))
 bares-reach (aBar ∷ ys) q = bares-reach ys (step aBar q)
 bares-reach (aClose m ∷ ys) q = bares-reach ys (step (aClose m) q)
+
+pub bares-own : (l : List Token) (q : Scan) → owns (bares l) q ≡ bares (owns l q)
+bares-own [] q = refl
+bares-own (y ∷ ys) q =
+    ap₂ (λ (x : Token) (xs : List Token). x ∷ xs) (bare-own y (emptyIn (q .canBeEmpty) (q .stack)))
+    (ap (owns (bares ys)) (bare-step y q) ∙ bares-own ys (step y q))

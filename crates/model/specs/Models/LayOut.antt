@@ -1,5 +1,5 @@
 -- LAY OUT: from a row of tokens to the places of the masks, in one scan from left to right with a frame for each open union; which rows of
--- tokens are a tree's, and how deep they go; the image laid out for a row of tokens.
+-- tokens are a tree's, and how deep they go; each union's own mark; the image laid out for a row of tokens.
 use mathlib.Core.Bool.{Bool, true, false, not, _&&_, _||_, cond}
 use mathlib.Core.List.{List, [], _∷_, _++_}
 use Prim.Native.Nat.{ℕ, zero, suc, max}
@@ -8,7 +8,7 @@ use lib.ListN.{length, getD}
 use Rattle.model.specs.Bits.{bit, mask}
 use Rattle.model.specs.Tree.{canLoop, canOmit, canSkip, Mark, optional, Repeat, unmarked}
 use Rattle.model.specs.Image.{join, section, width, words}
-use Rattle.model.specs.Models.Tokens.{aBar, aClose, aLetter, anOpen, classOf, loopClassOf, Token}
+use Rattle.model.specs.Models.Tokens.{aBar, aClose, aLetter, anOpen, classOf, kept, loopClassOf, Token}
 
 -- ---- the scan
 -- an open union: its start; whether a bar was met, and then its first alternative's end; the start of the alternative at hand; whether an
@@ -192,6 +192,23 @@ reach (aLetter c r ∷ ys) q = reach ys (step (aLetter c r) q)
 reach (anOpen ∷ ys) q = max (suc (length (q .stack))) (reach ys (step anOpen q))
 reach (aBar ∷ ys) q = reach ys (step aBar q)
 reach (aClose m ∷ ys) q = reach ys (step (aClose m) q)
+
+-- ---- each union's own mark, in place of the one that its close shows
+-- some alternative of the innermost union up to the scan can be empty
+abbrev pub emptyIn : Bool → List Frame → Bool
+emptyIn c [] = c
+emptyIn c (f ∷ st) = f .emptyBefore || c
+
+-- e says whether some alternative can be empty
+abbrev pub own : Token → Bool → Token
+own (aLetter c r) e = aLetter c r
+own anOpen e = anOpen
+own aBar e = aBar
+own (aClose m) e = aClose (kept m e)
+
+abbrev pub owns : List Token → Scan → List Token
+owns [] q = []
+owns (y ∷ ys) q = own y (emptyIn (q .canBeEmpty) (q .stack)) ∷ owns ys (step y q)
 
 -- ---- the image from its sets
 -- the W words of a set of states below m; the three masks of one depth

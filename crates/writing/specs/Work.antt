@@ -1,4 +1,5 @@
 -- WHAT THE PARTS OF READ BACK WRITE: the text of each token, and of a row of them.
+use mathlib.Core.Path.{_≡_}
 use mathlib.Core.Bool.{cond}
 use mathlib.Core.List.{List, [], _++_}
 use Prim.Native.Nat.{ℕ, zero, suc, _+_, _*_, _≤_}
@@ -9,9 +10,17 @@ use Rattle.model.specs.Bits.{mask}
 use Rattle.model.specs.Bytes.{bytes}
 use Rattle.model.specs.Image.{join}
 use Rattle.model.specs.Models.Apart.{bitOf, lettersIn}
+use Rattle.model.specs.Models.LayOut.{begin, owns}
 use Rattle.model.specs.Writing.{classWriting}
+use Rattle.tape.specs.Tapes.{tokensOf}
+use Rattle.tape.specs.declared.Tape.{Tape}
 use Rattle.writing.specs.declared.Written.{Written}
 use Rattle.writing.specs.declared.Written.the-variants.{Done, NoRoom}
+
+-- ---- the tape with each union's own mark
+pub record OwnMarks (t r : Tape) : Type 0 where
+  pub long : r .length ≡ t .length
+  pub tokens-are : tokensOf r ≡ owns (tokensOf t) begin
 
 -- ---- tokens
 -- the bytes that lead to a state
@@ -27,7 +36,7 @@ signText (suc (suc (suc k))) = bytes "+"
 abbrev pub tokenText : List ℕ → (W kind state : ℕ) → List ℕ
 tokenText ws W kind state =
     cond (ltb kind 4) (classWriting (classTo ws W state) ++ signText kind)
-    (cond (eqb kind 4) (bytes "(") (cond (eqb kind 5) (bytes "|") (bytes ")")))
+    (cond (eqb kind 4) (bytes "(") (cond (eqb kind 5) (bytes "|") (cond (eqb kind 6) (bytes ")") (bytes ")?"))))
 
 -- n tokens from `from` on
 abbrev pub rangeText : List ℕ → ℕ → List ℕ → (n from : ℕ) → List ℕ

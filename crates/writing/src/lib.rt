@@ -2,8 +2,10 @@
 // room lent, and then write it: what would lie past the room is counted and not written.
 
 mod letter;
+mod own;
 mod ranges;
 
+use crate::own::own_marks;
 use crate::ranges::write_range;
 use tape::Tape;
 use verdict::Verdict;
@@ -20,7 +22,7 @@ pub enum Written {
     Done(usize),
 }
 
-// The writing of an image whose masks have so many words, from its tape.
+// The writing of an image whose masks have so many words, from its tape with each union's own mark.
 fn write(words: &[u64], width: usize, tape: Tape, bytes: &mut [u8]) -> Written
     requires { ⌜ Lettered (now words) width × (tape .length < 64 * width) ⌝ }
     ensures answer { λ r. ⌜ r ≡ writtenIf (rangeText (now (words .entry)) width (tape .kinds) (tape .length) 0) (now (bytes .entry)) ⌝ }
@@ -45,5 +47,6 @@ pub fn read_back(words: &[u64], bytes: &mut [u8]) -> Written
     let Verdict::Image(width) = verdict else {
         return Written::NotAnImage;
     };
-    write(words, width, tape, bytes)
+    let own = own_marks(tape);
+    write(words, width, own, bytes)
 }

@@ -57,7 +57,11 @@ fn write_token(
         return at + 1;
     }
     put(out, at, b')');
-    at + 1
+    if kind == 6 {
+        return at + 1;
+    }
+    put(out, at + 1, b'?');
+    at + 2
 }
 
 // The tokens from `from` to `to` less 1. A union's alternatives are written by the same function on the inner range, which is shorter.

@@ -4,6 +4,7 @@ use mathlib.Core.Logic.{_⊎_, inl, inr}
 use mathlib.Core.List.{List, map}
 use Prim.Native.Nat.{ℕ, _*_, _≤_, _<_}
 use native.Mathlib.Omega.{arith}
+use lib.Dec.{T}
 use lib.ListN.{length, length-map}
 use Rattle.model.specs.Answers.{done, ImageOf, no-room, written}
 use Rattle.model.specs.Edges.{states}
@@ -14,12 +15,13 @@ use Rattle.model.specs.Writing.{writing}
 use Rattle.model.proofs.Image.Tokens.{length-tokens}
 use Rattle.model.proofs.Laws.Bool.{le-false, le-or-lt, le-true}
 use Rattle.model.proofs.Laws.Stores.{sets-fit}
-use Rattle.tape.specs.Tapes.{TapeOf}
+use Rattle.tape.specs.Tapes.{isTree, TapeOf}
 use Rattle.tape.specs.declared.Tape.{Tape}
+use Rattle.tape.proofs.OfTree.{is-tree}
 use Rattle.image.proofs.Laws.Written.{length-image}
 use Rattle.verdict.proofs.Laws.Found.{Found}
 use Rattle.writing.specs.Says.{WrittenSays}
-use Rattle.writing.specs.Work.{bytesAfter, Lettered, rangeText, writtenIf}
+use Rattle.writing.specs.Work.{bytesAfter, Lettered, OwnMarks, rangeText, writtenIf}
 use Rattle.writing.specs.declared.Written.{Written}
 use Rattle.writing.proofs.Laws.Plain.{all-written}
 
@@ -43,29 +45,38 @@ module _ (ws : List ℕ) (s : Tree) (I : ImageOf ws s) where
   pub lettered : Lettered ws W
   lettered = record { narrow = omega (arith, I .few); room = omega (arith, ap length (I .laid), length-image s) }
 
-  module _ (t : Tape) (A : TapeOf s t) where
-    pub within : t .length < 64 * W
-    within = omega (arith, A .long, length-tokens s)
+  -- t is the tree's tape, and u has the unions' own marks
+  module _ (t u : Tape) (A : TapeOf s t) (M : OwnMarks t u) where
+    pub within : u .length < 64 * W
+    within = omega (arith, M .long, A .long, length-tokens s)
 
-    pub says : length (t .kinds) ≡ 512 → (before after : List ℕ) (r : Written)
-        → r ≡ writtenIf (rangeText ws W (t .kinds) (t .length) 0) before → after ≡ bytesAfter (rangeText ws W (t .kinds) (t .length) 0) before
+    pub says : length (u .kinds) ≡ 512 → (before after : List ℕ) (r : Written)
+        → r ≡ writtenIf (rangeText ws W (u .kinds) (u .length) 0) before → after ≡ bytesAfter (rangeText ws W (u .kinds) (u .length) 0) before
         → WrittenSays ws before r after
     says room before after r e a =
         subst (λ (q : Written). WrittenSays ws before q after) (sym e)
-        (subst (λ (l : List ℕ). WrittenSays ws before (writtenIf (rangeText ws W (t .kinds) (t .length) 0) before) l) (sym a)
-        (of-text ws s I before (rangeText ws W (t .kinds) (t .length) 0)
-        (ap (λ (w : ℕ). rangeText ws w (t .kinds) (t .length) 0) (sym (ap widthWord (I .laid))) ∙ all-written ws s I t A room)))
+        (subst (λ (l : List ℕ). WrittenSays ws before (writtenIf (rangeText ws W (u .kinds) (u .length) 0) before) l) (sym a)
+        (of-text ws s I before (rangeText ws W (u .kinds) (u .length) 0)
+        (ap (λ (w : ℕ). rangeText ws w (u .kinds) (u .length) 0) (sym (ap widthWord (I .laid))) ∙ all-written ws s I t u A M room)))
 
--- what `write` asks, and what it answers
+-- what `own_marks` and `write` ask, and what `write` answers
 module _ {ws : List ℕ} {w : ℕ} {t : Tape} (F : Found ws w t) where
-  pub asked : Lettered ws w × (t .length < 64 * w)
-  asked = rw (F .width-is) (lettered ws (F .tree) (F .image-of), within ws (F .tree) (F .image-of) t (F .tape-of))
+  abbrev I : ImageOf ws (F .tree)
+  I = F .image-of
 
-  -- h is how a kind lies in memory
-  pub says-found : {A : Type 0} (h : ℕ → A) → length (map h (t .kinds)) ≡ 512 → (before after : List ℕ) (r : Written)
-      → r ≡ writtenIf (rangeText ws w (t .kinds) (t .length) 0) before → after ≡ bytesAfter (rangeText ws w (t .kinds) (t .length) 0) before
-      → WrittenSays ws before r after
-  says-found h room before after r e a =
-      says ws (F .tree) (F .image-of) t (F .tape-of) (sym (length-map (t .kinds) h) ∙ room) before after r
-      (e ∙ ap (λ (v : ℕ). writtenIf (rangeText ws v (t .kinds) (t .length) 0) before) (F .width-is))
-      (a ∙ ap (λ (v : ℕ). bytesAfter (rangeText ws v (t .kinds) (t .length) 0) before) (F .width-is))
+  pub found-tree : T (isTree t)
+  found-tree =
+      is-tree (F .tree) t (record { rule = I .rule; is-rule = I .is-rule; few = I .few; shallow = I .shallow; tape = F .tape-of })
+
+  module _ (u : Tape) (M : OwnMarks t u) where
+    pub asked : Lettered ws w × (u .length < 64 * w)
+    asked = rw (F .width-is) (lettered ws (F .tree) I, within ws (F .tree) I t u (F .tape-of) M)
+
+    -- h is how a kind lies in memory
+    pub says-found : {A : Type 0} (h : ℕ → A) → length (map h (u .kinds)) ≡ 512 → (before after : List ℕ) (r : Written)
+        → r ≡ writtenIf (rangeText ws w (u .kinds) (u .length) 0) before → after ≡ bytesAfter (rangeText ws w (u .kinds) (u .length) 0) before
+        → WrittenSays ws before r after
+    says-found h room before after r e a =
+        says ws (F .tree) I t u (F .tape-of) M (sym (length-map (u .kinds) h) ∙ room) before after r
+        (e ∙ ap (λ (v : ℕ). writtenIf (rangeText ws v (u .kinds) (u .length) 0) before) (F .width-is))
+        (a ∙ ap (λ (v : ℕ). bytesAfter (rangeText ws v (u .kinds) (u .length) 0) before) (F .width-is))

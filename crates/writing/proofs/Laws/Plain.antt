@@ -1,129 +1,132 @@
--- THE TOKENS OF AN IMAGE, WRITTEN ONE AFTER ANOTHER, ARE THE TREE'S PLAIN WRITING: a token of the tape tells all but the class, and the class is read off
--- the letters' masks, from which the tree's own token has it.
+-- THE TOKENS OF AN IMAGE, WRITTEN ONE AFTER ANOTHER WITH THEIR UNIONS' OWN MARKS, ARE THE TREE'S PLAIN WRITING: a token of the tape tells all but the
+-- class, and the class is read off the letters' masks, from which the tree's own token has it.
 use mathlib.Core.Path.{_≡_, refl, sym, ap, ap₂, _∙_, subst}
-use mathlib.Core.Bool.{Bool, true, false, not, _&&_, cond}
-use mathlib.Core.List.{List, [], _∷_, _++_, append-nil}
+use mathlib.Core.Bool.{Bool, true, false}
+use mathlib.Core.List.{List, [], _∷_, _++_}
 use Prim.Native.Nat.{ℕ, zero, suc, _+_, _≤_, _<_}
 use native.Mathlib.Nat.{le-of-suc-le-suc, not-suc-le-zero}
 use native.Mathlib.Omega.{arith}
-use lib.Dec.{eqb, ltb}
 use lib.ListN.{getD, length, take}
 use lib.Seq.{getD-take, length-take-le}
 use Rattle.model.specs.Answers.{ImageOf}
-use Rattle.model.specs.Bytes.{bytes}
 use Rattle.model.specs.Image.{join}
-use Rattle.model.specs.Models.Apart.{anyBelow, bitOf, bitOfThree, depthWord, gatherIn, lettersIn, propagateIn, repeatsIn, scatterIn, stateWord, tape, tokenAt, tokenOf as tokenShown, widthWord}
+use Rattle.model.specs.Models.Apart.{anyBelow, bitOf, lettersIn, stateWord, tape, tokenAt, tokenOf as tokenShown, widthWord}
+use Rattle.model.specs.Models.LayOut.{begin, emptyIn, own, owns, Scan, step}
 use Rattle.model.specs.Models.Tokens.{aBar, aClose, aLetter, anOpen, Token, tokens}
 use Rattle.model.specs.Tree.{Tree}
-use Rattle.model.specs.Writing.{classWriting, repeatWriting, writing}
+use Rattle.model.specs.Writing.{writing}
 use Rattle.model.proofs.Image.Compare.{getD-between}
 use Rattle.model.proofs.Image.Decided.{tape-of}
 use Rattle.model.proofs.Image.Tokens.{length-tokens}
-use Rattle.model.proofs.Image.TokenWriting.{seq-written-out, tokensWriting, tokenWriting}
-use Rattle.model.proofs.Image.WellFormed.{well-fine}
-use Rattle.model.proofs.Laws.Bool.{le-false, unequal}
-use Rattle.model.proofs.Reading.WellFormed.{rule-well}
+use Rattle.model.proofs.Image.TokenWriting.{length-owns, tokens-writing, tokensWriting, tokenWriting}
+use Rattle.model.proofs.Image.WellFormed.{well-fine, well-formed}
+use Rattle.model.proofs.Reading.WellFormed.{rule-well, WellFormed}
 use Rattle.tape.specs.Tapes.{bare, bares, readKinds, TapeOf}
 use Rattle.scan.specs.Tokens.{readKind, tokenOf}
 use Rattle.tape.specs.declared.Tape.{Tape}
-use Rattle.writing.specs.Work.{classTo, rangeText, signText, tokenText}
+use Rattle.tape.proofs.Bare.{bares-own}
+use Rattle.writing.specs.Work.{classTo, OwnMarks, rangeText, tokenText}
+use Rattle.writing.proofs.Laws.Tokens.{optional-text}
 
--- ---- the text of a token, by what the tape tells and the class c
-abbrev text : Token → ℕ → List ℕ
-text (aLetter b r) c = classWriting c ++ repeatWriting r
-text anOpen c = bytes "("
-text aBar c = bytes "|"
-text aClose c = bytes ")"
+-- ---- a token of the tape, with the class c
+abbrev classed : ℕ → Token → Token
+classed c (aLetter b r) = aLetter c r
+classed c anOpen = anOpen
+classed c aBar = aBar
+classed c (aClose m) = aClose m
 
-past-kinds : (n : ℕ) → 6 ≤ n → (a b c d : List ℕ) → cond (ltb n 4) a (cond (eqb n 4) b (cond (eqb n 5) c d)) ≡ d
-past-kinds n h a b c d =
-    ap (λ (z : Bool). cond z a (cond (eqb n 4) b (cond (eqb n 5) c d))) (le-false (suc n) 4 (omega arith))
-    ∙ ap (λ (z : Bool). cond z b (cond (eqb n 5) c d)) (unequal n 4 (λ e. omega (arith, e)))
-    ∙ ap (λ (z : Bool). cond z c d) (unequal n 5 (λ e. omega (arith, e)))
-
-by-kind : (ws : List ℕ) (W k state : ℕ) → tokenText ws W k state ≡ text (tokenOf (readKind k)) (classTo ws W state)
+by-kind : (ws : List ℕ) (W k state : ℕ) → tokenText ws W k state ≡ tokenWriting (classed (classTo ws W state) (tokenOf (readKind k)))
 by-kind ws W zero state = refl
 by-kind ws W (suc zero) state = refl
 by-kind ws W (suc (suc zero)) state = refl
 by-kind ws W (suc (suc (suc zero))) state = refl
 by-kind ws W (suc (suc (suc (suc zero)))) state = refl
 by-kind ws W (suc (suc (suc (suc (suc zero))))) state = refl
-by-kind ws W (suc (suc (suc (suc (suc (suc k)))))) state =
-    past-kinds (suc (suc (suc (suc (suc (suc k)))))) (omega arith) (classWriting (classTo ws W state) ++ signText (suc (suc (suc (suc (suc (suc k))))))) (bytes "(")
-    (bytes "|") (bytes ")")
+by-kind ws W (suc (suc (suc (suc (suc (suc zero)))))) state = refl
+by-kind ws W (suc (suc (suc (suc (suc (suc (suc k))))))) state = optional-text ws W (suc (suc (suc (suc (suc (suc (suc k))))))) state (omega arith)
 
--- a token that the masks show has the class that they show
-by-masks : (isLetter : Bool) (c : ℕ) (skips loops closes opens : Bool)
-    → text (bare (tokenShown isLetter c skips loops closes opens)) c ≡ tokenWriting (tokenShown isLetter c skips loops closes opens)
-by-masks true c s l k o = refl
-by-masks false c s l true o = refl
-by-masks false c s l false true = refl
-by-masks false c s l false false = refl
+-- a token that the masks show has the class that they show, also with its union's own mark
+by-masks : (isLetter : Bool) (c : ℕ) (skips loops closes opens e : Bool)
+    → classed c (bare (own (tokenShown isLetter c skips loops closes opens) e)) ≡ own (tokenShown isLetter c skips loops closes opens) e
+by-masks true c s l k o e = refl
+by-masks false c s l true o e = refl
+by-masks false c s l false true e = refl
+by-masks false c s l false false e = refl
 
 -- ---- rows of them
-getD-kinds : (ks : List ℕ) (i : ℕ) → i < length ks → getD (readKinds ks) i aClose ≡ tokenOf (readKind (getD ks i 0))
+getD-kinds : (ks : List ℕ) (i : ℕ) → i < length ks → getD (readKinds ks) i aBar ≡ tokenOf (readKind (getD ks i 0))
 getD-kinds [] i h = absurd (not-suc-le-zero h)
 getD-kinds (k ∷ ks) zero h = refl
 getD-kinds (k ∷ ks) (suc i) h = getD-kinds ks i (le-of-suc-le-suc h)
 
-getD-bares : (l : List Token) (i : ℕ) → getD (bares l) i aClose ≡ bare (getD l i aClose)
+getD-bares : (l : List Token) (i : ℕ) → getD (bares l) i aBar ≡ bare (getD l i aBar)
 getD-bares [] i = refl
 getD-bares (y ∷ ys) zero = refl
 getD-bares (y ∷ ys) (suc i) = getD-bares ys i
 
-written-by : (l : List Token) (a : ℕ) (f : ℕ → List ℕ) → ((i : ℕ) → i < length l → f (a + i) ≡ tokenWriting (getD l i aClose))
+-- the token at a place, with its union's own mark
+getD-owns : (l : List Token) (q : Scan) (i : ℕ) → (e : Bool) × (getD (owns l q) i aBar ≡ own (getD l i aBar) e)
+getD-owns [] q i = (true, refl)
+getD-owns (y ∷ ys) q zero = (emptyIn (q .canBeEmpty) (q .stack), refl)
+getD-owns (y ∷ ys) q (suc i) = getD-owns ys (step y q) i
+
+written-by : (l : List Token) (a : ℕ) (f : ℕ → List ℕ) → ((i : ℕ) → i < length l → f (a + i) ≡ tokenWriting (getD l i aBar))
     → join (length l) a f ≡ tokensWriting l
 written-by [] a f h = refl
 written-by (y ∷ ys) a f h =
     ap₂ _++_ (let e : a ≡ a + 0 = omega arith in ap f e ∙ h 0 (omega arith))
     (written-by ys (suc a) f (λ i k. (let e : suc a + i ≡ a + suc i = omega arith in ap f e) ∙ h (suc i) (omega arith)))
 
--- ---- THE WHOLE
-module _ (ws : List ℕ) (s : Tree) (I : ImageOf ws s) (t : Tape) (A : TapeOf s t) (room : length (t .kinds) ≡ 512) where
+-- ---- THE WHOLE: t is the tree's tape, and u has the unions' own marks
+module _ (ws : List ℕ) (s : Tree) (I : ImageOf ws s) (t u : Tape) (A : TapeOf s t) (M : OwnMarks t u) (room : length (u .kinds) ≡ 512) where
   abbrev l : List Token
   l = tokens s []
+
+  abbrev o : List Token
+  o = owns l begin
 
   abbrev W : ℕ
   W = widthWord ws
 
-  abbrev d : ℕ
-  d = depthWord ws
+  well : WellFormed s
+  well = rule-well (I .is-rule)
 
   taken : tape ws ≡ l
-  taken = ap tape (I .laid) ∙ tape-of s (well-fine s (rule-well (I .is-rule)))
-
-  few : length l ≤ 511
-  few = omega (arith, length-tokens s, I .few)
+  taken = ap tape (I .laid) ∙ tape-of s (well-fine s well)
 
   size : stateWord ws ≡ suc (length l)
   size = ap stateWord (I .laid) ∙ ap suc (sym (length-tokens s))
 
-  kind-of : (i : ℕ) → i < length l → tokenOf (readKind (getD (t .kinds) i 0)) ≡ bare (getD l i aClose)
+  long : u .length ≡ length o
+  long = M .long ∙ A .long ∙ sym (length-owns l begin)
+
+  few : length o ≤ 511
+  few = omega (arith, length-owns l begin, length-tokens s, I .few)
+
+  kind-of : (i : ℕ) → i < length o → tokenOf (readKind (getD (u .kinds) i 0)) ≡ bare (getD o i aBar)
   kind-of i h =
-      let k : i < t .length = omega (arith, A .long) in
-      ap (λ (n : ℕ). tokenOf (readKind n)) (sym (getD-take (t .length) (t .kinds) i 0 k))
-      ∙ sym (getD-kinds (take (t .length) (t .kinds)) i (omega (arith, length-take-le (t .length) (t .kinds) (omega (arith, A .long, few, room)))))
-      ∙ ap (λ (y : List Token). getD y i aClose) (A .tokens-are)
-      ∙ getD-bares l i
+      let k : i < u .length = omega (arith, long) in
+      ap (λ (n : ℕ). tokenOf (readKind n)) (sym (getD-take (u .length) (u .kinds) i 0 k))
+      ∙ sym (getD-kinds (take (u .length) (u .kinds)) i (omega (arith, length-take-le (u .length) (u .kinds) (omega (arith, long, few, room)))))
+      ∙ ap (λ (y : List Token). getD y i aBar) (M .tokens-are ∙ ap (λ (y : List Token). owns y begin) (A .tokens-are) ∙ bares-own l begin)
+      ∙ getD-bares o i
 
-  token-of : (i : ℕ) → i < length l → getD l i aClose ≡ tokenAt ws i
+  token-of : (i : ℕ) → i < length o → getD l i aBar ≡ tokenAt ws i
   token-of i h =
-      ap (λ (y : List Token). getD y i aClose) (sym taken) ∙ getD-between (stateWord ws) i (tokenAt ws) (omega (arith, size))
+      ap (λ (y : List Token). getD y i aBar) (sym taken) ∙ getD-between (stateWord ws) i (tokenAt ws) (omega (arith, size, length-owns l begin))
 
-  each-token : (i : ℕ) → i < length l → tokenText ws W (getD (t .kinds) i 0) (suc i) ≡ tokenWriting (getD l i aClose)
+  each-token : (i : ℕ) → i < length o → tokenText ws W (getD (u .kinds) i 0) (suc i) ≡ tokenWriting (getD o i aBar)
   each-token i h =
-      by-kind ws W (getD (t .kinds) i 0) (suc i)
-      ∙ ap (λ (y : Token). text y (classTo ws W (suc i))) (kind-of i h ∙ ap bare (token-of i h))
-      ∙ by-masks (anyBelow 256 (λ b. bitOf W (lettersIn ws) b (suc i))) (classTo ws W (suc i))
-      (anyBelow (suc d) (λ k. bitOfThree W (propagateIn ws) 0 k (suc i) && not (bitOfThree W (propagateIn ws) 1 k (suc i))))
-      (anyBelow 256 (λ b. bitOf W (repeatsIn ws) b (suc i))) (anyBelow d (λ k. bitOfThree W (gatherIn ws) 2 k (suc i)))
-      (anyBelow d (λ k. bitOfThree W (scatterIn ws) 1 k i))
-      ∙ ap tokenWriting (sym (token-of i h))
+      let c = classTo ws W (suc i) in
+      let n = getD-owns l begin i in
+      let e = n .1 ∙ ap (λ (y : Token). own y (n .0)) (token-of i h) in
+      by-kind ws W (getD (u .kinds) i 0) (suc i)
+      ∙ ap tokenWriting
+      (ap (classed c) (kind-of i h ∙ ap bare e) ∙ by-masks (anyBelow 256 (λ b. bitOf W (lettersIn ws) b (suc i))) c _ _ _ _ (n .0) ∙ sym e)
 
-  pub all-written : rangeText ws W (t .kinds) (t .length) 0 ≡ writing s
+  pub all-written : rangeText ws W (u .kinds) (u .length) 0 ≡ writing s
   all-written =
-      ap (λ (n : ℕ). rangeText ws W (t .kinds) n 0) (A .long)
-      ∙ written-by l 0 (λ i. tokenText ws W (getD (t .kinds) i 0) (suc i))
-      (λ i h. let e : 0 + i ≡ i = omega arith in subst (λ (j : ℕ). tokenText ws W (getD (t .kinds) j 0) (suc j) ≡ tokenWriting (getD l i aClose)) (sym e) (each-token i h))
-      ∙ seq-written-out s []
-      ∙ append-nil (writing s)
+      ap (λ (n : ℕ). rangeText ws W (u .kinds) n 0) long
+      ∙ written-by o 0 (λ i. tokenText ws W (getD (u .kinds) i 0) (suc i))
+      (λ i h. let e : 0 + i ≡ i = omega arith in subst (λ (j : ℕ). tokenText ws W (getD (u .kinds) j 0) (suc j) ≡ tokenWriting (getD o i aBar)) (sym e) (each-token i h))
+      ∙ tokens-writing s (well-formed s .0 well .1)

@@ -27,7 +27,7 @@ sign-short (suc (suc (suc k))) = omega arith
 -- ---- the choice, whatever a letter's text is
 module _ (kind : ℕ) (letter : List ℕ) where
   abbrev chosen : List ℕ
-  chosen = cond (ltb kind 4) letter (cond (eqb kind 4) (40 ∷ []) (cond (eqb kind 5) (124 ∷ []) (41 ∷ [])))
+  chosen = cond (ltb kind 4) letter (cond (eqb kind 4) (40 ∷ []) (cond (eqb kind 5) (124 ∷ []) (cond (eqb kind 6) (41 ∷ []) (41 ∷ 63 ∷ []))))
 
   chosen-letter : kind < 4 → chosen ≡ letter
   chosen-letter h = rw (le-true (suc kind) 4 h)
@@ -38,14 +38,19 @@ module _ (kind : ℕ) (letter : List ℕ) where
   chosen-bar : kind ≡ 5 → chosen ≡ 124 ∷ []
   chosen-bar e = rw e
 
-  chosen-close : 4 ≤ kind → (kind ≡ 4 → ⊥) → (kind ≡ 5 → ⊥) → chosen ≡ 41 ∷ []
-  chosen-close h o b = rw (le-false (suc kind) 4 (omega arith), unequal kind 4 o, unequal kind 5 b)
+  chosen-close : kind ≡ 6 → chosen ≡ 41 ∷ []
+  chosen-close e = rw e
+
+  chosen-optional : 6 < kind → chosen ≡ 41 ∷ 63 ∷ []
+  chosen-optional h =
+      rw (le-false (suc kind) 4 (omega arith), unequal kind 4 (λ e. omega arith), unequal kind 5 (λ e. omega arith), unequal kind 6 (λ e. omega arith))
 
   chosen-short : length letter ≤ 4096 → length chosen ≤ 4096
   chosen-short h =
       cond-cases (λ t. length t ≤ 4096) (ltb kind 4) (λ _. h) (λ _.
       cond-cases (λ t. length t ≤ 4096) (eqb kind 4) (λ _. omega arith) (λ _.
-      cond-cases (λ t. length t ≤ 4096) (eqb kind 5) (λ _. omega arith) (λ _. omega arith)))
+      cond-cases (λ t. length t ≤ 4096) (eqb kind 5) (λ _. omega arith) (λ _.
+      cond-cases (λ t. length t ≤ 4096) (eqb kind 6) (λ _. omega arith) (λ _. omega arith))))
 
 module _ (ws : List ℕ) (W kind state : ℕ) where
   abbrev letterText : List ℕ
@@ -60,8 +65,11 @@ module _ (ws : List ℕ) (W kind state : ℕ) where
   pub bar-text : kind ≡ 5 → tokenText ws W kind state ≡ 124 ∷ []
   bar-text = chosen-bar kind letterText
 
-  pub close-text : 4 ≤ kind → (kind ≡ 4 → ⊥) → (kind ≡ 5 → ⊥) → tokenText ws W kind state ≡ 41 ∷ []
+  pub close-text : kind ≡ 6 → tokenText ws W kind state ≡ 41 ∷ []
   close-text = chosen-close kind letterText
+
+  pub optional-text : 6 < kind → tokenText ws W kind state ≡ 41 ∷ 63 ∷ []
+  optional-text = chosen-optional kind letterText
 
   pub token-short : length (tokenText ws W kind state) ≤ 4096
   token-short =

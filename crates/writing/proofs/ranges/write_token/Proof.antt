@@ -1,8 +1,11 @@
--- By the kind: a letter, or the one byte of a bar or a close.
-use mathlib.Core.Path.{sym}
+-- By the kind: a letter, the one byte of a bar or a close, or the two of a close that has kept its `?`.
+use mathlib.Core.Path.{sym, _∙_}
+use mathlib.Core.List.{[], _∷_}
+use Prim.Native.Nat.{_+_, _<_}
+use native.Mathlib.Omega.{arith}
 use borrow.Author.Needs.{needs}
-use Rattle.plain.proofs.Laws.Texts.{writes-as, writes-one}
-use Rattle.writing.proofs.Laws.Tokens.{bar-text, close-text, letter-text}
+use Rattle.plain.proofs.Laws.Texts.{writes-as, writes-next, writes-one}
+use Rattle.writing.proofs.Laws.Tokens.{bar-text, close-text, letter-text, optional-text}
 use Rattle.writing.proofs.ranges.write_token.Statement.{statement}
 use Rattle.writing.proofs.ranges.write_token.Tie as tie
 
@@ -40,15 +43,35 @@ add-result-2 : tie.Need-add-result-2
 add-result-2 c = search needs
 
 same-length-3 : tie.Need-same-length-3
-same-length-3 c = c .before .out3 .given
+same-length-3 c = c .before .before .out3 .given
 
 returns-3 : tie.Need-returns-3
 returns-3 c =
-    let tests = c .before .before .before .before in
+    let a = c .before .before .before .before .before .before .before .before .before .args in
+    let e = close-text (a .words .now) (a .width) (a .kind) (a .state) (c .if3 .taken) in
+    writes-as (a .out .now) (a .at) (sym e) (writes-one (a .out .now) (a .at) 41 (c .before .before .before .put2 .ensures))
+
+add-put : tie.Need-add-put
+add-put c = search needs
+
+put-requires-3 : tie.Need-put-requires-3
+put-requires-3 c κs = search needs
+
+add-result-3 : tie.Need-add-result-3
+add-result-3 c = search needs
+
+same-length-4 : tie.Need-same-length-4
+same-length-4 c = c .before .out4 .given ∙ c .before .before .before .before .before .before .out3 .given
+
+returns-4 : tie.Need-returns-4
+returns-4 c =
+    let closed = c .before .before .before .before .before .before .before in
+    let tests = closed .before .before in
     let s = tests .before .before .before .before in
     let a = s .args in
-    let e = close-text (a .words .now) (a .width) (a .kind) (a .state) (tests .before .if1 .left) (s .pre .2) (tests .if2 .left) in
-    writes-as (a .out .now) (a .at) (sym e) (writes-one (a .out .now) (a .at) 41 (c .before .before .put2 .ensures))
+    let h : 6 < a .kind = omega (arith, tests .before .if1 .left, s .pre .2, tests .if2 .left, c .before .before .before .before .if3 .left) in
+    writes-as (a .out .now) (a .at) (sym (optional-text (a .words .now) (a .width) (a .kind) (a .state) h))
+    (writes-next (a .out .now) (a .at) (41 ∷ []) 63 (a .at + 2) (writes-one (a .out .now) (a .at) 41 (closed .put2 .ensures)) (c .before .before .put3 .ensures) (omega arith))
 
 pub write-token-spec : {M : Type 1} → statement M
 write-token-spec =
@@ -64,4 +87,9 @@ write-token-spec =
     put-requires-2
     add-result-2
     same-length-3
-    returns-3)
+    returns-3
+    add-put
+    put-requires-3
+    add-result-3
+    same-length-4
+    returns-4)

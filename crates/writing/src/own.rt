@@ -1,0 +1,51 @@
+// Each union's own mark: a close shows whether an edge leads over its union, and that edge is a `?` only where no alternative can be empty
+// (document 02, wish 3: "a `?` on a group that can already be empty is dropped before the tree is made").
+use scan::begin_scan;
+use scan::innermost;
+use scan::no_frame;
+use scan::step_over;
+use scan::token::read_kind;
+use tape::Tape;
+ghost use mathlib.Core.Path.{_≡_};
+ghost use lib.Dec.{T};
+ghost use Rattle.model.specs.Models.LayOut.{own};
+ghost use Rattle.scan.specs.Tokens.{readKind, tokenOf};
+ghost use Rattle.tape.specs.Tapes.{isTree};
+ghost use Rattle.writing.specs.Work.{OwnMarks};
+
+// The kind of a token with its union's own mark, where `empty` says whether an alternative can be empty.
+fn own_kind(kind: u8, empty: bool) -> u8
+    ensures { λ r. ⌜ tokenOf (readKind r) ≡ own (tokenOf (readKind kind)) empty ⌝ }
+{
+    if (kind > 6) & empty { 6 } else { kind }
+}
+
+// The tape of a tree, each close with its union's own mark: one scan knows at each close whether an alternative can be empty.
+pub fn own_marks(tape: Tape) -> Tape
+    requires { ⌜ T (isTree tape) ⌝ }
+    ensures { λ r. ⌜ OwnMarks tape r ⌝ }
+{
+    let shown = tape.kinds;
+    let length = tape.length;
+    let mut kinds = [0u8; 512];
+    let none = no_frame();
+    let mut frames = [none; 9];
+    let mut scan = begin_scan();
+    let mut i: usize = 0;
+    while i < length {
+        let kind = shown[i];
+        let top = innermost(scan.depth);
+        let frame = frames[top];
+        let own = own_kind(kind, frame.empty_before | scan.can_be_empty);
+        kinds[i] = own;
+        let token = read_kind(kind);
+        let next = step_over(scan, frame, token);
+        let stored = next.frame;
+        let place = next.place;
+        frames[place] = stored;
+        let after = next.scan;
+        scan = after;
+        i += 1;
+    }
+    Tape { kinds, length }
+}

@@ -4,14 +4,16 @@ use mathlib.Core.List.{List, [], _∷_}
 use Prim.Native.Nat.{ℕ, _*_, _/_, _%_, _^_, _≤_, _<_}
 use native.Mathlib.Omega.{arith}
 use lib.ListN.{length, length-append}
-use Rattle.model.specs.Answers.{Answer, no-room, not-an-image, ReadBackSays, written}
-use Rattle.model.specs.Edges.{states}
+use Rattle.model.specs.Answers.{Answer, ImageOf, no-room, not-an-image, ReadBackSays, written}
+use Rattle.model.specs.Models.LayOut.{begin, owns}
 use Rattle.model.specs.Models.Tokens.{aBar, aClose, aLetter, anOpen, Token, tokens}
-use Rattle.model.specs.Tree.{once, option, plus, Repeat, star, Tree}
+use Rattle.model.specs.Tree.{once, option, optional, plus, Repeat, star, Tree, unmarked}
 use Rattle.model.specs.Writing.{classWriting, repeatWriting, writing}
 use Rattle.model.proofs.Answers.ReadBack.{read-back-one}
 use Rattle.model.proofs.Image.Tokens.{length-tokens}
-use Rattle.model.proofs.Image.TokenWriting.{tokens-writing, tokensWriting, tokenWriting}
+use Rattle.model.proofs.Image.TokenWriting.{length-owns, tokens-writing, tokensWriting, tokenWriting}
+use Rattle.model.proofs.Image.WellFormed.{well-formed}
+use Rattle.model.proofs.Reading.WellFormed.{rule-well}
 use Rattle.plain.proofs.Laws.Bounds.{class-short}
 use Rattle.writing.specs.Says.{writtenAnswer}
 use Rattle.writing.specs.declared.Written.{Written}
@@ -29,20 +31,24 @@ token-short : (x : Token) → length (tokenWriting x) ≤ 2307
 token-short (aLetter c r) = omega (arith, length-append (classWriting c) (repeatWriting r), class-short c, sign-short r)
 token-short anOpen = omega arith
 token-short aBar = omega arith
-token-short aClose = omega arith
+token-short (aClose unmarked) = omega arith
+token-short (aClose optional) = omega arith
 
 tokens-short : (xs : List Token) → length (tokensWriting xs) ≤ 2307 * length xs
 tokens-short [] = omega arith
 tokens-short (x ∷ xs) = omega (arith, length-append (tokenWriting x) (tokensWriting xs), token-short x, tokens-short xs)
 
-pub writing-small : (t : Tree) → states t ≤ 512 → length (writing t) ≤ 1178877
-writing-small t m = omega (arith, ap (λ (w : List ℕ). length w) (tokens-writing t), tokens-short (tokens t []), length-tokens t)
+pub writing-small : {words : List ℕ} (t : Tree) → ImageOf words t → length (writing t) ≤ 1178877
+writing-small t i =
+    let own = owns (tokens t []) begin in
+    let e : tokensWriting own ≡ writing t = tokens-writing t (well-formed t .0 (rule-well (i .is-rule)) .1) in
+    omega (arith, ap (λ (w : List ℕ). length w) e, tokens-short own, length-owns (tokens t []) begin, length-tokens t, i .few)
 
 module _ {words before : List ℕ} where
   pub count-small : {a : Answer} → ReadBackSays words before a → a .count ≤ 1178877
   count-small (not-an-image n e) = omega (arith, ap (λ (a : Answer). a .count) e)
   count-small (no-room t i l e) = omega (arith, ap (λ (a : Answer). a .count) e)
-  count-small (written t i l e) = omega (arith, ap (λ (a : Answer). a .count) e, writing-small t (i .few))
+  count-small (written t i l e) = omega (arith, ap (λ (a : Answer). a .count) e, writing-small t i)
 
   -- WHAT A CALLER TAKES FROM THE NUMBER GIVEN is the table's number and count; and there is one number to be given
   module _ {r : ℕ} {after : List ℕ} (G : Gives (ReadBackSays words before) r after) where

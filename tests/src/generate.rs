@@ -29,7 +29,7 @@ impl Random {
         low + self.below(high - low + 1)
     }
 
-    fn one_in(&mut self, n: usize) -> bool {
+    pub fn one_in(&mut self, n: usize) -> bool {
         self.below(n) == 0
     }
 

@@ -1,4 +1,4 @@
-//! Reading the outside vectors (their format is in vectors/README.md); document 01 once more, independently; calls of the library for C, and rules
+//! Reading the outside vectors (their format is in vectors/README.md); the documents once more, independently; calls of the library for C, and rules
 //! and texts for it.
 
 pub mod driver;
@@ -14,17 +14,47 @@ use std::path::Path;
 /// A list of words as runs of equal words: (how many, which).
 pub type Runs = Vec<(usize, u64)>;
 
-/// The lines of one kind of vectors, each as its fields after the kind; `since` is `base`, or the wish that brought them.
-pub fn vectors(folder: &Path, since: &str, kind: &str) -> Vec<Vec<String>> {
-    let path = folder.join(since).join(format!("{kind}.txt"));
-    let text = fs::read_to_string(&path).unwrap_or_else(|e| panic!("{}: {e}", path.display()));
-    text.lines()
-        .map(|line| {
-            let mut fields = line.split(' ').map(str::to_string);
-            assert_eq!(fields.next().as_deref(), Some(kind), "{}: {line}", path.display());
-            fields.collect()
-        })
-        .collect()
+/// The kinds of vectors in each folder, and the folders in the order in which their wishes landed.
+const KINDS: [(&str, &[&str]); 4] = [
+    ("base", &["build", "readback", "match", "desk"]),
+    ("wish-01", &["watch"]),
+    ("wish-09", &["check", "propose"]),
+    ("wish-03", &["build", "readback", "match", "desk", "watch", "check", "propose"]),
+];
+
+/// One vector: where it stands, and its fields after the kind.
+pub type Vector = (String, Vec<String>);
+
+fn read(path: &Path) -> String {
+    fs::read_to_string(path).unwrap_or_else(|e| panic!("{}: {e}", path.display()))
+}
+
+/// The vectors of one kind in all folders, those that a later wish answers otherwise with that answer.
+pub fn vectors(folder: &Path, kind: &str) -> Vec<Vector> {
+    let mut all: Vec<Vector> = Vec::new();
+    for (since, _) in KINDS.iter().filter(|(_, kinds)| kinds.contains(&kind)) {
+        let file = format!("{since}/{kind}.txt");
+        all.extend((1..).zip(read(&folder.join(&file)).lines()).map(|(n, line)| {
+            let fields = line.strip_prefix(kind).and_then(|rest| rest.strip_prefix(' ')).unwrap_or_else(|| panic!("{file} {n}: {line}"));
+            (format!("{file} {n}"), fields.split(' ').map(str::to_string).collect())
+        }));
+    }
+    for (line, fields) in amended(folder).into_iter().filter(|(_, fields)| fields[0] == kind) {
+        let (_, old) = all.iter_mut().find(|(place, _)| *place == line).unwrap_or_else(|| panic!("amended: no {line}"));
+        assert!(old[..2] == fields[1..3] && old[2..] != fields[3..], "amended: {line} is another call, or has this answer");
+        *old = fields[1..].to_vec();
+    }
+    all
+}
+
+/// The vectors that a later wish answers otherwise, as amended.txt gives them: where each stands, and its line of now, the kind included.
+pub fn amended(folder: &Path) -> Vec<Vector> {
+    let text = read(&folder.join("amended.txt"));
+    let of = |line: &str| {
+        let fields: Vec<String> = line.split(' ').map(str::to_string).collect();
+        (fields[..2].join(" "), fields[2..].to_vec())
+    };
+    text.lines().filter(|line| !line.starts_with('#')).map(of).collect()
 }
 
 /// Bytes in hex, `-` for none; `HEX*N` is N bytes, these over and over.

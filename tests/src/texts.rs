@@ -3,7 +3,7 @@
 use crate::generate::{any_byte, Random};
 use crate::independent::{Item, Repeat};
 
-/// One way to spell a tree, each letter repeated at most three times.
+/// One way to spell a tree, each letter repeated at most three times, an optional union left out one time in three.
 pub fn spelled(r: &mut Random, sequence: &[Item], out: &mut Vec<u8>) {
     for item in sequence {
         match item {
@@ -19,7 +19,8 @@ pub fn spelled(r: &mut Random, sequence: &[Item], out: &mut Vec<u8>) {
                     out.push(*r.pick(&bytes));
                 }
             }
-            Item::Union(alternatives) => {
+            Item::Union(mark, _) if mark.skips() && r.one_in(3) => {}
+            Item::Union(_, alternatives) => {
                 let chosen = r.pick(alternatives);
                 spelled(r, chosen, out);
             }

@@ -1,7 +1,7 @@
 //! The outside vectors of the watch: a line is an image, a begin and steps.
 
 use crate::independent::Watch;
-use crate::{bytes, expand, places, runs, vectors, Runs};
+use crate::{bytes, expand, places, runs, vectors, Runs, Vector};
 use std::path::Path;
 
 /// A begin, which has no stretch, or a step: what it is given and lent, and the answer.
@@ -20,17 +20,17 @@ pub fn lent(words: usize, before: &dyn Fn(usize) -> u64) -> Watch {
     Watch { mask: (0..words).map(before).collect(), place: before(words) }
 }
 
-/// Each line's image and calls. A vector does not say what the words hold that are lent to a begin; `before` does.
-pub fn watches(folder: &Path, before: &dyn Fn(usize) -> u64) -> Vec<(Runs, Vec<WatchCall>)> {
-    let of = |line: Vec<String>| {
+/// Where each line stands, its image and its calls. A vector does not say what the words hold that are lent to a begin; `before` does.
+pub fn watches(folder: &Path, before: &dyn Fn(usize) -> u64) -> Vec<(String, Runs, Vec<WatchCall>)> {
+    let of = |(place, line): Vector| {
         let (begin, steps) = line[1..].split_at(7);
         assert_eq!(steps.len(), 9 * number(&begin[6]) as usize, "STEPS");
         let lent = lent(number(&begin[0]) as usize, before);
-        let place = if begin[5] == "-" { lent.place } else { 0 };
-        let calls = std::iter::once(call(lent, None, &begin[1..6], place)).chain(steps.chunks(9).map(step));
-        (runs(&line[0]), calls.collect())
+        let after = if begin[5] == "-" { lent.place } else { 0 };
+        let calls = std::iter::once(call(lent, None, &begin[1..6], after)).chain(steps.chunks(9).map(step));
+        (place, runs(&line[0]), calls.collect())
     };
-    vectors(folder, "wish-01", "watch").into_iter().map(of).collect()
+    vectors(folder, "watch").into_iter().map(of).collect()
 }
 
 fn step(fields: &[String]) -> WatchCall {

@@ -145,7 +145,7 @@ impl Theorems {
 fn answers(folder: &Path) -> Theorems {
     let mut t = Theorems::of(ANSWERS);
     let answer = |number: &str, count: &str, after: &Runs| format!("{number} {count} {}", list(after));
-    for v in vectors(folder, "base", "build") {
+    for (_, v) in vectors(folder, "build") {
         let (rule, room, number) = (bytes(&v[0]), v[1].parse::<usize>().unwrap(), v[2].as_str());
         let image = runs(&v[4]);
         // a refusal for room (5) needs the image's length, and so its masks; the vector does not say how many states it has
@@ -156,7 +156,7 @@ fn answers(folder: &Path) -> Theorems {
         let call = format!("buildAnswer {} {}", numbers(rule.iter().map(|b| u64::from(*b))), before(room));
         t.add(call, answer(number, &v[3], &lent(image, room)));
     }
-    for v in vectors(folder, "base", "readback") {
+    for (_, v) in vectors(folder, "readback") {
         let (image, room) = (runs(&v[0]), v[1].parse::<usize>().unwrap());
         if word(&image, 1) > IMAGE_STATES {
             t.left_out += 1;
@@ -165,7 +165,7 @@ fn answers(folder: &Path) -> Theorems {
         let call = format!("readBackAnswer (expand {}) {}", list(&image), before(room));
         t.add(call, answer(&v[2], &v[3], &lent(singles(bytes(&v[4]).into_iter().map(u64::from)), room)));
     }
-    for v in vectors(folder, "base", "match") {
+    for (_, v) in vectors(folder, "match") {
         let (image, text, room) = (runs(&v[0]), bytes(&v[1]), v[2].parse::<usize>().unwrap());
         if word(&image, 1) > IMAGE_STATES || text.len() > BYTES {
             t.left_out += 1;
@@ -180,7 +180,7 @@ fn answers(folder: &Path) -> Theorems {
 /// The first calls of each kind, one to a line: begin or step, by number, by whether there are bytes and ends.
 fn watched(folder: &Path) -> Theorems {
     let (mut t, mut seen) = (Theorems::of(WATCHES), HashMap::<_, Vec<usize>>::new());
-    for (line, (image, calls)) in watches(folder, &|_| BEFORE).into_iter().enumerate() {
+    for (line, (_, image, calls)) in watches(folder, &|_| BEFORE).into_iter().enumerate() {
         for WatchCall { lent: given, stretch, room, number, total, ends, after } in calls {
             let bytes = stretch.as_ref().map(Vec::len);
             let alike = seen.entry((bytes.is_some(), number, bytes > Some(0), total > 0)).or_default();

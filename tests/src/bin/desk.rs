@@ -45,9 +45,9 @@ impl Checks {
 }
 
 fn outside(checks: &mut Checks, folder: &Path) {
-    for (i, v) in vectors(folder, "base", "desk").iter().enumerate() {
+    for (place, v) in vectors(folder, "desk") {
         let [rule, journal] = [0, 1].map(|k| file(&v[k]).map_or(File::Missing, File::Bytes));
-        checks.same(&format!("line {}", i + 1), &rule, &journal, &bytes(&v[2]));
+        checks.same(&place, &rule, &journal, &bytes(&v[2]));
     }
 }
 

@@ -3,45 +3,51 @@
 use outside_checks::independent::{begin, build, check, desk, match_ends, propose, read_back, step};
 use outside_checks::spellings::{checks, proposals};
 use outside_checks::watches::watches;
-use outside_checks::{bytes, expand, file, places, runs, vectors};
+use outside_checks::{amended, bytes, expand, file, places, runs, vectors};
 use std::path::Path;
 
 fn main() {
     let folder = std::env::args().nth(1).expect("VECTORS");
     let folder = Path::new(&folder);
-    let mut checked = 0;
-    for v in vectors(folder, "base", "build") {
-        let (number, words) = build(&bytes(&v[0]), v[1].parse().unwrap());
-        assert_eq!((number.to_string(), words.len().to_string()), (v[2].clone(), v[3].clone()), "build {}", v[0]);
-        assert_eq!(words, expand(&runs(&v[4])), "build {}", v[0]);
-        checked += 1;
-    }
-    for v in vectors(folder, "base", "readback") {
-        let (number, written) = read_back(&expand(&runs(&v[0])), v[1].parse().unwrap());
-        assert_eq!((number.to_string(), written.len().to_string(), written), (v[2].clone(), v[3].clone(), bytes(&v[4])), "readback {}", v[0]);
-        checked += 1;
-    }
-    for v in vectors(folder, "base", "match") {
-        let (number, found) = match_ends(&expand(&runs(&v[0])), &bytes(&v[1]));
-        let written: Vec<u64> = found.iter().take(v[2].parse().unwrap()).map(|p| u64::from(*p)).collect();
-        assert_eq!((number.to_string(), found.len().to_string(), written), (v[3].clone(), v[4].clone(), places(&v[5])), "match {}", v[0]);
-        checked += 1;
-    }
-    for v in vectors(folder, "base", "desk") {
-        assert_eq!(desk(&file(&v[0]).unwrap_or_default(), &file(&v[1]).unwrap_or_default()), bytes(&v[2]), "desk {} {}", v[0], v[1]);
-        checked += 1;
-    }
-    println!("vectors: {checked} agree with the independent program");
+    let checked = answered(folder);
+    println!("vectors: {checked} agree with the independent program, {} of them as amended by a later wish", amended(folder).len());
     let [begins, steps] = watched(folder);
     println!("vectors: {begins} begins and {steps} steps of a watch agree with it");
     let [checks, proposals] = spelled(folder);
     println!("vectors: {checks} checks and {proposals} proposals of spellings agree with it");
 }
 
+/// How many calls of the three operations and of the desk program agree.
+fn answered(folder: &Path) -> usize {
+    let mut checked = 0;
+    for (place, v) in vectors(folder, "build") {
+        let (number, words) = build(&bytes(&v[0]), v[1].parse().unwrap());
+        assert_eq!((number.to_string(), words.len().to_string()), (v[2].clone(), v[3].clone()), "{place}");
+        assert_eq!(words, expand(&runs(&v[4])), "{place}");
+        checked += 1;
+    }
+    for (place, v) in vectors(folder, "readback") {
+        let (number, written) = read_back(&expand(&runs(&v[0])), v[1].parse().unwrap());
+        assert_eq!((number.to_string(), written.len().to_string(), written), (v[2].clone(), v[3].clone(), bytes(&v[4])), "{place}");
+        checked += 1;
+    }
+    for (place, v) in vectors(folder, "match") {
+        let (number, found) = match_ends(&expand(&runs(&v[0])), &bytes(&v[1]));
+        let written: Vec<u64> = found.iter().take(v[2].parse().unwrap()).map(|p| u64::from(*p)).collect();
+        assert_eq!((number.to_string(), found.len().to_string(), written), (v[3].clone(), v[4].clone(), places(&v[5])), "{place}");
+        checked += 1;
+    }
+    for (place, v) in vectors(folder, "desk") {
+        assert_eq!(desk(&file(&v[0]).unwrap_or_default(), &file(&v[1]).unwrap_or_default()), bytes(&v[2]), "{place}");
+        checked += 1;
+    }
+    checked
+}
+
 /// How many begins and steps of the watch agree.
 fn watched(folder: &Path) -> [usize; 2] {
     let mut checked = [0, 0];
-    for (line, (image, calls)) in (1..).zip(watches(folder, &|i| i as u64)) {
+    for (place, image, calls) in watches(folder, &|i| i as u64) {
         let image = expand(&image);
         for (i, call) in calls.into_iter().enumerate() {
             let (number, ends, after) = match &call.stretch {
@@ -50,7 +56,7 @@ fn watched(folder: &Path) -> [usize; 2] {
             };
             let written = &ends[..ends.len().min(call.room)];
             let expected = (call.number, call.total as usize, &call.ends[..], call.after);
-            assert_eq!((number, ends.len(), written, after), expected, "watch, line {line}, call {i}");
+            assert_eq!((number, ends.len(), written, after), expected, "{place}, call {i}");
             checked[usize::from(call.stretch.is_some())] += 1;
         }
     }
@@ -60,11 +66,11 @@ fn watched(folder: &Path) -> [usize; 2] {
 /// How many checks and proposals of spellings agree.
 fn spelled(folder: &Path) -> [usize; 2] {
     let (checks, proposals) = (checks(folder), proposals(folder));
-    for (line, call) in (1..).zip(&checks) {
-        assert_eq!(check(&expand(&call.image), &call.text, &call.proposal), (call.number, call.yes), "check, line {line}");
+    for call in &checks {
+        assert_eq!(check(&expand(&call.image), &call.text, &call.proposal), (call.number, call.yes), "{}", call.place);
     }
-    for (line, call) in (1..).zip(&proposals) {
-        assert_eq!(propose(&expand(&call.image), &call.text, call.end, call.room), (call.number, call.count), "propose, line {line}");
+    for call in &proposals {
+        assert_eq!(propose(&expand(&call.image), &call.text, call.end, call.room), (call.number, call.count), "{}", call.place);
     }
     [checks.len(), proposals.len()]
 }

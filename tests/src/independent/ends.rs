@@ -6,7 +6,7 @@ use super::{Class, Item, Repeat};
 enum Point<'a> {
     /// a letter, and where the search goes on after it
     Letter(&'a Class, Repeat, usize),
-    /// a union: where its alternatives begin
+    /// a union: where its alternatives begin, and where the search goes on if it is left out
     Choice(Vec<usize>),
     /// the whole rule is spelled
     Spelled,
@@ -17,7 +17,7 @@ fn lay<'a>(sequence: &'a [Item], mut next: usize, points: &mut Vec<Point<'a>>) -
     for item in sequence.iter().rev() {
         let point = match item {
             Item::Letter(class, repeat) => Point::Letter(class, *repeat, next),
-            Item::Union(alternatives) => Point::Choice(alternatives.iter().map(|a| lay(a, next, points)).collect()),
+            Item::Union(mark, alternatives) => Point::Choice(alternatives.iter().map(|a| lay(a, next, points)).chain(mark.skips().then_some(next)).collect()),
         };
         points.push(point);
         next = points.len() - 1;
@@ -39,7 +39,7 @@ pub fn ends(sequence: &[Item], text: &[u8]) -> Vec<u32> {
         }
         match &points[point] {
             Point::Spelled => {}
-            Point::Choice(alternatives) => left.extend(alternatives.iter().map(|a| (*a, at))),
+            Point::Choice(ways) => left.extend(ways.iter().map(|way| (*way, at))),
             Point::Letter(class, repeat, next) => {
                 if repeat.skips() {
                     left.push((*next, at));

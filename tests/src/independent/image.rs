@@ -1,7 +1,7 @@
 //! The image of a tree, and the tree whose image words are.
 
-use super::states::{depth, states, Letter, Parts, Union};
-use super::{Class, Item, Repeat, Sequence};
+use super::states::{can_be_empty, depth, states, Letter, Parts, Union};
+use super::{Class, Item, Mark, Repeat, Sequence};
 
 /// The sets that the masks hold, as lists of states: for each byte, and block, source and target for each depth.
 struct Sets {
@@ -101,14 +101,15 @@ pub fn tree_of(words: &[u64]) -> Option<Sequence> {
     let scatter = 7 + 512 * width;
     let gather = scatter + 1 + 3 * width * d;
     let propagate = gather + 1 + 3 * width * d;
+    // A propagate edge comes into each state of a chain but the first.
+    let skipped = |state: usize| (0..=d).any(|k| bit(propagate + 3 * k * width, state) && !bit(propagate + (3 * k + 1) * width, state));
     let mut open: Vec<(Vec<Sequence>, Sequence)> = Vec::new();
     let mut here = Sequence::new();
     for state in 1..m {
         let class: Vec<bool> = (0..256).map(|b| bit(letters + b * width, state)).collect();
         if class.contains(&true) {
             let loops = (0..256).any(|b| bit(repeats + b * width, state));
-            let skips = (0..=d).any(|k| bit(propagate + 3 * k * width, state) && !bit(propagate + (3 * k + 1) * width, state));
-            let repeat = match (skips, loops) {
+            let repeat = match (skipped(state), loops) {
                 (false, false) => Repeat::Once,
                 (true, false) => Repeat::Option,
                 (true, true) => Repeat::Star,
@@ -118,7 +119,8 @@ pub fn tree_of(words: &[u64]) -> Option<Sequence> {
         } else if (0..d).any(|k| bit(gather + (3 * k + 2) * width, state)) {
             let (mut alternatives, outside) = open.pop()?;
             alternatives.push(std::mem::replace(&mut here, outside));
-            here.push(Item::Union(alternatives));
+            let optional = skipped(state) && !alternatives.iter().any(|a| can_be_empty(a));
+            here.push(Item::Union(if optional { Mark::Optional } else { Mark::Unmarked }, alternatives));
         } else if (0..d).any(|k| bit(scatter + (3 * k + 1) * width, state - 1)) {
             open.push((Vec::new(), std::mem::take(&mut here)));
         } else {
@@ -128,10 +130,15 @@ pub fn tree_of(words: &[u64]) -> Option<Sequence> {
     (open.is_empty() && good(&here) && image(&here) == words).then_some(here)
 }
 
+/// Whether a rule can have this tree: brackets round one alternative stay only with a mark, and a mark only where no alternative can be empty.
 fn good(sequence: &[Item]) -> bool {
+    let stays = |mark: &Mark, alternatives: &[Sequence]| match mark {
+        Mark::Unmarked => alternatives.len() > 1,
+        Mark::Optional => !alternatives.iter().any(|a| can_be_empty(a)),
+    };
     let fine = |item: &Item| match item {
         Item::Letter(..) => true,
-        Item::Union(alternatives) => alternatives.len() > 1 && alternatives.iter().all(|a| good(a)),
+        Item::Union(mark, alternatives) => stays(mark, alternatives) && alternatives.iter().all(|a| good(a)),
     };
     !sequence.is_empty() && sequence.iter().all(fine)
 }

@@ -1,5 +1,5 @@
-//! Document 01 once more, written independently of the proofs and of the proved code: a parser, the plain writing, the image, reading an image back,
-//! ends by backtracking, a watch and spellings by its edges, and the answers. Plain and slow; it shares nothing with the crates.
+//! Document 01 with the wishes of document 02 that have landed, once more, written independently of the proofs and of the proved code: a parser, the
+//! plain writing, the image, reading an image back, ends by backtracking, a watch and spellings by its edges, and the answers. Plain and slow; it shares nothing with the crates.
 
 mod answers;
 mod edges;
@@ -17,7 +17,7 @@ pub use ends::ends;
 pub use image::{image, tree_of};
 pub use rules::parse;
 pub use spelling::{check, latest_starts, propose, proposed, Checker, Proposal, Starts};
-pub use states::{depth, states};
+pub use states::{can_be_empty, depth, states};
 pub use watch::{begin, step, Watch, LAST_PLACE};
 pub use writing::writing;
 
@@ -35,6 +35,19 @@ impl Repeat {
     }
     fn loops(self) -> bool {
         matches!(self, Repeat::Star | Repeat::Plus)
+    }
+}
+
+/// What a union keeps after its brackets.
+#[derive(Clone, Copy, PartialEq, Eq, Debug)]
+pub enum Mark {
+    Unmarked,
+    Optional,
+}
+
+impl Mark {
+    pub fn skips(self) -> bool {
+        self == Mark::Optional
     }
 }
 
@@ -56,7 +69,7 @@ impl Class {
 #[derive(Clone, PartialEq, Eq, Debug)]
 pub enum Item {
     Letter(Class, Repeat),
-    Union(Vec<Sequence>),
+    Union(Mark, Vec<Sequence>),
 }
 
 pub type Sequence = Vec<Item>;

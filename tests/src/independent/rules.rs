@@ -1,6 +1,7 @@
 //! Reading a rule.
 
-use super::{is_plain, Class, Item, Repeat, Sequence, SIGNS};
+use super::states::can_be_empty;
+use super::{is_plain, Class, Item, Mark, Repeat, Sequence, SIGNS};
 
 struct Parser<'a> {
     rule: &'a [u8],
@@ -11,14 +12,17 @@ struct Parser<'a> {
 pub fn parse(rule: &[u8]) -> Option<Sequence> {
     let mut parser = Parser { rule, at: 0 };
     let alternatives = parser.alternatives()?;
-    (parser.at == rule.len()).then(|| bracketed(alternatives))
+    (parser.at == rule.len()).then(|| group(alternatives, Mark::Unmarked))
 }
 
-fn bracketed(mut alternatives: Vec<Sequence>) -> Sequence {
-    if alternatives.len() == 1 {
+/// What bracketed alternatives add to the sequence outside. A mark on a group that can already be empty is dropped first, so that brackets round one
+/// alternative vanish there too.
+fn group(mut alternatives: Vec<Sequence>, mark: Mark) -> Sequence {
+    let mark = if alternatives.iter().any(|a| can_be_empty(a)) { Mark::Unmarked } else { mark };
+    if alternatives.len() == 1 && mark == Mark::Unmarked {
         alternatives.pop().unwrap()
     } else {
-        vec![Item::Union(alternatives)]
+        vec![Item::Union(mark, alternatives)]
     }
 }
 
@@ -55,7 +59,8 @@ impl Parser<'_> {
                 if !self.take(b')') {
                     return None;
                 }
-                items.extend(bracketed(inner));
+                let mark = if self.take(b'?') { Mark::Optional } else { Mark::Unmarked };
+                items.extend(group(inner, mark));
             } else {
                 let class = self.letter()?;
                 self.repeated(class, &mut items)?;

@@ -52,8 +52,9 @@ pub type Starts = Vec<Option<usize>>;
 fn after_item(item: &Item, text: &[u8], before: &Starts) -> Starts {
     let (class, repeat) = match item {
         Item::Letter(class, repeat) => (class, *repeat),
-        Item::Union(alternatives) => {
-            let all = alternatives.iter().map(|a| after(a, text, before.clone()));
+        Item::Union(mark, alternatives) => {
+            let left_out = mark.skips().then(|| before.clone());
+            let all = alternatives.iter().map(|a| after(a, text, before.clone())).chain(left_out);
             return all.reduce(|one, other| one.into_iter().zip(other).map(|(a, b)| a.max(b)).collect()).expect("an alternative");
         }
     };

@@ -1,11 +1,11 @@
 //! The states of a tree: how many, how deep, and where its letters and unions lie among them.
 
-use super::{Class, Item, Repeat, Sequence};
+use super::{Class, Item, Mark, Repeat, Sequence};
 
 pub fn depth(sequence: &[Item]) -> usize {
     let of = |item: &Item| match item {
         Item::Letter(..) => 0,
-        Item::Union(alternatives) => 1 + alternatives.iter().map(|a| depth(a)).max().unwrap_or(0),
+        Item::Union(_, alternatives) => 1 + alternatives.iter().map(|a| depth(a)).max().unwrap_or(0),
     };
     sequence.iter().map(of).max().unwrap_or(0)
 }
@@ -18,15 +18,16 @@ pub fn states(sequence: &[Item]) -> usize {
 fn length(sequence: &[Item]) -> usize {
     let of = |item: &Item| match item {
         Item::Letter(..) => 1,
-        Item::Union(alternatives) => 1 + alternatives.iter().map(|a| 1 + length(a)).sum::<usize>(),
+        Item::Union(_, alternatives) => 1 + alternatives.iter().map(|a| 1 + length(a)).sum::<usize>(),
     };
     sequence.iter().map(of).sum()
 }
 
-fn can_be_empty(sequence: &[Item]) -> bool {
+/// Whether a sequence spells the empty text.
+pub fn can_be_empty(sequence: &[Item]) -> bool {
     sequence.iter().all(|item| match item {
         Item::Letter(_, repeat) => repeat.skips(),
-        Item::Union(alternatives) => alternatives.iter().any(|a| can_be_empty(a)),
+        Item::Union(mark, alternatives) => mark.skips() || alternatives.iter().any(|a| can_be_empty(a)),
     })
 }
 
@@ -69,13 +70,13 @@ impl<'a> Parts<'a> {
                     self.letters.push(Letter { class, repeat: *repeat, from: state, depth });
                     state += 1;
                 }
-                Item::Union(alternatives) => state = self.lay_union(alternatives, state, depth),
+                Item::Union(mark, alternatives) => state = self.lay_union(*mark, alternatives, state, depth),
             }
         }
         state
     }
 
-    fn lay_union(&mut self, sequences: &'a [Sequence], start: usize, depth: usize) -> usize {
+    fn lay_union(&mut self, mark: Mark, sequences: &'a [Sequence], start: usize, depth: usize) -> usize {
         let (mut alternatives, mut state) = (Vec::new(), start);
         for sequence in sequences {
             let first = state + 1;
@@ -83,7 +84,8 @@ impl<'a> Parts<'a> {
             alternatives.push((first, state));
         }
         let end = state + 1;
-        self.unions.push(Union { start, alternatives, end, depth, can_be_empty: sequences.iter().any(|s| can_be_empty(s)) });
+        let can_be_empty = mark.skips() || sequences.iter().any(|s| can_be_empty(s));
+        self.unions.push(Union { start, alternatives, end, depth, can_be_empty });
         end
     }
 

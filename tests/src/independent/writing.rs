@@ -1,6 +1,6 @@
 //! The plain writing.
 
-use super::{is_plain, Class, Item, Repeat, SIGNS};
+use super::{is_plain, Class, Item, Mark, Repeat, SIGNS};
 
 fn write_byte(byte: u8, out: &mut Vec<u8>) {
     if byte == b'-' || SIGNS.contains(&byte) {
@@ -50,11 +50,15 @@ pub fn writing(sequence: &[Item]) -> Vec<u8> {
                     Repeat::Plus => out.push(b'+'),
                 }
             }
-            Item::Union(alternatives) => {
+            Item::Union(mark, alternatives) => {
                 let written: Vec<Vec<u8>> = alternatives.iter().map(|a| writing(a)).collect();
                 out.push(b'(');
                 out.extend(written.join(&b'|'));
                 out.push(b')');
+                match mark {
+                    Mark::Unmarked => {}
+                    Mark::Optional => out.push(b'?'),
+                }
             }
         }
     }

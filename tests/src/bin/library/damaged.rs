@@ -7,7 +7,7 @@ use crate::masks::{sections, Masks};
 use crate::seen::Seen;
 use outside_checks::driver::Answer;
 use outside_checks::generate::{nested, sized, small, Random};
-use outside_checks::independent::{depth, ends, image, parse, states, writing, Class, Item, Repeat, Sequence};
+use outside_checks::independent::{depth, ends, image, parse, states, writing, Class, Item, Mark, Repeat, Sequence};
 use outside_checks::texts::text;
 
 pub fn all(checks: &mut Checks) {
@@ -26,7 +26,7 @@ fn tree_of(rule: &[u8]) -> Sequence {
 /// Calls `with` for the letter that ends in a state, if there is one. `at` is the state in which the sequence starts, and then the one in which it ends.
 fn letter_to(sequence: &mut [Item], at: &mut usize, state: usize, with: &mut dyn FnMut(&mut Class, Repeat)) {
     for item in sequence {
-        if let Item::Union(alternatives) = item {
+        if let Item::Union(_, alternatives) = item {
             for alternative in alternatives {
                 *at += 1;
                 letter_to(alternative, at, state, with);
@@ -114,7 +114,7 @@ fn seeds(checks: &mut Checks) {
 fn ill_formed(checks: &mut Checks) {
     let a = || vec![Item::Letter(Class(std::array::from_fn(|b| b == 97)), Repeat::Once)];
     let none = || vec![Item::Letter(Class([false; 256]), Repeat::Once)];
-    let union = |alternatives: &[Sequence]| vec![Item::Union(alternatives.to_vec())];
+    let union = |alternatives: &[Sequence]| vec![Item::Union(Mark::Unmarked, alternatives.to_vec())];
     let trees = [
         ("no item", vec![]),
         ("a class of no byte", none()),

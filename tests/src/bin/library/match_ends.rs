@@ -163,9 +163,9 @@ fn desk(checks: &mut Checks, rule: &[u8], journal: &[u8]) -> Result<Vec<u8>, Str
 }
 
 fn desk_vectors(checks: &mut Checks, folder: &Path) {
-    for (i, v) in vectors(folder, "base", "desk").iter().enumerate() {
+    for (place, v) in vectors(folder, "desk") {
         let (rule, journal) = (file(&v[0]).unwrap_or_default(), file(&v[1]).unwrap_or_default());
         let written = desk(checks, &rule, &journal);
-        checks.same(&format!("line {}, rule {}", i + 1, rule.escape_ascii()), written, Ok(bytes(&v[2])));
+        checks.same(&format!("{place}, rule {}", rule.escape_ascii()), written, Ok(bytes(&v[2])));
     }
 }

@@ -43,36 +43,36 @@ fn expected<T: Lent>(number: &str, count: &str, written: &[T], room: usize) -> A
 
 fn build(checks: &mut Checks, folder: &Path) -> Pairs<Answer<u64>> {
     let mut answers = Vec::new();
-    for v in vectors(folder, "base", "build") {
+    for (place, v) in vectors(folder, "build") {
         let expected = expected(&v[2], &v[3], &expand(&runs(&v[4])), room(&v[1]));
-        answers.extend(checks.build("vector", &bytes(&v[0]), &expected).map(|got| (got, expected)));
+        answers.extend(checks.build(&place, &bytes(&v[0]), &expected).map(|got| (got, expected)));
     }
     answers
 }
 
 fn read_back(checks: &mut Checks, folder: &Path) -> Pairs<Answer<u8>> {
     let mut answers = Vec::new();
-    for (i, v) in vectors(folder, "base", "readback").iter().enumerate() {
+    for (place, v) in vectors(folder, "readback") {
         let expected = expected(&v[2], &v[3], &bytes(&v[4]), room(&v[1]));
-        answers.extend(checks.read_back(&format!("line {}", i + 1), &expand(&runs(&v[0])), &expected).map(|got| (got, expected)));
+        answers.extend(checks.read_back(&place, &expand(&runs(&v[0])), &expected).map(|got| (got, expected)));
     }
     answers
 }
 
 fn match_ends(checks: &mut Checks, folder: &Path) -> Pairs<Answer<u32>> {
     let mut answers = Vec::new();
-    for (i, v) in vectors(folder, "base", "match").iter().enumerate() {
+    for (place, v) in vectors(folder, "match") {
         let ends: Vec<u32> = places(&v[5]).iter().map(|p| *p as u32).collect();
         let expected = expected(&v[3], &v[4], &ends, room(&v[2]));
-        answers.extend(checks.match_ends(&format!("line {}", i + 1), &expand(&runs(&v[0])), &bytes(&v[1]), &expected).map(|got| (got, expected)));
+        answers.extend(checks.match_ends(&place, &expand(&runs(&v[0])), &bytes(&v[1]), &expected).map(|got| (got, expected)));
     }
     answers
 }
 
 fn watch(checks: &mut Checks, folder: &Path) -> Pairs<Watched> {
     let mut answers = Vec::new();
-    for (line, (image, calls)) in (1..).zip(watches(folder, &u64::before)) {
-        let (what, image) = (format!("line {line}"), expand(&image));
+    for (what, image, calls) in watches(folder, &u64::before) {
+        let image = expand(&image);
         for call in calls {
             let found = Answer { count: call.total, ..Answer::of(call.number, &call.ends, call.room) };
             let expected = Watched { found, watch: call.after };
@@ -88,9 +88,9 @@ fn watch(checks: &mut Checks, folder: &Path) -> Pairs<Watched> {
 
 fn check(checks: &mut Checks, folder: &Path) -> Pairs<Judged> {
     let mut answers = Vec::new();
-    for (line, call) in (1..).zip(spellings::checks(folder)) {
+    for call in spellings::checks(folder) {
         let expected = Judged::of((call.number, call.yes));
-        let got = checks.check(&format!("line {line}"), &expand(&call.image), &call.text, &call.proposal, &expected);
+        let got = checks.check(&call.place, &expand(&call.image), &call.text, &call.proposal, &expected);
         answers.extend(got.map(|got| (got, expected)));
     }
     answers
@@ -98,11 +98,11 @@ fn check(checks: &mut Checks, folder: &Path) -> Pairs<Judged> {
 
 fn propose(checks: &mut Checks, folder: &Path) -> Pairs<Proposed> {
     let mut answers = Vec::new();
-    for (line, call) in (1..).zip(spellings::proposals(folder)) {
-        let (what, image) = (format!("line {line}"), expand(&call.image));
+    for call in spellings::proposals(folder) {
+        let image = expand(&call.image);
         let expected = Proposed::of((call.number, call.count), call.room);
-        let got = checks.propose(&what, &image, &call.text, call.end, &expected);
-        checks.proposal_beside(&what, &image, &call.text, call.end, got.as_ref());
+        let got = checks.propose(&call.place, &image, &call.text, call.end, &expected);
+        checks.proposal_beside(&call.place, &image, &call.text, call.end, got.as_ref());
         answers.extend(got.map(|got| (got, expected)));
     }
     answers

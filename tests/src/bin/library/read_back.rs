@@ -50,9 +50,9 @@ fn examples(checks: &mut Checks) {
 }
 
 fn built_vectors(checks: &mut Checks, folder: &Path) {
-    for v in vectors(folder, "base", "build").iter().filter(|v| v[2] == "0") {
+    for (place, v) in vectors(folder, "build").iter().filter(|(_, v)| v[2] == "0") {
         let rule = bytes(&v[0]);
-        built(checks, "a vector of build", &rule, &plain(&rule));
+        built(checks, place, &rule, &plain(&rule));
     }
 }
 
@@ -107,7 +107,7 @@ fn widen(r: &mut Random, sequence: &mut [Item]) {
     for item in sequence {
         match item {
             Item::Letter(class, _) => *class = wide(r),
-            Item::Union(alternatives) => alternatives.iter_mut().for_each(|a| widen(r, a)),
+            Item::Union(_, alternatives) => alternatives.iter_mut().for_each(|a| widen(r, a)),
         }
     }
 }

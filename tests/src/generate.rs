@@ -1,6 +1,6 @@
 //! Rules made by a fixed generator: valid ones in every way of writing, small, large and deep, and broken ones.
 
-use crate::independent::{parse, states};
+use crate::independent::{can_be_empty, parse, states, Sequence};
 
 /// Numbers from a seed (splitmix64).
 pub struct Random(u64);
@@ -111,10 +111,10 @@ pub fn sequence(r: &mut Random, size: usize, depth: usize, out: &mut Vec<u8>) {
     while left > 0 {
         let part = r.between(1, left as usize);
         if depth > 0 && left > 3 && r.one_in(3) {
-            alternatives(r, part, depth - 1, true, out);
+            group(r, part, depth - 1, out);
             left -= part as isize + 3;
         } else if r.one_in(12) {
-            alternatives(r, part, depth, false, out);
+            alternatives(r, part, 1, depth, out);
             left -= part as isize;
         } else {
             let most = (left as usize).min(4);
@@ -124,10 +124,23 @@ pub fn sequence(r: &mut Random, size: usize, depth: usize, out: &mut Vec<u8>) {
     }
 }
 
-/// In brackets: several alternatives of about `size` states together, or one.
-fn alternatives(r: &mut Random, size: usize, depth: usize, several: bool, out: &mut Vec<u8>) {
+/// Several alternatives with `?` or without, or one with it: a union, but for a `?` that is dropped where one of them can be empty. One more `?` round
+/// such a group is always dropped.
+fn group(r: &mut Random, size: usize, depth: usize, out: &mut Vec<u8>) {
+    let (start, count) = (out.len(), *r.pick(&[1, 2, 2, 3, 4]));
+    alternatives(r, size, count, depth, out);
+    if count == 1 || r.one_in(2) {
+        out.push(b'?');
+        if r.one_in(6) {
+            out.insert(start, b'(');
+            out.extend(b")?");
+        }
+    }
+}
+
+/// So many alternatives in brackets, of about `size` states together.
+fn alternatives(r: &mut Random, size: usize, count: usize, depth: usize, out: &mut Vec<u8>) {
     out.push(b'(');
-    let count = if several { r.between(2, 4) } else { 1 };
     for i in 0..count {
         if i > 0 {
             out.push(b'|');
@@ -160,24 +173,36 @@ pub fn nested(r: &mut Random, depth: usize) -> Vec<u8> {
     let mut out = Vec::new();
     short(r, &mut out);
     for _ in 0..depth {
-        let mut outer = vec![b'('];
-        if r.one_in(2) {
-            short(r, &mut outer);
-            outer.push(b'|');
-        }
-        if r.one_in(2) {
-            short(r, &mut outer);
-        }
-        outer.extend(out);
-        if r.one_in(2) {
-            short(r, &mut outer);
-        }
-        outer.push(b'|');
-        short(r, &mut outer);
-        outer.push(b')');
-        out = outer;
+        out = if r.one_in(3) { optional(r, &out) } else { union(r, &out) };
     }
     out
+}
+
+/// Several alternatives round this sequence, with `?` or without.
+fn union(r: &mut Random, inner: &[u8]) -> Vec<u8> {
+    let mut out = vec![b'('];
+    if r.one_in(2) {
+        short(r, &mut out);
+        out.push(b'|');
+    }
+    if r.one_in(2) {
+        short(r, &mut out);
+    }
+    out.extend(inner);
+    if r.one_in(2) {
+        short(r, &mut out);
+    }
+    out.push(b'|');
+    short(r, &mut out);
+    out.extend(*r.pick(&[&b")"[..], b")?"]));
+    out
+}
+
+/// This sequence as the one alternative of an optional union, with a letter where the `?` would be dropped else.
+fn optional(r: &mut Random, inner: &[u8]) -> Vec<u8> {
+    let letter: &[u8] = if can_be_empty(&tree(inner)) { &[b'a' + r.below(6) as u8] } else { &[] };
+    let parts = if r.one_in(2) { [letter, inner] } else { [inner, letter] };
+    [b"(", parts[0], parts[1], b")?"].concat()
 }
 
 /// A rule of just so many states, in at most 1,024 bytes: parts as long as they fit, then one letter repeated.
@@ -200,15 +225,19 @@ pub fn sized(r: &mut Random, wanted: usize, depth: usize) -> Vec<u8> {
     rule
 }
 
-fn count(rule: &[u8]) -> usize {
-    states(&parse(rule).expect("a generated rule is in the grammar"))
+fn tree(rule: &[u8]) -> Sequence {
+    parse(rule).expect("a generated rule is in the grammar")
 }
 
-/// A small rule in so many brackets that it has about 1,024 bytes.
+fn count(rule: &[u8]) -> usize {
+    states(&tree(rule))
+}
+
+/// A small rule in so many brackets, with `?` or without, that it has about 1,024 bytes.
 pub fn long(r: &mut Random) -> Vec<u8> {
-    let (rule, wanted) = (small(r), r.between(1020, 1028));
-    let around = wanted.saturating_sub(rule.len()) / 2;
-    [vec![b'('; around], rule, vec![b')'; around]].concat()
+    let (rule, wanted, close) = (small(r), r.between(1020, 1028), *r.pick(&[&b")"[..], b")?"]));
+    let around = wanted.saturating_sub(rule.len()) / (1 + close.len());
+    [vec![b'('; around], rule, close.repeat(around)].concat()
 }
 
 /// A rule with one to three of its bytes taken out, put in, changed or moved: most often no rule any more.

@@ -56,12 +56,13 @@ pub fn image(sequence: &[Item]) -> Vec<u64> {
     let width = m.div_ceil(64);
     let sets = Sets::of(&Parts::of(sequence), d);
 
-    let row = |places: &Vec<usize>| {
-        let mut words = vec![0u64; width];
-        places.iter().for_each(|p| words[p / 64] |= 1 << (p % 64));
+    let rows = |sets: &[Vec<usize>]| {
+        let mut words = vec![0u64; width * sets.len()];
+        for (row, states) in words.chunks_mut(width).zip(sets) {
+            states.iter().for_each(|state| row[state / 64] |= 1 << (state % 64));
+        }
         words
     };
-    let rows = |sets: &[Vec<usize>]| sets.iter().flat_map(row).collect::<Vec<u64>>();
     let threes = |sets: &[[Vec<usize>; 3]]| sets.iter().flat_map(|s| rows(s)).collect::<Vec<u64>>();
     let sections = [
         vec![m as u64, width as u64, d as u64],

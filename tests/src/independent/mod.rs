@@ -17,7 +17,7 @@ pub use ends::ends;
 pub use image::{image, tree_of};
 pub use rules::parse;
 pub use spelling::{check, latest_starts, propose, proposed, Checker, Proposal, Starts};
-pub use states::{can_be_empty, depth, states};
+pub use states::{can_be_empty, depth, optional_unions, states};
 pub use watch::{begin, step, Watch, LAST_PLACE};
 pub use writing::writing;
 

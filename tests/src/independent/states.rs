@@ -31,6 +31,18 @@ pub fn can_be_empty(sequence: &[Item]) -> bool {
     })
 }
 
+/// How many alternatives each optional union of a tree has.
+pub fn optional_unions(tree: &[Item]) -> Vec<usize> {
+    let of = |item: &Item| match item {
+        Item::Letter(..) => Vec::new(),
+        Item::Union(mark, alternatives) => {
+            let here = (*mark == Mark::Optional).then_some(alternatives.len());
+            here.into_iter().chain(alternatives.iter().flat_map(|a| optional_unions(a))).collect()
+        }
+    };
+    tree.iter().flat_map(of).collect()
+}
+
 /// A letter from a state to the next.
 pub struct Letter<'a> {
     pub class: &'a Class,

@@ -1,10 +1,11 @@
 //! Build: document 01's examples and limits, and generated rules beside the independent program.
 
 use crate::checks::{Checks, LONGEST};
+use crate::optional::{dropped, most, optionals};
 use crate::seen::Seen;
 use outside_checks::driver::{build_call, Answer};
 use outside_checks::generate::{broken, jumbled, long, nested, sized, small, Random, TELLING};
-use outside_checks::independent::{build, parse};
+use outside_checks::independent::{build, optional_unions, parse};
 
 pub fn all(checks: &mut Checks) {
     checks.part("build: document 01's examples", examples);
@@ -17,7 +18,7 @@ pub fn all(checks: &mut Checks) {
 // ---- document 01: "Measured examples", "The image", and the limits
 
 /// A section of an image, without its count.
-fn section(image: &[u64], number: usize) -> Vec<u64> {
+pub fn section(image: &[u64], number: usize) -> Vec<u64> {
     let mut rest = image;
     for _ in 1..number {
         let Some((count, more)) = rest.split_first() else { break };
@@ -40,7 +41,7 @@ pub fn longest() -> Vec<u8> {
     [unions(8), b"a{478}".to_vec()].concat()
 }
 
-fn refused(number: u64) -> Answer<u64> {
+pub fn refused(number: u64) -> Answer<u64> {
     Answer::of(number, &[], LONGEST)
 }
 
@@ -104,7 +105,7 @@ fn limits(checks: &mut Checks) {
 /// Rules that nest as deep, or go on as long, as 1,024 bytes allow.
 fn stack(checks: &mut Checks) {
     let class = [vec![b'('; 1023], b"[".to_vec()].concat();
-    let rules = [vec![b'('; 1024], pairs(511, "ab"), class, vec![b'a'; 1024], longest()];
+    let rules = [vec![b'('; 1024], pairs(511, "ab"), dropped(341, "a"), optionals(255), class, vec![b'a'; 1024], longest(), most()];
     checks.stack("build", 1 << 20, &rules.map(|rule| build_call(&rule, LONGEST)));
 }
 
@@ -112,8 +113,10 @@ fn stack(checks: &mut Checks) {
 
 fn every_byte(checks: &mut Checks) {
     for b in 0..=255 {
-        for rule in [&[b][..], &[b'\\', b], &[b'a', b], &[b'[', b, b']'], &[b'[', b, b'-', b'~', b']'], &[b'a', b'{', b, b'}']] {
-            checks.build_beside("every byte", rule, 530);
+        let letters = [&[b][..], &[b'\\', b], &[b'a', b], &[b'[', b, b']'], &[b'[', b, b'-', b'~', b']'], &[b'a', b'{', b, b'}']];
+        let groups = [&[b'(', b'a', b')', b][..], &[b'(', b'a', b'?', b')', b], &[b'(', b'a', b')', b'?', b]];
+        for rule in letters.into_iter().chain(groups) {
+            checks.build_beside("every byte", rule, 550);
         }
     }
     for &first in TELLING {
@@ -121,6 +124,16 @@ fn every_byte(checks: &mut Checks) {
             checks.build_beside("two bytes", &[first, second], 530);
         }
     }
+}
+
+/// How many groups of a rule have a `?`. A bracket after `\` closes none.
+fn groups_with_sign(rule: &[u8]) -> usize {
+    let (mut count, mut at) = (0, 0);
+    while at < rule.len() {
+        count += usize::from(rule[at..].starts_with(b")?"));
+        at += if rule[at] == b'\\' { 2 } else { 1 };
+    }
+    count
 }
 
 fn seeds(checks: &mut Checks) {
@@ -154,7 +167,9 @@ fn seeds(checks: &mut Checks) {
         let number = build(&rule, room).0;
         (0..6).for_each(|n| seen.note(&format!("given {n}"), number == n));
         if number == 0 {
-            seen.tree(&parse(&rule).expect("a rule"));
+            let tree = parse(&rule).expect("a rule");
+            seen.note("with a `?` dropped", groups_with_sign(&rule) > optional_unions(&tree).len());
+            seen.tree(&tree);
         }
     }
     seen.tell(checks, "built from seeds", 20);

@@ -51,7 +51,7 @@ impl Damage<'_> {
 
     /// Words in its place, if they differ from it: the answer is the independent program's, and a writing is that of a tree with exactly these words
     /// as its image.
-    fn attempt(&mut self, how: &str, words: &[u64]) {
+    pub fn attempt(&mut self, how: &str, words: &[u64]) {
         if words == self.image {
             return;
         }

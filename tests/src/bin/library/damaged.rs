@@ -4,6 +4,7 @@ use crate::build::{longest, unions};
 use crate::checks::Checks;
 use crate::damage::{Damage, Tally};
 use crate::masks::{sections, Masks};
+use crate::optional::{most, optionals};
 use crate::seen::Seen;
 use outside_checks::driver::Answer;
 use outside_checks::generate::{nested, sized, small, Random};
@@ -11,7 +12,7 @@ use outside_checks::independent::{depth, ends, image, parse, states, writing, Cl
 use outside_checks::texts::text;
 
 pub fn all(checks: &mut Checks) {
-    checks.part("damage: every bit of two images", every_bit);
+    checks.part("damage: every bit of seven images", every_bit);
     checks.part("damage: images of rules from seeds", seeds);
     checks.part("damage: images of trees that no rule has or past the limits", ill_formed);
     checks.part("damage: random words", random_words);
@@ -68,11 +69,34 @@ fn other_class(checks: &mut Checks, r: &mut Random, name: &str, tree: &Sequence)
     true
 }
 
+/// The marks of a tree's unions.
+fn marks(sequence: &mut Sequence) -> Vec<&mut Mark> {
+    let mut all = Vec::new();
+    for item in sequence {
+        if let Item::Union(mark, alternatives) = item {
+            all.push(mark);
+            all.extend(alternatives.iter_mut().flat_map(marks));
+        }
+    }
+    all
+}
+
+/// The tree with another mark on one of its unions, if it has any: another rule's, or one that no rule has, with its image or that of another tree.
+fn other_mark(r: &mut Random, tree: &Sequence) -> Option<Sequence> {
+    let mut other = tree.clone();
+    let mut all = marks(&mut other);
+    let at = r.below(all.len().max(1));
+    let mark = all.get_mut(at)?;
+    **mark = if **mark == Mark::Unmarked { Mark::Optional } else { Mark::Unmarked };
+    Some(other)
+}
+
 // ---- all images
 
+/// Of images without an optional union, and with such of one alternative and of several, alone, in one another, round a union and one after another.
 fn every_bit(checks: &mut Checks) {
     let mut tally = Tally::default();
-    for rule in ["a", "(a|b*)"] {
+    for rule in ["a", "(a|b*)", "(a)?", "(a|b*c)?", "((a)?b+)?", "((a|b))?", "(a)?b?(c|d)?"] {
         let mut damage = Damage::of(checks, &mut tally, rule.to_string(), &tree_of(rule.as_bytes()));
         for place in 0..damage.image.len() {
             (0..64).for_each(|bit| damage.flipped(place, bit));
@@ -100,7 +124,13 @@ fn seeds(checks: &mut Checks) {
             continue;
         }
         seen.tree(&tree);
-        Damage::of(checks, &mut tally, name.clone(), &tree).every_kind(&mut r);
+        let mut damage = Damage::of(checks, &mut tally, name.clone(), &tree);
+        damage.every_kind(&mut r);
+        for _ in 0..4 {
+            let other = other_mark(&mut r, &tree);
+            seen.note("with another mark", other.is_some());
+            other.iter().for_each(|other| damage.attempt(&format!("laid as {}", writing(other).escape_ascii()), &image(other)));
+        }
         for _ in 0..8 {
             seen.note("with another class", other_class(checks, &mut r, &name, &tree));
         }
@@ -115,6 +145,7 @@ fn ill_formed(checks: &mut Checks) {
     let a = || vec![Item::Letter(Class(std::array::from_fn(|b| b == 97)), Repeat::Once)];
     let none = || vec![Item::Letter(Class([false; 256]), Repeat::Once)];
     let union = |alternatives: &[Sequence]| vec![Item::Union(Mark::Unmarked, alternatives.to_vec())];
+    let optional = |alternatives: &[Sequence]| vec![Item::Union(Mark::Optional, alternatives.to_vec())];
     let trees = [
         ("no item", vec![]),
         ("a class of no byte", none()),
@@ -123,6 +154,13 @@ fn ill_formed(checks: &mut Checks) {
         ("a union of one alternative", union(&[a()])),
         ("a union of one alternative between letters", [a(), union(&[a()]), a()].concat()),
         ("a union of one union", union(&[tree_of(b"a|b")])),
+        ("a union of one optional union", union(&[tree_of(b"(a)?")])),
+        ("a union of one alternative that can be empty", union(&[tree_of(b"a?")])),
+        ("an optional union of one alternative that can be empty", optional(&[tree_of(b"a?b*")])),
+        ("an optional union of one optional union", optional(&[tree_of(b"(a|b)?")])),
+        ("an optional union of one empty alternative", optional(&[vec![]])),
+        ("an optional union with an empty alternative", optional(&[a(), vec![]])),
+        ("a class of no byte in an optional union", optional(&[none()])),
         ("an empty first alternative", union(&[vec![], a()])),
         ("an empty last alternative", union(&[a(), vec![]])),
         ("an empty alternative between two", union(&[a(), vec![], a()])),
@@ -130,9 +168,13 @@ fn ill_formed(checks: &mut Checks) {
         ("513 states", tree_of(b"a{512}")),
         ("576 states", tree_of(b"a{575}")),
         ("513 states, eight deep", [tree_of(&longest()), a()].concat()),
+        ("513 states in an optional union", tree_of(b"(a{510})?")),
+        ("513 states, 161 optional unions", [tree_of(&most()), a()].concat()),
         ("depth 9", tree_of(&unions(9))),
         ("depth 9 in 512 states", [tree_of(&unions(9)), tree_of(b"a{474}")].concat()),
         ("depth 12", tree_of(&unions(12))),
+        ("depth 9 of optional unions", tree_of(&optionals(9))),
+        ("depth 170 of optional unions", tree_of(&optionals(170))),
     ];
     for (what, tree) in trees {
         checks.read_back(what, &image(&tree), &Answer::of(6, &[], 40));

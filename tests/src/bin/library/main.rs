@@ -10,6 +10,7 @@ mod damaged;
 mod masks;
 mod mutations;
 mod match_ends;
+mod optional;
 mod outside;
 mod proposals;
 mod read_back;
@@ -33,6 +34,7 @@ fn main() {
     outside::all(&mut checks, Path::new(folder));
     build::all(&mut checks);
     read_back::all(&mut checks, Path::new(folder));
+    optional::all(&mut checks);
     match_ends::all(&mut checks, Path::new(folder));
     watch::all(&mut checks);
     cuttings::all(&mut checks);

@@ -3,6 +3,7 @@
 
 use crate::build::{longest, unions};
 use crate::checks::{Checks, LONGEST};
+use crate::optional::most;
 use crate::seen::Seen;
 use outside_checks::driver::{build_call, match_call, read_back_call, Answer};
 use outside_checks::generate::{nested, sized, small, Random};
@@ -33,7 +34,7 @@ fn finds(checks: &mut Checks, what: &str, rule: &[u8], text: &[u8], ends: &[u32]
 }
 
 /// Rules, texts and their ends.
-pub const EXAMPLES: [(&str, &str, &[u32]); 13] = [
+pub const EXAMPLES: [(&str, &str, &[u32]); 20] = [
     ("a", "aba", &[1, 3]),
     ("b?", "", &[0]),
     ("b?", "ab", &[0, 1, 2]),
@@ -48,6 +49,14 @@ pub const EXAMPLES: [(&str, &str, &[u32]); 13] = [
     ("a((b|c)d|e)f", "abdfacdfaef", &[4, 8, 11]),
     ("a{64}b", "", &[]),
     ("(a|b)(c|d)", "acbdad", &[2, 4, 6]),
+    // optional groups
+    ("(ab)?", "ab", &[0, 1, 2]),
+    ("x(ab)?y", "xyxabxay", &[2]),
+    ("x(ab|c)?y", "xabyxcy", &[4, 7]),
+    ("x((a|b))?y", "xyxay", &[2, 5]),
+    ("x((a)?b)?y", "xabyxby", &[4, 7]),
+    ("x(a)?(b)?(c)?y", "xyxacy", &[2, 6]),
+    ("x(a?|b)?y", "xyxby", &[2, 5]),
 ];
 
 fn examples(checks: &mut Checks) {
@@ -58,6 +67,8 @@ fn examples(checks: &mut Checks) {
     finds(checks, "a carry through a union of 130 states", b"(a{64}|b{64})c", &[[b'b'; 64].to_vec(), b"c".to_vec()].concat(), &[65]);
     finds(checks, "options over four words", b"a{,200}b", b"b", &[1]);
     finds(checks, "eight deep", &unions(8), b"xab", &[2, 3]);
+    finds(checks, "an edge over an optional group of 131 states", b"x(a{64}|b{64})?y", b"xyby", &[2]);
+    finds(checks, "a chain over 161 optional groups", &[&b"x"[..], &most()[..most().len() - 8], b"y"].concat(), b"xyabybxb", &[2]);
 }
 
 fn limits(checks: &mut Checks) {
@@ -135,7 +146,7 @@ fn long_texts(checks: &mut Checks) {
 
 fn stack(checks: &mut Checks) {
     let of = |rule: &[u8]| image(&parse(rule).expect("a rule"));
-    let images = [of(b"a"), of(&longest()), of(b"A(AB|B?)(B?.*|AB)C"), vec![0; 9], Vec::new()];
+    let images = [of(b"a"), of(&longest()), of(&most()), of(b"A(AB|B?)(B?.*|AB)C"), vec![0; 9], Vec::new()];
     let calls = images.iter().flat_map(|words| [0, 70].map(|length| match_call(words, &vec![b'a'; length], 100)));
     checks.stack("match", 64 << 10, &calls.collect::<Vec<_>>());
 }

@@ -20,7 +20,7 @@ pub fn all(checks: &mut Checks) {
 }
 
 /// Rule, text, end, and the proposal where the rule leaves no choice.
-const LATEST: [(&str, &str, u64, u64, &[u32]); 12] = [
+const LATEST: [(&str, &str, u64, u64, &[u32]); 15] = [
     ("a", "aba", 3, 2, &[1]),
     ("a+", "aaa", 3, 2, &[1]),
     ("a{2,3}", "aaaa", 4, 2, &[2, 3]),
@@ -30,10 +30,13 @@ const LATEST: [(&str, &str, u64, u64, &[u32]); 12] = [
     ("(abc|c)", "abc", 3, 2, &[6]),
     ("(c|abc)", "xabc", 4, 3, &[2]),
     ("(ab|a+b*c)", "aabc", 4, 1, &[5, 6, 7]),
+    ("x(ab)?y", "xaby", 4, 0, &[1, 3, 4, 6]),
+    ("(ab)?y", "aby", 3, 2, &[5]),
     // what can be empty has no bytes
     ("b?", "ab", 0, 0, &[]),
     ("b?", "ab", 2, 2, &[]),
     ("(a*|bc)", "bcaa", 4, 4, &[]),
+    ("(ab)?", "ab", 2, 2, &[]),
 ];
 
 fn latest(checks: &mut Checks) {

@@ -2,6 +2,7 @@
 
 use crate::build::{longest, unions};
 use crate::checks::{Checks, LONGEST};
+use crate::optional::most;
 use outside_checks::driver::{read_back_call, Answer};
 use outside_checks::generate::{nested, sized, small, Random};
 use outside_checks::independent::{build, image, parse, writing, Class, Item, Repeat, Sequence};
@@ -30,7 +31,7 @@ fn rooms(checks: &mut Checks, what: &str, image: &[u64], plain: &[u8]) {
 }
 
 /// What the proved build gives for a rule, read back as the plain writing by the independent program.
-fn built(checks: &mut Checks, what: &str, rule: &[u8], plain: &[u8]) {
+pub fn built(checks: &mut Checks, what: &str, rule: &[u8], plain: &[u8]) {
     if let Some(image) = checks.built(what, rule) {
         rooms(checks, &format!("{what}, rule {}", rule.escape_ascii()), &image, plain);
     }
@@ -134,6 +135,6 @@ fn long_writings(checks: &mut Checks) {
 fn stack(checks: &mut Checks) {
     let mut wider = parse(&longest()).expect("a rule");
     widen(&mut Random::new(0), &mut wider);
-    let images = [image(&parse(b"a").expect("a rule")), image(&wider), vec![0; 9], Vec::new()];
-    checks.stack("read back", 16 << 10, &images.map(|words| read_back_call(&words, 1 << 19)));
+    let images = [parse(b"a").expect("a rule"), wider, parse(&most()).expect("a rule")].map(|tree| image(&tree)).into_iter().chain([vec![0; 9], Vec::new()]);
+    checks.stack("read back", 16 << 10, &images.map(|words| read_back_call(&words, 1 << 19)).collect::<Vec<_>>());
 }

@@ -1,7 +1,7 @@
 //! What kinds of trees and calls there were, so that none goes missing.
 
 use crate::checks::Checks;
-use outside_checks::independent::{depth, states, Item};
+use outside_checks::independent::{depth, optional_unions, states, Item};
 
 /// How many there were of each kind.
 #[derive(Default)]
@@ -20,8 +20,11 @@ impl Seen {
         self.add(kind, usize::from(is_one));
     }
 
-    /// A tree, by its size.
+    /// A tree, by its size and its optional unions.
     pub fn tree(&mut self, tree: &[Item]) {
+        let optional = optional_unions(tree);
+        self.note("with an optional union of one alternative", optional.contains(&1));
+        self.note("of several", optional.iter().any(|count| *count > 1));
         self.note("over 64 states", states(tree) > 64);
         self.note("over 448 states", states(tree) > 448);
         self.note("eight deep", depth(tree) == 8);

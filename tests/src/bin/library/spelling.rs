@@ -20,7 +20,7 @@ fn proposal(start: u64, end: u64, states: &[u32]) -> Proposal {
 }
 
 /// Rule, text, start, end, states, and whether it is right.
-const EXAMPLES: [(&str, &str, u64, u64, &[u32], bool); 32] = [
+const EXAMPLES: [(&str, &str, u64, u64, &[u32], bool); 38] = [
     ("a", "aba", 0, 1, &[1], true),
     ("a", "aba", 2, 3, &[1], true),
     // another byte; state 0, entered by nothing; a state past the accepting one; a list too short and too long
@@ -61,6 +61,13 @@ const EXAMPLES: [(&str, &str, u64, u64, &[u32], bool); 32] = [
     // the latest start is not the only one
     ("a+b", "aab", 1, 3, &[1, 2], true),
     ("a+b", "aab", 0, 3, &[1, 1, 2], true),
+    // an optional group: left out, taken, and left in its middle; its end is entered without a letter
+    ("(a)?", "a", 1, 1, &[], true),
+    ("(a)?", "a", 0, 1, &[2], true),
+    ("(a)?", "a", 0, 1, &[3], false),
+    ("x(ab)?y", "xy", 0, 2, &[1, 6], true),
+    ("x(ab)?y", "xaby", 0, 4, &[1, 3, 4, 6], true),
+    ("x(ab)?y", "xay", 0, 3, &[1, 3, 6], false),
 ];
 
 fn examples(checks: &mut Checks) {
@@ -79,7 +86,7 @@ fn lists(length: usize, n: u32) -> Vec<Vec<u32>> {
 
 /// One that gets yes exists exactly for document 01's ends, and the latest start of those is the proposer's.
 fn every_proposal(checks: &mut Checks) {
-    for rule in ["a", "b?", "a*b?c+", "a?b*", "(a|b*)", "a(b|a?)", "(ab|a+)"] {
+    for rule in ["a", "b?", "a*b?c+", "a?b*", "(a|b*)", "a(b|a?)", "(ab|a+)", "a(ab)?", "((a)?b)?"] {
         let (tree, m) = (parse(rule.as_bytes()).expect("a rule"), image_of(rule.as_bytes())[1] as u32);
         for text in ["", "a", "ab", "aab", "bca"] {
             let (mut starts, ends) = (vec![None; text.len() + 1], ends(&tree, text.as_bytes()));

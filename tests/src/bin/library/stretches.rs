@@ -35,10 +35,10 @@ fn placed(before: usize, length: usize, after: usize, middle: &[u8]) -> Vec<u8> 
 
 fn blocks(checks: &mut Checks) {
     let mut r = Random::new(9);
-    let rules = [("ab*c", &b"b"[..]), ("a(b?|d?)[bd]*(b|d|e*)c", b"bd"), ("a.*.*(bd*|b*|.)c", b"bd")];
+    let rules = [("ab*c", &b"b"[..]), ("a(b?|d?)[bd]*(b|d|e*)c", b"bd"), ("a.*.*(bd*|b*|.)c", b"bd"), ("a(bd)?[bd]*((b|e)d*)?c", b"bd")];
     for length in [2, 3, 254, 255, 256, 257, 258, 511, 512, 513, 767, 768, 769] {
         for (before, after) in [(0, 0), (1, 0), (0, 1), (254, 3), (255, 0), (256, 1), (257, 255), (300, 256), (513, 600)] {
-            let (rule, middle) = rules[r.below(3)];
+            let (rule, middle) = rules[r.below(4)];
             let text = placed(before, length, after, middle);
             spelled(checks, rule.as_bytes(), &[&text], &mut |s| {
                 proposed(s, &mut r, before + length);

@@ -45,7 +45,7 @@ fn unmoved(number: u64, room: usize, lent: &Watch) -> Watched {
 }
 
 fn begin(checks: &mut Checks) {
-    for (rule, first) in [("a", &[][..]), ("b?", &[0]), ("(a|b*)", &[0]), ("a{,200}", &[0]), ("a?b", &[])] {
+    for (rule, first) in [("a", &[][..]), ("b?", &[0]), ("(a|b*)", &[0]), ("a{,200}", &[0]), ("(ab)?", &[0]), ("a?b", &[])] {
         let words = image_of(rule.as_bytes());
         let (_, watch) = Edges::of(&parse(rule.as_bytes()).expect("a rule")).begin();
         for room in [0, 1, 3] {
@@ -89,7 +89,7 @@ fn bits(checks: &mut Checks) {
 
 /// At place 0, closed or not, accepting or not: no bytes change nothing and are no end.
 fn every_mask(checks: &mut Checks) {
-    for rule in ["b?", "a*b?c+", "(a|b*)", "((a|b)|c?)"] {
+    for rule in ["b?", "a*b?c+", "(a|b*)", "((a|b)|c?)", "((a)?b)?", "((a|b))?"] {
         let words = image_of(rule.as_bytes());
         for mask in 0..1 << words[1] {
             let (what, lent) = (format!("rule {rule}, mask {mask:x}"), Watch { mask: vec![mask], place: 0 });

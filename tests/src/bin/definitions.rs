@@ -2,9 +2,10 @@
 //! spellings, that the one answer which the table gives is the vector's. `rt check` then computes them over a copy of the crate `model`.
 //! Usage: definitions VECTORS OUT
 
+use outside_checks::independent::{optional_unions, tree_of};
 use outside_checks::spellings::{checks, proposals};
 use outside_checks::watches::{watches, WatchCall};
-use outside_checks::{bytes, places, runs, vectors, word, Runs};
+use outside_checks::{bytes, expand, places, runs, vectors, word, Runs};
 use std::collections::HashMap;
 use std::fmt::Write as _;
 use std::fs;
@@ -14,6 +15,9 @@ use std::path::Path;
 const STATES: u64 = 7;
 const IMAGE_STATES: u64 = 3;
 const BYTES: usize = 24;
+
+/// An image with an optional union has four states at least; there are few of at most so many.
+const OPTIONAL_STATES: u64 = 8;
 
 /// So many calls of a watch of each kind are enough, and so many of spellings.
 const EACH: usize = 4;
@@ -142,6 +146,16 @@ impl Theorems {
     }
 }
 
+fn has_optional_union(image: &Runs) -> bool {
+    tree_of(&expand(image)).is_some_and(|tree| !optional_unions(&tree).is_empty())
+}
+
+/// Whether an image is too large. Of those that come with wish 3 the ones without an optional union are like those before it.
+fn left_out(place: &str, image: &Runs) -> bool {
+    let states = word(image, 1);
+    states > OPTIONAL_STATES || (states > IMAGE_STATES || place.starts_with("wish-03")) && !has_optional_union(image)
+}
+
 fn answers(folder: &Path) -> Theorems {
     let mut t = Theorems::of(ANSWERS);
     let answer = |number: &str, count: &str, after: &Runs| format!("{number} {count} {}", list(after));
@@ -156,18 +170,18 @@ fn answers(folder: &Path) -> Theorems {
         let call = format!("buildAnswer {} {}", numbers(rule.iter().map(|b| u64::from(*b))), before(room));
         t.add(call, answer(number, &v[3], &lent(image, room)));
     }
-    for (_, v) in vectors(folder, "readback") {
+    for (place, v) in vectors(folder, "readback") {
         let (image, room) = (runs(&v[0]), v[1].parse::<usize>().unwrap());
-        if word(&image, 1) > IMAGE_STATES {
+        if left_out(&place, &image) {
             t.left_out += 1;
             continue;
         }
         let call = format!("readBackAnswer (expand {}) {}", list(&image), before(room));
         t.add(call, answer(&v[2], &v[3], &lent(singles(bytes(&v[4]).into_iter().map(u64::from)), room)));
     }
-    for (_, v) in vectors(folder, "match") {
+    for (place, v) in vectors(folder, "match") {
         let (image, text, room) = (runs(&v[0]), bytes(&v[1]), v[2].parse::<usize>().unwrap());
-        if word(&image, 1) > IMAGE_STATES || text.len() > BYTES {
+        if left_out(&place, &image) || text.len() > BYTES {
             t.left_out += 1;
             continue;
         }
@@ -177,24 +191,25 @@ fn answers(folder: &Path) -> Theorems {
     t
 }
 
-/// The first calls of each kind, one to a line: begin or step, by number, by whether there are bytes and ends.
+/// The first calls of each kind, one to a line: begin or step, by number, by whether there are bytes, ends and an optional union, of which one is enough.
 fn watched(folder: &Path) -> Theorems {
-    let (mut t, mut seen) = (Theorems::of(WATCHES), HashMap::<_, Vec<usize>>::new());
-    for (line, (_, image, calls)) in watches(folder, &|_| BEFORE).into_iter().enumerate() {
+    let (mut t, mut seen) = (Theorems::of(WATCHES), HashMap::<_, Vec<String>>::new());
+    for (place, image, calls) in watches(folder, &|_| BEFORE) {
+        let (left_out, optional) = (left_out(&place, &image), has_optional_union(&image));
         for WatchCall { lent: given, stretch, room, number, total, ends, after } in calls {
             let bytes = stretch.as_ref().map(Vec::len);
-            let alike = seen.entry((bytes.is_some(), number, bytes > Some(0), total > 0)).or_default();
-            if word(&image, 1) > IMAGE_STATES || bytes > Some(BYTES) || alike.len() == EACH || alike.contains(&line) {
+            let alike = seen.entry((bytes.is_some(), number, bytes > Some(0), total > 0, optional)).or_default();
+            if left_out || bytes > Some(BYTES) || alike.len() == if optional { 1 } else { EACH } || alike.contains(&place) {
                 t.left_out += 1;
                 continue;
             }
-            alike.push(line);
-            let (words, mask, place, ends_before) = (list(&image), numbers(given.mask.into_iter()), given.place, before(room));
+            alike.push(place.clone());
+            let (words, mask, at, ends_before) = (list(&image), numbers(given.mask.into_iter()), given.place, before(room));
             let call = match stretch {
-                None => format!("beginAnswer (expand {words}) {mask} {place} {ends_before}"),
+                None => format!("beginAnswer (expand {words}) {mask} {at} {ends_before}"),
                 Some(bytes) => {
                     let stretch = numbers(bytes.into_iter().map(u64::from));
-                    format!("stepAnswer (expand {words}) {mask} {place} {stretch} {ends_before}")
+                    format!("stepAnswer (expand {words}) {mask} {at} {stretch} {ends_before}")
                 }
             };
             let (mask, ends) = (list(&singles(after.mask.into_iter())), list(&lent(singles(ends.into_iter().map(u64::from)), room)));
@@ -207,9 +222,9 @@ fn watched(folder: &Path) -> Theorems {
 /// The first calls of each kind: check by number and yes, propose by number and whether there are states. Of a proposal the states are free.
 fn spelled(folder: &Path) -> Theorems {
     let (mut t, mut seen) = (Theorems::of(SPELLINGS), HashMap::new());
-    let mut add = |kind: &str, image: Runs, text: Vec<u8>, given: String, number: u64, count: u64| {
+    let mut add = |kind: &str, place: &str, image: Runs, text: Vec<u8>, given: String, number: u64, count: u64| {
         let alike = seen.entry((kind.to_string(), number, count > 0)).or_insert(0);
-        if word(&image, 1) > IMAGE_STATES || text.len() > BYTES || *alike == SPELLED {
+        if left_out(place, &image) || text.len() > BYTES || *alike == SPELLED {
             t.left_out += 1;
             return;
         }
@@ -219,10 +234,10 @@ fn spelled(folder: &Path) -> Theorems {
     };
     for c in checks(folder) {
         let given = format!("{} {} {}", c.proposal.start, c.proposal.end, numbers(c.proposal.states.into_iter().map(u64::from)));
-        add("check", c.image, c.text, given, c.number, u64::from(c.yes));
+        add("check", &c.place, c.image, c.text, given, c.number, u64::from(c.yes));
     }
     for p in proposals(folder) {
-        add("propose", p.image, p.text, format!("{} {}", p.end, before(p.room)), p.number, p.count as u64);
+        add("propose", &p.place, p.image, p.text, format!("{} {}", p.end, before(p.room)), p.number, p.count as u64);
     }
     t
 }

@@ -73,6 +73,25 @@ fn files(checks: &mut Checks) {
     }
 }
 
+/// Left out and taken; written as it is kept, or not where it is dropped; and signs that no group takes.
+fn optional_groups(checks: &mut Checks) {
+    let journal = File::of("startstopstartflushstopstartrinsestopstartdrainstop");
+    let groups = [
+        ("start(flush|drain)?stop", "start(flush|drain)?stop\ntotal 3\n9\n23\n51\n"),
+        ("start((flush|drain))?stop", "start((flush|drain))?stop\ntotal 3\n9\n23\n51\n"),
+        ("start(flush|(drain)?)?stop", "start(flush|(drain)?)stop\ntotal 3\n9\n23\n51\n"),
+        ("start((flush)?(rinse)?)?stop", "start(flush)?(rinse)?stop\ntotal 3\n9\n23\n37\n"),
+        ("(stop)?", "(stop)?\ntotal 52\n0\n1\n2\n"),
+        ("(flush|drain)*", "refused 2\n"),
+        ("(flush|drain)??", "refused 2\n"),
+    ];
+    for (rule, begins) in groups {
+        checks.beside("an optional group", &File::of(rule), &journal, begins);
+    }
+    let nine_deep = (0..9).fold("a".to_string(), |inner, _| format!("({inner}b)?"));
+    checks.beside("nine optional groups in one another", &File::of(nine_deep), &journal, "refused 4\n");
+}
+
 /// A rule whose plain writing is just so long: a class many times, and letters.
 fn written(length: usize) -> Vec<u8> {
     let class = "[!#%'13579ACEGIKMOQSUWYacegikmoqsuwy\\x00\\x02\\x04\\x06\\x08\\x10\\x12\\x14\\x16]";
@@ -145,6 +164,7 @@ fn main() {
     checks.part("outside vectors", |c| outside(c, Path::new(vectors)));
     checks.part("faults planted in copies of an answer", faults);
     checks.part("files", files);
+    checks.part("optional groups", optional_groups);
     checks.part("limits", limits);
     checks.part("rules and journals from seeds", seeds);
     checks.end();

@@ -99,14 +99,28 @@ fn examples(checks: &mut Checks, folder: &Path) {
     for example in shipped {
         let report = String::from_utf8(example.report).expect("a report");
         let places: Vec<usize> = report.lines().skip(2).map(|line| line.parse().expect("a place")).collect();
-        for place in 0..example.journal.len() + 3 {
-            if places.contains(&place) {
-                checks.explained(&example.name, &example.rule, &example.journal, place);
-            } else {
-                checks.says(&example.name, &File::of(&example.rule[..]), &File::of(&example.journal[..]), &format!("place {place}\n"), "refused 16\n");
-            }
+        every_place(checks, &example.name, &example.rule, &example.journal, &places);
+    }
+}
+
+/// Every place of a journal, and some past it: these are the ends.
+fn every_place(checks: &mut Checks, what: &str, rule: &[u8], journal: &[u8], ends: &[usize]) {
+    for place in 0..journal.len() + 3 {
+        if ends.contains(&place) {
+            checks.explained(what, rule, journal, place);
+        } else {
+            checks.says(what, &File::of(rule), &File::of(journal), &format!("place {place}\n"), "refused 16\n");
         }
     }
+}
+
+/// Left out and taken; one in another; and a group that is the whole rule, which is left out at every place.
+fn optional_groups(checks: &mut Checks) {
+    every_place(checks, "an optional group", b"O(flush|drain)?C", b"OCOflushCOrinseCOdrainC", &[2, 9, 23]);
+    every_place(checks, "one in another", b"x((a)?b)?y", b"xyxbyxabyxay", &[2, 5, 9]);
+    every_place(checks, "the whole rule", b"(ab)?", b"ab", &[0, 1, 2]);
+    checks.says("a group taken", &File::of("(ab)?"), &File::of("ab"), "start 0\nend 2\n1 a state 2\n2 b state 3\n", "yes\n");
+    checks.says("a group left in its middle", &File::of("(ab)?"), &File::of("ab"), "start 0\nend 1\n1 a state 2\n", "no\n");
 }
 
 /// The valve's states are determined: the record is the shipped one, and any other state is wrong.
@@ -218,6 +232,7 @@ fn main() {
     let mut checks = Checks::new("explain", program, folder);
     checks.part("shipped examples", |c| examples(c, Path::new(shipped)));
     checks.part("the valve's record", |c| valve(c, Path::new(shipped)));
+    checks.part("optional groups", optional_groups);
     checks.part("refusals", refusals);
     checks.part("unreadable requests", unreadable);
     checks.part("limits", limits);

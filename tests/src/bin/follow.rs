@@ -143,6 +143,8 @@ fn open_pipes(checks: &mut Checks) {
     checks.note("the valve's second opening is seen at once", running.line() == "8");
     checks.note("and the total at the end", running.rest() == ["total 1"]);
     checks.at_once("place 0", b"b?", b"ab");
+    checks.at_once("place 0 of an optional group", b"(ab)?", b"ab");
+    checks.at_once("an optional group", b"O(flush|drain)?C", b"OCOflushCOrinseCOdrainC");
     for seed in 0..40 {
         let (mut r, rule) = generated(seed);
         let length = r.between(1, 60);
@@ -168,6 +170,7 @@ fn refusals(checks: &mut Checks) {
         (File::Folder, 2),
         (File::of(""), 2),
         (File::of("a\n"), 2),
+        (File::of("(flush|drain)*"), 2),
         (File::of("a{512}"), 3),
         (File::of(nine_deep), 4),
     ];
@@ -200,7 +203,7 @@ fn limits(checks: &mut Checks) {
 }
 
 fn long_journals(checks: &mut Checks) {
-    for (seed, rule) in ["ba*|a{7}", "a(b?|c)d", "[ab]{70}(c|d)e*"].into_iter().enumerate() {
+    for (seed, rule) in ["ba*|a{7}", "a(b?|c)d", "[ab]{70}(c|d)e*", "a((bc|d)?e)?f"].into_iter().enumerate() {
         let mut r = Random::new(seed as u64);
         let tree = parse(rule.as_bytes()).expect("a rule");
         let journal = text(&mut r, &tree, 400_000);

@@ -48,6 +48,7 @@ abbrev mutual
   altsEmpty (last s) = seqEmpty s
   altsEmpty (more s a) = seqEmpty s || altsEmpty a
 
+-- THE EDGE OVER A UNION is there, by its mark and its alternatives
 abbrev pub unionEmpty : Mark → Alts → Bool
 unionEmpty m a = canOmit m || altsEmpty a
 

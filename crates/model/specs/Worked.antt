@@ -1,4 +1,5 @@
--- THE WORKED EXAMPLES OF DOCUMENT 01 ("Measured examples"), and some of document 02's spellings (Wish 9), as rows of a rule and what is claimed of it.
+-- THE WORKED EXAMPLES OF DOCUMENT 01 ("Measured examples"), and some of document 02's optional groups (Wish 3) and spellings (Wish 9), as rows of a rule
+-- and what is claimed of it.
 -- Nothing here is believed: proofs/Examples.antt proves every row.
 use mathlib.Core.Path.{_≡_}
 use mathlib.Core.Bool.{Bool}
@@ -88,23 +89,34 @@ marked =
 -- document 02, Wish 3: which groups keep their `?`, and what the edge over them does
 abbrev pub optionalGroups : List Row
 optionalGroups =
-    "(ab)?" ⊨ isWritten "(ab)?"
+    "(flush|drain)?" ⊨ isWritten "(flush|drain)?"
+    ∷ "(flush|drain)?" ⊨ hasStates 14
+    ∷ "(flush|drain)?" ⊨ scatterAt 0 256 1 130
+    ∷ "(flush|drain)?" ⊨ gatherAt 0 8128 4160 8192
+    ∷ "(flush|drain)?" ⊨ propagateAt 0 8193 1 8192
+    ∷ "(flush|drain)?" ⊨ propagateAt 1 0 0 0
+    ∷ "(flush|drain)?" ⊨ hasEnds "drain" (0 ∷ 1 ∷ 2 ∷ 3 ∷ 4 ∷ 5 ∷ [])
+    ∷ "x(fl|dr)?y" ⊨ hasEnds "xyxdryx" (2 ∷ 6 ∷ [])
+    ∷ "x(ab)?y" ⊨ isSpelledBy "xy" 0 2 (1 ∷ 6 ∷ [])
+    ∷ "(ab)?" ⊨ isWritten "(ab)?"
     ∷ "(ab)?" ⊨ hasStates 5
     ∷ "(ab)?" ⊨ propagateAt 0 17 1 16
     ∷ "(ab)?" ⊨ hasEnds "ab" (0 ∷ 1 ∷ 2 ∷ [])
     ∷ "(a?)?" ⊨ isWritten "a?"
     ∷ "(a?)?" ⊨ hasStates 2
-    ∷ "(flush|drain)?" ⊨ isWritten "(flush|drain)?"
-    ∷ "x(fl|dr)?y" ⊨ hasEnds "xyxdryx" (2 ∷ 6 ∷ [])
     ∷ "(a)?" ⊨ isWritten "(a)?"
     ∷ "((ab))?" ⊨ isWritten "(ab)?"
     ∷ "((a|b))?" ⊨ isWritten "((a|b))?"
+    ∷ "((a|b))?" ⊨ hasStates 8
+    ∷ "(a|b)?" ⊨ isWritten "(a|b)?"
+    ∷ "(a|b)?" ⊨ hasStates 6
     ∷ "x(a?b?)?y" ⊨ isWritten "xa?b?y"
     ∷ "(a?|b)?" ⊨ isWritten "(a?|b)"
     ∷ "((ab)?)?" ⊨ isWritten "(ab)?"
     ∷ "((ab)?|c)?" ⊨ isWritten "((ab)?|c)"
     ∷ "(a{,2})?" ⊨ isWritten "a?a?"
     ∷ refusedWith2 "(a)*"
+    ∷ refusedWith2 "(a)+"
     ∷ refusedWith2 "(a)??"
     ∷ refusedWith2 "(a){2}"
     ∷ []

@@ -1,4 +1,4 @@
--- WHAT THE PARTS OF READ BACK WRITE: the text of each token, and of a row of them.
+-- WHAT THE PARTS OF READ BACK FIND AND WRITE: each union's own mark; the text of each token, and of a row of them.
 use mathlib.Core.Path.{_≡_}
 use mathlib.Core.Bool.{cond}
 use mathlib.Core.List.{List, [], _++_}

@@ -1,5 +1,6 @@
-// Read back: from an image to its tree's plain writing (document 01, "Plain writing"). The same functions first find how long the writing is, with no
-// room lent, and then write it: what would lie past the room is counted and not written.
+// Read back: from an image to its tree's plain writing (document 01, "Plain writing"). `own` finds which unions have a `?`, where the masks show an edge
+// only. Then the same functions first find how long the writing is, with no room lent, and then write it: what would lie past the room is counted and
+// not written.
 
 mod letter;
 mod own;

@@ -1,5 +1,5 @@
 // Each union's own mark: a close shows whether an edge leads over its union, and that edge is a `?` only where no alternative can be empty
-// (document 02, wish 3: "a `?` on a group that can already be empty is dropped before the tree is made").
+// (document 02, Wish 3: "a `?` on a group that can already be empty is dropped before the tree is made").
 use scan::begin_scan;
 use scan::innermost;
 use scan::no_frame;
@@ -13,14 +13,14 @@ ghost use Rattle.scan.specs.Tokens.{readKind, tokenOf};
 ghost use Rattle.tape.specs.Tapes.{isTree};
 ghost use Rattle.writing.specs.Work.{OwnMarks};
 
-// The kind of a token with its union's own mark, where `empty` says whether an alternative can be empty.
+// The kind of a token with its union's own mark: where an alternative can be empty, the edge over the union is that alternative's and no `?`.
 fn own_kind(kind: u8, empty: bool) -> u8
     ensures { λ r. ⌜ tokenOf (readKind r) ≡ own (tokenOf (readKind kind)) empty ⌝ }
 {
     if (kind > 6) & empty { 6 } else { kind }
 }
 
-// The tape of a tree, each close with its union's own mark: one scan knows at each close whether an alternative can be empty.
+// A tree's tape, each close with its union's own mark: the scan knows at a close whether an alternative can be empty.
 pub fn own_marks(tape: Tape) -> Tape
     requires { ⌜ T (isTree tape) ⌝ }
     ensures { λ r. ⌜ OwnMarks tape r ⌝ }

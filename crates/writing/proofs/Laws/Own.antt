@@ -28,16 +28,20 @@ use Rattle.tape.proofs.Along.{Along, along-begin, along-misfit, along-ready, al
 use Rattle.writing.specs.Work.{OwnMarks}
 
 -- ---- one kind
-pub own-kind : (k : ℕ) (e : Bool) → tokenOf (readKind (cond (ltb 6 k && e) 6 k)) ≡ own (tokenOf (readKind k)) e
-own-kind zero e = refl
-own-kind (suc zero) e = refl
-own-kind (suc (suc zero)) e = refl
-own-kind (suc (suc (suc zero))) e = refl
-own-kind (suc (suc (suc (suc zero)))) e = refl
-own-kind (suc (suc (suc (suc (suc zero))))) e = refl
-own-kind (suc (suc (suc (suc (suc (suc zero)))))) e = refl
-own-kind (suc (suc (suc (suc (suc (suc (suc k))))))) true = rw (le-true 7 (suc (suc (suc (suc (suc (suc (suc k))))))) (omega arith))
-own-kind (suc (suc (suc (suc (suc (suc (suc k))))))) false = rw (le-true 7 (suc (suc (suc (suc (suc (suc (suc k))))))) (omega arith))
+with-own-mark : (k : ℕ) (e : Bool) → tokenOf (readKind (cond (ltb 6 k && e) 6 k)) ≡ own (tokenOf (readKind k)) e
+with-own-mark zero e = refl
+with-own-mark (suc zero) e = refl
+with-own-mark (suc (suc zero)) e = refl
+with-own-mark (suc (suc (suc zero))) e = refl
+with-own-mark (suc (suc (suc (suc zero)))) e = refl
+with-own-mark (suc (suc (suc (suc (suc zero))))) e = refl
+with-own-mark (suc (suc (suc (suc (suc (suc zero)))))) e = refl
+with-own-mark (suc (suc (suc (suc (suc (suc (suc k))))))) true = rw (le-true 7 (suc (suc (suc (suc (suc (suc (suc k))))))) (omega arith))
+with-own-mark (suc (suc (suc (suc (suc (suc (suc k))))))) false = rw (le-true 7 (suc (suc (suc (suc (suc (suc (suc k))))))) (omega arith))
+
+-- by the test's outcome b
+pub own-kind : (k : ℕ) (e : Bool) {b : Bool} → (ltb 6 k && e) ≡ b → tokenOf (readKind (cond b 6 k)) ≡ own (tokenOf (readKind k)) e
+own-kind k e h = subst (λ (b : Bool). tokenOf (readKind (cond b 6 k)) ≡ own (tokenOf (readKind k)) e) h (with-own-mark k e)
 
 -- where a token fits, the innermost frame tells whether an alternative can be empty
 own-here : (q : Scan) (fs : List Frame) (top : Frame) (y : Token) → Innermost q top fs → Ready (withFrames q fs) y
@@ -54,7 +58,7 @@ read-more : (ks : List ℕ) (k : ℕ) (l : List tokens.Token) → readKinds (ks 
 read-more [] k l = refl
 read-more (j ∷ ks) k l = ap (λ (z : List tokens.Token). tokenOf (readKind j) ∷ z) (read-more ks k l)
 
--- ---- the loop
+-- ---- the loop, before token i
 pub record Owning (t : Tape) (kinds : List ℕ) (fs : List Frame) (q : Scan) (i : ℕ) : Type 0 where
   pub nine : length fs ≡ 9
   pub room : length kinds ≡ 512

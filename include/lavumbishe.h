@@ -1,7 +1,7 @@
 /* Lavumbishe for C and C++: build, read back and match; the watch: begin and step; spellings: check and propose.
  *
  * A rule becomes an image, tables of bit masks in 64-bit words. The image is what the panel stores and runs; the rule is not needed again. What
- * each function does is proved for every input, whatever the words and bytes are (docs/PROMISES.md); the rules' grammar is document 01's.
+ * each function does is proved for every input, whatever the words and bytes are (docs/PROMISES.md); the rules' grammar is that of documents 01 and 02.
  *
  *     uint64_t image[LAVUMBISHE_IMAGE_WORDS];
  *     uint64_t built = lavumbishe_build(rule, rule_len, image, LAVUMBISHE_IMAGE_WORDS);

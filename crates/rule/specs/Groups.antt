@@ -1,5 +1,4 @@
 -- ALTERNATIVES MADE ONE ITEM: what `group` and its callers read and write.
-use mathlib.Core.Path.{_≡_}
 use mathlib.Core.Bool.{Bool, true, not, _&&_, _||_, cond}
 use mathlib.Core.List.{List}
 use Prim.Native.Nat.{ℕ, _+_, _*_, _^_, _≤_, _<_}

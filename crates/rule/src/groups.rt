@@ -8,9 +8,7 @@ use scan::token::Mark;
 use scan::token::can_omit;
 ghost use mathlib.Core.Path.{_≡_};
 ghost use Prim.Native.Nat.{_^_, _≤_, _<_};
-ghost use lib.ListN.{drop, length};
-ghost use Rattle.model.specs.Models.Reader.{readMark};
-ghost use Rattle.model.specs.Tree.{unmarked};
+ghost use lib.ListN.{length};
 ghost use Rattle.scan.specs.Tokens.{markOf};
 ghost use Rattle.rule.specs.Groups.{bracketed, bracketWords, Closes, Countable, groupedItem, groupedWords, MarkSays, Sane};
 

@@ -15,7 +15,7 @@ use Rattle.model.specs.Models.Tokens.{aBar, Token}
 use Rattle.model.specs.Tree.{Alts, end, glue, last, more, once, option, Seq}
 use Rattle.model.proofs.Laws.Bool.{is-true, unequal}
 use Rattle.model.proofs.Reading.Cycle.{alts, alts-is, item, item-falls, item-is, seq, seq-falls, seq-is}
-use Rattle.kinds.specs.Places.{Stopped, Took}
+use Rattle.kinds.specs.Places.{Stopped}
 use Rattle.rule.specs.Groups.{closed}
 use Rattle.rule.specs.Parts.{AlternativesSay, PartSays, seqTokens, severalOf, Wrote}
 use Rattle.signs.specs.Repeats.{Bounded}

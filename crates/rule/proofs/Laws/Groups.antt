@@ -5,15 +5,15 @@ use mathlib.Core.Bool.{Bool, true, false, not, cond}
 use mathlib.Core.List.{List, [], _∷_, _++_}
 use Prim.Native.Nat.{ℕ, _+_, _-_, _*_, _≤_, _<_}
 use native.Mathlib.Omega.{arith}
-use lib.ListN.{drop, getD, length, length-append}
+use lib.ListN.{getD, length, length-append}
 use lib.Seq.{sets}
 use Rattle.model.specs.Bytes.{byte}
 use Rattle.model.specs.Edges.{altsEmpty, seqEmpty}
 use Rattle.model.specs.Grammar.{bracket, grouped}
 use Rattle.model.specs.Models.Apart.{markOf}
 use Rattle.model.specs.Models.Reader.{bind, got, past, Read, readMark}
-use Rattle.model.specs.Models.Tokens.{aClose, anOpen, shown, Token, tokens}
-use Rattle.model.specs.Tree.{Alts, end, last, Mark, more, optional, Seq, union, unmarked}
+use Rattle.model.specs.Models.Tokens.{aClose, anOpen, shown, Token}
+use Rattle.model.specs.Tree.{Alts, end, last, Mark, more, optional, union, unmarked}
 use Rattle.model.proofs.Reading.WellFormed.{several}
 use Rattle.kinds.specs.Places.{Stopped, Took}
 use Rattle.scan.specs.Tokens as token

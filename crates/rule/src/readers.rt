@@ -98,25 +98,26 @@ fn read_item(rule: &[u8], at: usize, tokens: &mut [u64; 2555], n: usize) -> Part
     close_item(rule, tokens, n, alternatives)
 }
 
-// One or more items of a sequence that can be empty so far or not. "An item that isn't read ends the whole reading at once."
-fn read_sequence(
-    rule: &[u8],
-    at: usize,
-    tokens: &mut [u64; 2555],
-    n: usize,
-    can_be_empty: bool,
-) -> Part
+// One or more items. "An item that isn't read ends the whole reading at once."
+fn read_sequence(rule: &[u8], at: usize, tokens: &mut [u64; 2555], n: usize) -> Part
     requires { ⌜ Ready (now rule) at n ⌝ }
-    ensures { λ r. ⌜ PartSays «can_be_empty» (now (rule .entry)) n (seq (drop at (now (rule .entry)))) (now (tokens .entry)) (now (tokens .exit)) r ⌝ }
+    ensures { λ r. ⌜ PartSays true (now (rule .entry)) n (seq (drop at (now (rule .entry)))) (now (tokens .entry)) (now (tokens .exit)) r ⌝ }
 {
-    let item = read_item(rule, at, tokens, n);
-    let Part::Got(p, next, empty) = item else {
-        return item;
-    };
-    if is_over(rule, p) {
-        return Part::Got(p, next, can_be_empty & empty);
+    let mut place = at;
+    let mut next = n;
+    let mut can_be_empty = true;
+    loop {
+        let item = read_item(rule, place, tokens, next);
+        let Part::Got(p, count, empty) = item else {
+            return item;
+        };
+        can_be_empty = can_be_empty & empty;
+        if is_over(rule, p) {
+            return Part::Got(p, count, can_be_empty);
+        }
+        place = p;
+        next = count;
     }
-    read_sequence(rule, p, tokens, next, can_be_empty & empty)
 }
 
 // One or more sequences, with `|` between them.
@@ -124,7 +125,7 @@ pub fn read_alternatives(rule: &[u8], at: usize, tokens: &mut [u64; 2555], n: us
     requires { ⌜ Ready (now rule) at n ⌝ }
     ensures { λ r. ⌜ AlternativesSay (now (rule .entry)) n (alts (drop at (now (rule .entry)))) (now (tokens .entry)) (now (tokens .exit)) r ⌝ }
 {
-    let sequence = read_sequence(rule, at, tokens, n, true);
+    let sequence = read_sequence(rule, at, tokens, n);
     match sequence {
         Part::Got(p, next, empty) => {
             if byte_at(rule, p) != b'|' {

@@ -1,14 +1,16 @@
 -- The three readers do what the model's three do, by one induction: from call to call the bytes that remain fall, and each way out of a reader is
 -- one law of Laws/Cycle.
 use mathlib.Core.Path.{sym, _∙_, subst}
-use mathlib.Core.Bool.{true}
+use mathlib.Core.Bool.{Bool, true, _&&_}
 use mathlib.Core.List.{List}
-use Prim.Native.Nat.{ℕ, _+_, _-_, _*_, _<_}
+use Prim.Native.Nat.{ℕ, _+_, _-_, _*_, _≤_, _<_}
+use native.Mathlib.Nat.{le-refl}
 use native.Mathlib.Omega.{arith}
 use borrow.Author.Needs.{needs}
 use lib.ListN.{drop, length}
 use Rattle.model.proofs.Reading.Cycle.{alts, item, seq}
-use Rattle.rule.specs.Parts.{AlternativesSay, PartSays}
+use Rattle.rule.specs.Parts.{AlternativesSay, PartSays, Ready}
+use Rattle.rule.specs.declared.Part.{Part}
 use Rattle.rule.specs.declared.Part.the-variants.{Got as aPart}
 use Rattle.rule.proofs.Laws.Cycle.{alternatives-end, alternatives-go, alternatives-stop, item-bracket, item-letter, item-on, sequence-ends, sequence-goes, sequence-on, sequence-stops}
 use Rattle.rule.proofs.Laws.Groups.{says-sane}
@@ -69,7 +71,7 @@ abbrev item-callees : ℕ → read-item-lts.Claims
 item-callees t = (byte-at-reads.Asked, byte-at-reads.Learnt, read-piece-reads.Asked, read-piece-reads.Learnt, read-alternatives-below t, read-alternatives.Post, close-item-reads.Asked, close-item-reads.Learnt)
 
 abbrev sequence-callees : ℕ → read-sequence-lts.Claims
-sequence-callees t = (read-item-below t, read-item.Post, is-over-reads.Asked, is-over-reads.Learnt, read-sequence-below t, read-sequence.Post)
+sequence-callees t = (read-item-below t, read-item.Post, is-over-reads.Asked, is-over-reads.Learnt)
 
 -- ---- items
 read-item-byte-at-requires : (t : ℕ) → read-item-lts.Need-byte-at-requires (item-callees t) (read-item-at t) read-item.Post
@@ -111,53 +113,79 @@ read-item-returns-2 t c =
     (c .before .before .before .before .if1 .left) (c .close-item .ensures (alts (drop (a .at + 1) (a .rule .now))) (a .tokens .now) (r .ensures))
 
 -- ---- sequences
-read-sequence-read-item-requires : (t : ℕ) → read-sequence-lts.Need-read-item-requires (sequence-callees t) (read-sequence-at t) read-sequence.Post
-read-sequence-read-item-requires t c κs = let s = c .before .before in (omega (arith, s .pre .0), s .pre .1)
+-- before an item, which begins at a place of its own: whatever the items from here on say, the whole sequence says
+record Going (rule : List ℕ) (at : ℕ) (before : List ℕ) (n : ℕ) (now : List ℕ) (place next : ℕ) (can-be-empty : Bool) : Type 0 where
+  ready : Ready rule place next
+  on : at ≤ place
+  goes : (final : List ℕ) (r : Part) → PartSays can-be-empty rule next (seq (drop place rule)) now final r → PartSays true rule n (seq (drop at rule)) before final r
 
-read-sequence-enum-known-item : (t : ℕ) → read-sequence-lts.Need-enum-known-item (sequence-callees t) (read-sequence-at t) read-sequence.Post
+abbrev Inv-items : read-sequence-lts.InvT-loop
+Inv-items rule at tokens₀ n place₀ next₀ can-be-empty₀ tokens place next can-be-empty = Going rule at tokens₀ n tokens place next can-be-empty
+
+abbrev μ-items : read-sequence-lts.MeasureT-loop
+μ-items rule at tokens₀ n place₀ next₀ can-be-empty₀ tokens place next can-be-empty = length rule - place
+
+read-sequence-loop-holds : (t : ℕ) → read-sequence-lts.Need-loop-holds (sequence-callees t) (read-sequence-at t) read-sequence.Post Inv-items μ-items
+read-sequence-loop-holds t c = record { ready = c .before .pre .1; on = le-refl (c .before .args .at); goes = λ final r s. s }
+
+read-sequence-read-item-requires : (t : ℕ) → read-sequence-lts.Need-read-item-requires (sequence-callees t) (read-sequence-at t) read-sequence.Post Inv-items μ-items
+read-sequence-read-item-requires t c κs = let i = c .before .loop .inv in (omega (arith, c .before .before .before .pre .0, i .on, i .ready .inside), i .ready)
+
+read-sequence-enum-known-item : (t : ℕ) → read-sequence-lts.Need-enum-known-item (sequence-callees t) (read-sequence-at t) read-sequence.Post Inv-items μ-items
 read-sequence-enum-known-item t c = search needs
 
-read-sequence-enum-told : (t : ℕ) → read-sequence-lts.Need-enum-told (sequence-callees t) (read-sequence-at t) read-sequence.Post
+read-sequence-enum-told : (t : ℕ) → read-sequence-lts.Need-enum-told (sequence-callees t) (read-sequence-at t) read-sequence.Post Inv-items μ-items
 read-sequence-enum-told t c = search needs
 
-read-sequence-returns : (t : ℕ) → read-sequence-lts.Need-returns (sequence-callees t) (read-sequence-at t) read-sequence.Post
+read-sequence-returns : (t : ℕ) → read-sequence-lts.Need-returns (sequence-callees t) (read-sequence-at t) read-sequence.Post Inv-items μ-items
 read-sequence-returns t c =
-    let a = c .before .before .before .before .before .args in
+    let l = c .before .before .before .before .loop in
+    let rule = c .before .before .before .before .before .before .args .rule .now in
     let r = c .before .before .read-item in
     let e = c .enum-told .given .1 in
-    subst (PartSays (a .can-be-empty) (a .rule .now) (a .n) (seq (drop (a .at) (a .rule .now))) (a .tokens .now) (r .last .1 .1 .0)) (sym e)
-    (sequence-stops (a .rule .now) (a .at) (rw e at (r .ensures)))
+    l .inv .goes (r .last .1 .1 .0) (r .result)
+    (subst (PartSays (l .can-be-empty) rule (l .next) (seq (drop (l .place) rule)) (l .tokens) (r .last .1 .1 .0)) (sym e)
+    (sequence-stops rule (l .place) (rw e at (r .ensures))))
 
 -- the item that was read
-item-read : (t : ℕ) (k : read-sequence-lts.After-known-told (sequence-callees t) (read-sequence-at t) read-sequence.Post)
-    → let a = k .before .before .before .before .before .before .args in let r = k .before .before .before .read-item in let g = k .before .item .given .0 in
-    PartSays true (a .rule .now) (a .n) (item (drop (a .at) (a .rule .now))) (a .tokens .now) (r .last .1 .1 .0) (aPart (g .0) (g .1 .0) (g .1 .1 .0))
+item-read : (t : ℕ) (k : read-sequence-lts.After-known-told (sequence-callees t) (read-sequence-at t) read-sequence.Post Inv-items μ-items)
+    → let rule = k .before .before .before .before .before .before .before .args .rule .now in let l = k .before .before .before .before .before .loop in let r = k .before .before .before .read-item in let g = k .before .item .given .0 in
+    PartSays true rule (l .next) (item (drop (l .place) rule)) (l .tokens) (r .last .1 .1 .0) (aPart (g .0) (g .1 .0) (g .1 .1 .0))
 item-read t k = rw (k .before .item .given .1) at (k .before .before .before .read-item .ensures)
 
-read-sequence-is-over-requires : (t : ℕ) → read-sequence-lts.Need-is-over-requires (sequence-callees t) (read-sequence-at t) read-sequence.Post
+read-sequence-is-over-requires : (t : ℕ) → read-sequence-lts.Need-is-over-requires (sequence-callees t) (read-sequence-at t) read-sequence.Post Inv-items μ-items
 read-sequence-is-over-requires t c κs = search needs
 
-read-sequence-returns-2 : (t : ℕ) → read-sequence-lts.Need-returns-2 (sequence-callees t) (read-sequence-at t) read-sequence.Post
+read-sequence-returns-2 : (t : ℕ) → read-sequence-lts.Need-returns-2 (sequence-callees t) (read-sequence-at t) read-sequence.Post Inv-items μ-items
 read-sequence-returns-2 t c =
     let k = c .before .before in
-    let a = k .before .before .before .before .before .before .args in
-    sequence-ends (a .rule .now) (a .at) (a .n) (item-read t k .1) (a .can-be-empty) (sym (c .before .is-over .ensures) ∙ c .if1 .taken)
+    let l = k .before .before .before .before .before .loop in
+    let rule = k .before .before .before .before .before .before .before .args .rule .now in
+    let r = k .before .before .before .read-item in
+    let g = k .before .item .given .0 in
+    l .inv .goes (r .last .1 .1 .0) (aPart (g .0) (g .1 .0) (l .can-be-empty && g .1 .1 .0))
+    (sequence-ends rule (l .place) (l .next) (item-read t k .1) (l .can-be-empty) (sym (c .before .is-over .ensures) ∙ c .if1 .taken))
 
-read-sequence-read-sequence-requires : (t : ℕ) → read-sequence-lts.Need-read-sequence-requires (sequence-callees t) (read-sequence-at t) read-sequence.Post
-read-sequence-read-sequence-requires t c κs =
-    let k = c .before .before .before in
-    let s = k .before .before .before .before .before .before in
+read-sequence-loop-less : (t : ℕ) → read-sequence-lts.Need-loop-less (sequence-callees t) (read-sequence-at t) read-sequence.Post Inv-items μ-items
+read-sequence-loop-less t c =
+    let k = c .before .before in
+    let l = k .before .before .before .before .before .loop in
     let w = item-read t k .1 in
-    let o = item-on (s .args .rule .now) (s .args .at) (s .args .n) w in
-    (omega (arith, s .pre .0, w .took .inside), record { inside = w .took .inside; short = s .pre .1 .short; few = w .few })
+    omega (arith, item-on (k .before .before .before .before .before .before .before .args .rule .now) (l .place) (l .next) w, w .took .inside)
 
-read-sequence-returns-3 : (t : ℕ) → read-sequence-lts.Need-returns-3 (sequence-callees t) (read-sequence-at t) read-sequence.Post
-read-sequence-returns-3 t c =
-    let k = c .before .before .before .before in
-    let a = k .before .before .before .before .before .before .args in
-    let r = c .read-sequence in
-    sequence-goes (a .rule .now) (a .at) (a .n) (item-read t k .1) (a .can-be-empty) (sym (c .before .before .before .is-over .ensures) ∙ c .before .before .if1 .left)
-    (r .last .1 .1 .0) (r .result) (r .ensures)
+read-sequence-loop-again : (t : ℕ) → read-sequence-lts.Need-loop-again (sequence-callees t) (read-sequence-at t) read-sequence.Post Inv-items μ-items
+read-sequence-loop-again t c =
+    let k = c .before .before in
+    let l = k .before .before .before .before .before .loop in
+    let rule = k .before .before .before .before .before .before .before .args .rule .now in
+    let r = k .before .before .before .read-item in
+    let w = item-read t k .1 in
+    let o = sym (c .before .is-over .ensures) ∙ c .if1 .left in
+    record {
+      ready = record { inside = w .took .inside; short = l .inv .ready .short; few = w .few };
+      on = omega (arith, l .inv .on, item-on rule (l .place) (l .next) w);
+      goes = λ final q s. l .inv .goes final q (sequence-goes rule (l .place) (l .next) w (l .can-be-empty) o final q s);
+    }
 
 -- ---- alternatives
 read-alternatives-read-sequence-requires : (t : ℕ) → read-alternatives-lts.Need-read-sequence-requires (alternatives-callees t) (read-alternatives-at t) read-alternatives.Post
@@ -237,4 +265,4 @@ pub +read-alternatives+read-item+read-sequence-spec : {M : Type 1} → statement
     close μ-read-alternatives μ-read-item μ-read-sequence
     (λ t. read-alternatives-lts.spec (alternatives-callees t) (read-alternatives-at t) read-alternatives.Post (read-alternatives-read-sequence-requires t) (read-alternatives-enum-known-sequence t) (read-alternatives-byte-at-requires t) (read-alternatives-returns t) (read-alternatives-put-union-requires t) (read-alternatives-add-read-alternatives t) (read-alternatives-add-read-alternatives-2 t) (read-alternatives-read-alternatives-requires t) (read-alternatives-several-requires t) (read-alternatives-enum-known-sequence-2 t) (read-alternatives-returns-2 t) (read-alternatives-returns-3 t))
     (λ t. read-item-lts.spec (item-callees t) (read-item-at t) read-item.Post (read-item-byte-at-requires t) (read-item-read-piece-requires t) (read-item-returns t) (read-item-add-read-alternatives t) (read-item-read-alternatives-requires t) (read-item-close-item-requires t) (read-item-returns-2 t))
-    (λ t. read-sequence-lts.spec (sequence-callees t) (read-sequence-at t) read-sequence.Post (read-sequence-read-item-requires t) (read-sequence-enum-known-item t) (read-sequence-enum-told t) (read-sequence-returns t) (read-sequence-is-over-requires t) (read-sequence-returns-2 t) (read-sequence-read-sequence-requires t) (read-sequence-returns-3 t))
+    (λ t. read-sequence-lts.spec (sequence-callees t) (read-sequence-at t) read-sequence.Post Inv-items μ-items (read-sequence-loop-holds t) (read-sequence-read-item-requires t) (read-sequence-enum-known-item t) (read-sequence-enum-told t) (read-sequence-returns t) (read-sequence-is-over-requires t) (read-sequence-returns-2 t) (read-sequence-loop-less t) (read-sequence-loop-again t))

@@ -124,8 +124,8 @@ pub fn sequence(r: &mut Random, size: usize, depth: usize, out: &mut Vec<u8>) {
     }
 }
 
-/// Several alternatives with `?` or without, or one with it: a union, but for a `?` that is dropped where one of them can be empty. One more `?` round
-/// such a group is always dropped.
+/// Several alternatives with `?` or without, or one with it, which is dropped where one of them can be empty. One more `?` round such a group is always
+/// dropped.
 fn group(r: &mut Random, size: usize, depth: usize, out: &mut Vec<u8>) {
     let (start, count) = (out.len(), *r.pick(&[1, 2, 2, 3, 4]));
     alternatives(r, size, count, depth, out);

@@ -191,7 +191,7 @@ fn answers(folder: &Path) -> Theorems {
     t
 }
 
-/// The first calls of each kind, one to a line: begin or step, by number, by whether there are bytes, ends and an optional union, of which one is enough.
+/// The first calls of each kind, one to a line: begin or step, by number, by whether there are bytes and ends; and one of each with an optional union.
 fn watched(folder: &Path) -> Theorems {
     let (mut t, mut seen) = (Theorems::of(WATCHES), HashMap::<_, Vec<String>>::new());
     for (place, image, calls) in watches(folder, &|_| BEFORE) {

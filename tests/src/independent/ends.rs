@@ -17,7 +17,10 @@ fn lay<'a>(sequence: &'a [Item], mut next: usize, points: &mut Vec<Point<'a>>) -
     for item in sequence.iter().rev() {
         let point = match item {
             Item::Letter(class, repeat) => Point::Letter(class, *repeat, next),
-            Item::Union(mark, alternatives) => Point::Choice(alternatives.iter().map(|a| lay(a, next, points)).chain(mark.skips().then_some(next)).collect()),
+            Item::Union(mark, alternatives) => {
+                let begins = alternatives.iter().map(|a| lay(a, next, points));
+                Point::Choice(begins.chain(mark.skips().then_some(next)).collect())
+            }
         };
         points.push(point);
         next = points.len() - 1;

@@ -110,13 +110,7 @@ pub fn tree_of(words: &[u64]) -> Option<Sequence> {
         let class: Vec<bool> = (0..256).map(|b| bit(letters + b * width, state)).collect();
         if class.contains(&true) {
             let loops = (0..256).any(|b| bit(repeats + b * width, state));
-            let repeat = match (skipped(state), loops) {
-                (false, false) => Repeat::Once,
-                (true, false) => Repeat::Option,
-                (true, true) => Repeat::Star,
-                (false, true) => Repeat::Plus,
-            };
-            here.push(Item::Letter(Class(class.try_into().unwrap()), repeat));
+            here.push(Item::Letter(Class(class.try_into().unwrap()), Repeat::of(skipped(state), loops)));
         } else if (0..d).any(|k| bit(gather + (3 * k + 2) * width, state)) {
             let (mut alternatives, outside) = open.pop()?;
             alternatives.push(std::mem::replace(&mut here, outside));
@@ -131,15 +125,11 @@ pub fn tree_of(words: &[u64]) -> Option<Sequence> {
     (open.is_empty() && good(&here) && image(&here) == words).then_some(here)
 }
 
-/// Whether a rule can have this tree: brackets round one alternative stay only with a mark, and a mark only where no alternative can be empty.
+/// Whether a rule can have this tree, whose marks stand only where no alternative can be empty: brackets round one alternative stay only with a mark.
 fn good(sequence: &[Item]) -> bool {
-    let stays = |mark: &Mark, alternatives: &[Sequence]| match mark {
-        Mark::Unmarked => alternatives.len() > 1,
-        Mark::Optional => !alternatives.iter().any(|a| can_be_empty(a)),
-    };
     let fine = |item: &Item| match item {
         Item::Letter(..) => true,
-        Item::Union(mark, alternatives) => stays(mark, alternatives) && alternatives.iter().all(|a| good(a)),
+        Item::Union(mark, alternatives) => (alternatives.len() > 1 || *mark == Mark::Optional) && alternatives.iter().all(|a| good(a)),
     };
     !sequence.is_empty() && sequence.iter().all(fine)
 }

@@ -1,5 +1,6 @@
-//! Document 01 with the wishes of document 02 that have landed, once more, written independently of the proofs and of the proved code: a parser, the
-//! plain writing, the image, reading an image back, ends by backtracking, a watch and spellings by its edges, and the answers. Plain and slow; it shares nothing with the crates.
+//! Document 01 and the wishes of document 02 that have landed once more, written independently of the proofs and of the proved code: a parser, the
+//! plain writing, the image, reading an image back, ends by backtracking, a watch and spellings by its edges, and the answers. Plain and slow; it
+//! shares nothing with the crates.
 
 mod answers;
 mod edges;
@@ -30,6 +31,15 @@ pub enum Repeat {
 }
 
 impl Repeat {
+    fn of(skips: bool, loops: bool) -> Repeat {
+        match (skips, loops) {
+            (false, false) => Repeat::Once,
+            (true, false) => Repeat::Option,
+            (true, true) => Repeat::Star,
+            (false, true) => Repeat::Plus,
+        }
+    }
+
     fn skips(self) -> bool {
         matches!(self, Repeat::Option | Repeat::Star)
     }
@@ -38,7 +48,7 @@ impl Repeat {
     }
 }
 
-/// What a union keeps after its brackets.
+/// The sign that a group keeps in the tree.
 #[derive(Clone, Copy, PartialEq, Eq, Debug)]
 pub enum Mark {
     Unmarked,
@@ -47,7 +57,10 @@ pub enum Mark {
 
 impl Mark {
     pub fn skips(self) -> bool {
-        self == Mark::Optional
+        match self {
+            Mark::Unmarked => false,
+            Mark::Optional => true,
+        }
     }
 }
 

@@ -93,7 +93,7 @@ fn other_mark(r: &mut Random, tree: &Sequence) -> Option<Sequence> {
 
 // ---- all images
 
-/// Of images without an optional union, and with such of one alternative and of several, alone, in one another, round a union and one after another.
+/// Of images without optional unions, and with some: of one alternative and of several, in one another, round a union, one after another.
 fn every_bit(checks: &mut Checks) {
     let mut tally = Tally::default();
     for rule in ["a", "(a|b*)", "(a)?", "(a|b*c)?", "((a)?b+)?", "((a|b))?", "(a)?b?(c|d)?"] {
@@ -140,13 +140,13 @@ fn seeds(checks: &mut Checks) {
     seen.tell(checks, "damaged images", 10);
 }
 
-/// Trees that no rule has, or with too many states or depths, laid out as if they were rules'.
-fn ill_formed(checks: &mut Checks) {
+/// Trees that no rule has.
+fn of_no_rule() -> Vec<(&'static str, Sequence)> {
     let a = || vec![Item::Letter(Class(std::array::from_fn(|b| b == 97)), Repeat::Once)];
     let none = || vec![Item::Letter(Class([false; 256]), Repeat::Once)];
     let union = |alternatives: &[Sequence]| vec![Item::Union(Mark::Unmarked, alternatives.to_vec())];
     let optional = |alternatives: &[Sequence]| vec![Item::Union(Mark::Optional, alternatives.to_vec())];
-    let trees = [
+    vec![
         ("no item", vec![]),
         ("a class of no byte", none()),
         ("a class of no byte after a letter", [a(), none()].concat()),
@@ -165,18 +165,28 @@ fn ill_formed(checks: &mut Checks) {
         ("an empty last alternative", union(&[a(), vec![]])),
         ("an empty alternative between two", union(&[a(), vec![], a()])),
         ("an empty last alternative before a union", [union(&[a(), vec![]]), tree_of(b"(a|b)")].concat()),
+    ]
+}
+
+/// Trees with too many states or depths.
+fn past_limits() -> Vec<(&'static str, Sequence)> {
+    vec![
         ("513 states", tree_of(b"a{512}")),
         ("576 states", tree_of(b"a{575}")),
-        ("513 states, eight deep", [tree_of(&longest()), a()].concat()),
+        ("513 states, eight deep", [tree_of(&longest()), tree_of(b"a")].concat()),
         ("513 states in an optional union", tree_of(b"(a{510})?")),
-        ("513 states, 161 optional unions", [tree_of(&most()), a()].concat()),
+        ("513 states, 161 optional unions", [tree_of(&most()), tree_of(b"a")].concat()),
         ("depth 9", tree_of(&unions(9))),
         ("depth 9 in 512 states", [tree_of(&unions(9)), tree_of(b"a{474}")].concat()),
         ("depth 12", tree_of(&unions(12))),
         ("depth 9 of optional unions", tree_of(&optionals(9))),
         ("depth 170 of optional unions", tree_of(&optionals(170))),
-    ];
-    for (what, tree) in trees {
+    ]
+}
+
+/// Such trees laid out as if they were rules'.
+fn ill_formed(checks: &mut Checks) {
+    for (what, tree) in of_no_rule().into_iter().chain(past_limits()) {
         checks.read_back(what, &image(&tree), &Answer::of(6, &[], 40));
         checks.match_ends(what, &image(&tree), b"aab", &Answer::of(6, &[], 4));
         checks.watch_beside(what, &image(&tree), states(&tree).div_ceil(64), b"aab");

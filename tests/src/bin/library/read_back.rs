@@ -133,8 +133,8 @@ fn long_writings(checks: &mut Checks) {
 }
 
 fn stack(checks: &mut Checks) {
-    let mut wider = parse(&longest()).expect("a rule");
+    let [a, mut wider, groups] = [&b"a"[..], &longest(), &most()].map(|rule| parse(rule).expect("a rule"));
     widen(&mut Random::new(0), &mut wider);
-    let images = [parse(b"a").expect("a rule"), wider, parse(&most()).expect("a rule")].map(|tree| image(&tree)).into_iter().chain([vec![0; 9], Vec::new()]);
+    let images = [a, wider, groups].map(|tree| image(&tree)).into_iter().chain([vec![0; 9], Vec::new()]);
     checks.stack("read back", 16 << 10, &images.map(|words| read_back_call(&words, 1 << 19)).collect::<Vec<_>>());
 }

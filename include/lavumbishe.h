@@ -19,7 +19,7 @@
  *  - Areas. Each is a pointer and a length in elements, not in bytes. The area to be written must not overlap one to be read. A
  *    pointer must be aligned for its type and must not be null, also where the length is 0.
  *  - Stack: 1 MiB for build, since the readers nest as deep as the rule's brackets may; 16 KiB for read back, 64 KiB for match, begin, step and check,
- *    128 KiB for propose. The tests measure some 802,000 bytes on x86-64 for build, 8,700 for read back, 14,900 for match, 15,100 for check and 102,500
+ *    128 KiB for propose. The tests measure some 753,000 bytes on x86-64 for build, 11,400 for read back, 14,900 for match, 15,100 for check and 102,500
  *    for propose. Build may be left to the desk: a panel that gets images needs match alone, or begin and step.
  *  - memcpy, memmove and memset, which the compiler may call. Nothing else is called.
  *

@@ -16,10 +16,10 @@ use Rattle.rule.specs.declared.Alternatives.the-variants.{Bad as noAlter
 use Rattle.rule.specs.declared.Part.{Part}
 use Rattle.rule.specs.declared.Part.the-variants.{Bad as noPart, Got as aPart}
 use Rattle.rule.specs.declared.groups.Item.{Item}
-use Rattle.rule.specs.declared.groups.Marked.{Marked}
+use Rattle.rule.specs.declared.groups.GroupMark.{GroupMark}
 
 -- ---- the mark after a `)`
-pub record MarkSays (rule : List ℕ) (at : ℕ) (r : Marked) : Type 0 where
+pub record MarkSays (rule : List ℕ) (at : ℕ) (r : GroupMark) : Type 0 where
   pub took : Took rule (readMark (drop at rule)) (markOf (r .mark)) (r .place)
   pub on : at ≤ r .place
 

@@ -13,7 +13,7 @@ ghost use Rattle.scan.specs.Tokens.{markOf};
 ghost use Rattle.rule.specs.Groups.{bracketed, bracketWords, Closes, Countable, groupedItem, groupedWords, MarkSays, Sane};
 
 // What a group keeps after its `)`, and the place after that.
-struct Marked {
+struct GroupMark {
     mark: Mark,
     place: usize,
 }
@@ -24,17 +24,18 @@ struct Item {
     empty: bool,
 }
 
-fn read_mark(rule: &[u8], at: usize) -> Marked
+// The sign of a group, if it has one that a group may keep; any other byte is left to those who read on.
+fn read_mark(rule: &[u8], at: usize) -> GroupMark
     requires { ⌜ (at ≤ length (now rule)) × (length (now rule) ≤ 1024) ⌝ }
     ensures { λ r. ⌜ MarkSays (now (rule .entry)) at r ⌝ }
 {
     if byte_at(rule, at) == b'?' {
-        return Marked {
+        return GroupMark {
             mark: Mark::Optional,
             place: at + 1,
         };
     }
-    Marked {
+    GroupMark {
         mark: Mark::Unmarked,
         place: at,
     }

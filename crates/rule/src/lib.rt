@@ -17,7 +17,7 @@ enum Part {
     Bad(usize),
 }
 
-// Alternatives: likewise, and after the number whether they are several.
+// Alternatives: the place, the number, whether they are several, and whether one of them can be empty.
 enum Alternatives {
     Got(usize, usize, bool, bool),
     Bad(usize),

@@ -99,6 +99,7 @@ fn insert_open(tokens: &mut [u64; 2555], from: usize, to: usize)
     put_union(tokens, from, OPEN);
 }
 
+// A close's kind: without an edge over its union, or with one.
 fn close_kind(over: bool) -> u64
     ensures { λ r. ⌜ r ≡ markKind (markOf over) ⌝ }
 {

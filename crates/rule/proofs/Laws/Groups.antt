@@ -26,7 +26,7 @@ use Rattle.rule.specs.declared.Alternatives.the-variants.{Bad as noAlter
 use Rattle.rule.specs.declared.Part.{Part}
 use Rattle.rule.specs.declared.Part.the-variants.{Bad as noPart, Got as aPart}
 use Rattle.rule.specs.declared.groups.Item.{Item}
-use Rattle.rule.specs.declared.groups.Marked.{Marked}
+use Rattle.rule.specs.declared.groups.GroupMark.{GroupMark}
 use Rattle.kinds.proofs.Laws.Binds.{bind-stops}
 use Rattle.kinds.proofs.Laws.Places.{inside}
 use Rattle.rule.proofs.Laws.Cycle.{past-one, past-other}
@@ -136,7 +136,7 @@ module _ (rule : List ℕ) (n : ℕ) (m : Read Alts) (before : List ℕ) where
     pub close-other : (x ≡ byte ")" → ⊥) → Stopped rule (closed m) p
     close-other o = record { reads = rw (w .took .reads, past-other rule p g (byte ")") (w .took .inside) o); inside = w .took .inside }
 
-    pub close-here : x ≡ byte ")" → (r : Marked) → MarkSays rule (p + 1) r → (v : Bool) → v ≡ several a → (i : Item) (after : List ℕ)
+    pub close-here : x ≡ byte ")" → (r : GroupMark) → MarkSays rule (p + 1) r → (v : Bool) → v ≡ several a → (i : Item) (after : List ℕ)
         → i ≡ groupedItem next v e (token.markOf (r .mark)) → after ≡ groupedWords now n next v e (token.markOf (r .mark))
         → PartSays true rule n (closed m) before after (asPart (r .place) i)
     close-here o r M v s i after b c =

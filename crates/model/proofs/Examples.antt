@@ -14,10 +14,10 @@ use Rattle.model.specs.Tree.{Tree}
 use Rattle.model.specs.Writing.{writing}
 use Rattle.model.specs.Edges.{states}
 use Rattle.model.specs.Ends.{EndsAre}
-use Rattle.model.specs.Image.{gatherBlock, gatherSource, gatherTarget, image, propagateBlock, propagateSource, propagateTarget, scatterBlock, scatterSource, scatterTarget}
+use Rattle.model.specs.Image.{backSource, backTarget, gatherBlock, gatherSource, gatherTarget, image, propagateBlock, propagateSource, propagateTarget, scatterBlock, scatterSource, scatterTarget}
 use Rattle.model.specs.Answers.{not-a-rule}
 use Rattle.model.specs.Spelling.{Latest}
-use Rattle.model.specs.Worked.{_⊨_, Claim, further, gatherAt, hasEnds, hasImage, hasLatest, hasNoStart, hasStates, Holds, isNotSpelledBy, isSpelledBy, isWritten, marked, Masks, optionalGroups, propagateAt, refusedWith2, Right, Row, scatterAt, spellings}
+use Rattle.model.specs.Worked.{_⊨_, Claim, further, gatherAt, hasEnds, hasImage, hasLatest, hasNoStart, hasStates, Holds, isNotSpelledBy, isSpelledBy, isWritten, marked, Masks, optionalGroups, propagateAt, refusedWith2, repeatedGroups, returnAt, Right, Row, scatterAt, spellings}
 use Rattle.model.specs.Models.Reader.{readRule}
 use Rattle.model.specs.Models.Spelling.{isSpelled, latest}
 use Rattle.model.specs.Models.Verdict.{sameWords}
@@ -52,6 +52,7 @@ claimTest t (hasStates m) = eqb (states t) m
 claimTest t (scatterAt k b s g) = masksTest t (scatterBlock t) (scatterSource t) (scatterTarget t) k b s g
 claimTest t (gatherAt k b s g) = masksTest t (gatherBlock t) (gatherSource t) (gatherTarget t) k b s g
 claimTest t (propagateAt k b s g) = masksTest t (propagateBlock t) (propagateSource t) (propagateTarget t) k b s g
+claimTest t (returnAt k s g) = eqb (mask (states t) (backSource t k)) s && eqb (mask (states t) (backTarget t k)) g
 claimTest t (hasEnds text places) = areBytes (bytes text) && sameWords (treeEnds t (bytes text)) places
 claimTest t (hasImage words) = sameWords (image t) words
 claimTest t (isSpelledBy text start stop list) = isSpelled t (bytes text) start stop list
@@ -88,19 +89,22 @@ claim-right t F (hasStates m) h = eqb→eq (states t) m h
 claim-right t F (scatterAt k b s g) h = masks-right t (scatterBlock t) (scatterSource t) (scatterTarget t) k b s g h
 claim-right t F (gatherAt k b s g) h = masks-right t (gatherBlock t) (gatherSource t) (gatherTarget t) k b s g h
 claim-right t F (propagateAt k b s g) h = masks-right t (propagateBlock t) (propagateSource t) (propagateTarget t) k b s g h
+claim-right t F (returnAt k s g) h =
+    let p = and-split (eqb (mask (states t) (backSource t k)) s) (eqb (mask (states t) (backTarget t k)) g) h in
+    (eqb→eq (mask (states t) (backSource t k)) s (p .0), eqb→eq (mask (states t) (backTarget t k)) g (p .1))
 claim-right t F (hasEnds text places) h =
     let k = and-split (areBytes (bytes text)) (sameWords (treeEnds t (bytes text)) places) h in
     subst (EndsAre t (bytes text)) (same-words (treeEnds t (bytes text)) places (k .1)) (tree-ends t F (bytes text) (are-bytes (bytes text) (k .0)))
 claim-right t F (hasImage words) h = same-words (image t) words h
-claim-right t F (isSpelledBy text start stop list) h = spelled-is t (bytes text) start stop list .0 h
+claim-right t F (isSpelledBy text start stop list) h = spelled-is t F (bytes text) start stop list .0 h
 claim-right t F (isNotSpelledBy text start stop list) h =
-    λ s. subst T (is-false (isSpelled t (bytes text) start stop list) h) (spelled-is t (bytes text) start stop list .1 s)
-claim-right t F (hasLatest text stop start) h = go (latest t (bytes text) stop) h (latest-is t (bytes text) stop)
+    λ s. subst T (is-false (isSpelled t (bytes text) start stop list) h) (spelled-is t F (bytes text) start stop list .1 s)
+claim-right t F (hasLatest text stop start) h = go (latest t (bytes text) stop) h (latest-is t (bytes text) stop F)
   where
     go : (o : Option ℕ) → T (isStart start o) → Found t (bytes text) stop o → Latest t (bytes text) start stop
     go none k L = absurd k
     go (some i) k L = subst (λ (j : ℕ). Latest t (bytes text) j stop) (eqb→eq i start k) L
-claim-right t F (hasNoStart text stop) h = go (latest t (bytes text) stop) h (latest-is t (bytes text) stop)
+claim-right t F (hasNoStart text stop) h = go (latest t (bytes text) stop) h (latest-is t (bytes text) stop F)
   where
     go : (o : Option ℕ) → T (isNone o) → Found t (bytes text) stop o → NoSpelling t (bytes text) stop
     go none k f = f
@@ -131,6 +135,9 @@ marked-right = table-right marked tt
 
 pub optional-groups-right : All Right optionalGroups
 optional-groups-right = table-right optionalGroups tt
+
+pub repeated-groups-right : All Right repeatedGroups
+repeated-groups-right = table-right repeatedGroups tt
 
 pub further-right : All Right further
 further-right = table-right further tt

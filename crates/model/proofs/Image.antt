@@ -6,6 +6,7 @@ pub mod Compare
 pub mod Unions
 pub mod Tokens
 pub mod TokenWriting
+pub mod Groups
 pub mod Between
 pub mod Shown
 pub mod Classes

@@ -7,7 +7,7 @@ use lib.Dec.{T}
 use lib.ListN.{length}
 use Rattle.model.specs.Lists.{_∈_, All}
 use Rattle.model.specs.Bits.{bit}
-use Rattle.model.specs.Tree.{Alts, end, last, letter, Mark, more, once, option, optional, plus, Repeat, star, Tree, union, unmarked}
+use Rattle.model.specs.Tree.{Alts, end, last, letter, Mark, more, once, option, optional, plus, Repeat, star, starred, Tree, union, unmarked}
 
 -- a letter spells one byte of its class, with `?` also none, with `*` any number, with `+` at least one
 abbrev pub LetterSpells : ℕ → Repeat → List ℕ → Type 0
@@ -16,10 +16,16 @@ LetterSpells c option v = (v ≡ []) ⊎ ((b : ℕ) × (v ≡ b ∷ []) × T (bi
 LetterSpells c star v = All (λ b. T (bit c b)) v
 LetterSpells c plus v = (b : ℕ) × (x : List ℕ) × (v ≡ b ∷ x) × T (bit c b) × All (λ b. T (bit c b)) x
 
--- a group that spells the texts of P spells with `?` also none
+-- texts of P one after another, none or more
+pub data Repeated (P : List ℕ → Type 0) : List ℕ → Type 0 where
+  never : {v : List ℕ} → v ≡ [] → Repeated P v
+  again : {v x y : List ℕ} → v ≡ x ++ y → P x → Repeated P y → Repeated P v
+
+-- a group that spells the texts of P spells with `?` also none, with `*` any number of them one after another
 abbrev pub GroupSpells : Mark → (List ℕ → Type 0) → List ℕ → Type 0
 GroupSpells unmarked P v = P v
 GroupSpells optional P v = (v ≡ []) ⊎ P v
+GroupSpells starred P v = Repeated P v
 
 -- a sequence spells what its items spell one after another, a union what one of its alternatives spells
 abbrev mutual

@@ -7,7 +7,7 @@ use lib.Dec.{T, eqb, leb}
 use lib.Bits.{bitOr}
 use Rattle.model.specs.Bits.{mask}
 use Rattle.model.specs.Bytes.{byte, IsDigit, IsEscape, plain}
-use Rattle.model.specs.Tree.{Alts, end, glue, last, letter, Mark, more, once, option, optional, plus, Repeat, Seq, star, Tree, union, unmarked}
+use Rattle.model.specs.Tree.{Alts, end, glue, last, letter, more, once, option, optional, plus, Repeat, Seq, star, starred, Tree, union, unmarked}
 use Rattle.model.specs.Edges.{altsEmpty}
 
 -- ---- classes: the number whose bit b says that byte b is in it
@@ -85,19 +85,27 @@ abbrev pub bracket : Alts → Seq
 bracket (last s) = s
 bracket (more s a) = union unmarked (more s a) end
 
--- "A bracketed group may take `?`."
-pub data IsMark : List ℕ → Mark → Type 0 where
-  nothing : {w : List ℕ} {m : Mark} → w ≡ [] → m ≡ unmarked → IsMark w m
-  query : {w : List ℕ} {m : Mark} → w ≡ byte "?" ∷ [] → m ≡ optional → IsMark w m
+-- "A bracketed group may take `?`", "may take `*`", and `+`
+pub data IsMark : List ℕ → Repeat → Type 0 where
+  nothing : {w : List ℕ} {r : Repeat} → w ≡ [] → r ≡ once → IsMark w r
+  query : {w : List ℕ} {r : Repeat} → w ≡ byte "?" ∷ [] → r ≡ option → IsMark w r
+  any-number : {w : List ℕ} {r : Repeat} → w ≡ byte "*" ∷ [] → r ≡ star → IsMark w r
+  some-number : {w : List ℕ} {r : Repeat} → w ≡ byte "+" ∷ [] → r ≡ plus → IsMark w r
 
--- "The tree keeps it as a union .., also when it has one alternative. But a `?` on a group that can already be empty is dropped before the
--- tree is made, and the group is then read without it."
-abbrev pub grouped : Alts → Mark → Seq
-grouped a unmarked = bracket a
-grouped a optional = cond (altsEmpty a) (bracket a) (union optional a end)
+-- a group with `*`: "a union's start and end around the one body. A group that was a union becomes that body's sole item"
+abbrev pub cycle : Alts → Seq
+cycle a = union starred (last (bracket a)) end
+
+-- with `?`: "The tree keeps it as a union .., also when it has one alternative. But a `?` on a group that can already be empty is dropped before the
+-- tree is made, and the group is then read without it." "`+` on a group is the group and then its `*`."
+abbrev pub grouped : Alts → Repeat → Seq
+grouped a once = bracket a
+grouped a option = cond (altsEmpty a) (bracket a) (union optional a end)
+grouped a star = cycle a
+grouped a plus = glue (bracket a) (cycle a)
 
 -- "Alternatives hold sequences, sequences hold items, items hold alternatives: an item is a letter with at most one repeat sign, or
--- bracketed alternatives", with `?` or without. "No sequence is empty." An item means the sequence that it adds to the one outside.
+-- bracketed alternatives", with `?`, `*` or `+` or without. "No sequence is empty." An item means the sequence that it adds to the one outside.
 mutual
   pub data IsAlts : List ℕ → Alts → Type 0 where
     only : {w : List ℕ} {s : Seq} → IsSeq w s → IsAlts w (last s)
@@ -109,7 +117,7 @@ mutual
 
   pub data IsItem : List ℕ → Seq → Type 0 where
     lone : {w u v : List ℕ} {s : Seq} {c : ℕ} {q : Sign} → w ≡ u ++ v → s ≡ repeated c q → IsLetter u c → IsSign v q → IsItem w s
-    group : {w u v : List ℕ} {s : Seq} {a : Alts} {m : Mark} → w ≡ byte "(" ∷ (u ++ (byte ")" ∷ v)) → s ≡ grouped a m → IsAlts u a → IsMark v m → IsItem w s
+    group : {w u v : List ℕ} {s : Seq} {a : Alts} {r : Repeat} → w ≡ byte "(" ∷ (u ++ (byte ")" ∷ v)) → s ≡ grouped a r → IsAlts u a → IsMark v r → IsItem w s
 
 -- THE RULE w HAS THE TREE t: "A rule is alternatives separated by `|`."
 pub data IsRule : List ℕ → Tree → Type 0 where

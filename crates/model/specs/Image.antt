@@ -7,7 +7,7 @@ use lib.ListN.{length}
 use Rattle.model.specs.Lists.{any, within}
 use Rattle.model.specs.Bits.{mask}
 use Rattle.model.specs.Tree.{Tree}
-use Rattle.model.specs.Edges.{byLetter, byLoop, depth, edges, endsOf, isPropagate, letterAt, Part, parts, startsOf, states, unionAt, Way}
+use Rattle.model.specs.Edges.{byLetter, byLoop, depth, edges, endsOf, isBack, isPropagate, letterAt, Part, parts, returnAt, startsOf, states, unionAt, Way}
 
 -- ---- the sets of states that the masks hold
 -- "letters: bit i+1 where a letter edge i to i+1 takes the byte"; "repeats: likewise, the bit of each loop"
@@ -21,6 +21,7 @@ repeats t b x = any (λ e. byLoop b (e .kind) && eqb x (e .to)) (edges t)
 abbrev pub unionTest : ℕ → (ℕ → List Way → ℕ → Bool) → Part → Bool
 unionTest k f (letterAt c r j i) = false
 unionTest k f (unionAt empty j t ws u) = f t ws u && eqb j k
+unionTest k f (returnAt j q r) = false
 
 abbrev pub someUnion : Tree → ℕ → (ℕ → List Way → ℕ → Bool) → Bool
 someUnion t k f = any (unionTest k f) (parts t 0 0)
@@ -72,6 +73,13 @@ propagateSource t k x = leaves t k x && not (enters t k x)
 abbrev pub propagateTarget : Tree → ℕ → ℕ → Bool
 propagateTarget t k x = enters t k x && not (leaves t k x)
 
+-- back: "the back edges as two masks, source and target" (document 02, Wish 12)
+abbrev pub backSource : Tree → ℕ → ℕ → Bool
+backSource t k x = any (λ e. (isBack (e .kind) && eqb x (e .from)) && eqb (e .level) k) (edges t)
+
+abbrev pub backTarget : Tree → ℕ → ℕ → Bool
+backTarget t k x = any (λ e. (isBack (e .kind) && eqb x (e .to)) && eqb (e .level) k) (edges t)
+
 -- ---- the words
 -- "State i is bit i mod 64 of word i/64 (whole part), low word first": the w low words of a number
 abbrev pub words : ℕ → ℕ → List ℕ
@@ -95,7 +103,7 @@ abbrev pub join : ℕ → ℕ → (ℕ → List ℕ) → List ℕ
 join zero a f = []
 join (suc n) a f = f a ++ join n (suc a) f
 
--- "Six sections in this order"
+-- "Six sections in this order", and "a seventh section holds for k from 0 to d-1 the back edges"
 abbrev pub image : Tree → List ℕ
 image t =
     let m = states t in
@@ -105,4 +113,5 @@ image t =
     ++ (section (join 256 0 (λ b. row m (repeats t b)))
     ++ (section (join d 0 (λ k. row m (scatterBlock t k) ++ (row m (scatterSource t k) ++ row m (scatterTarget t k))))
     ++ (section (join d 0 (λ k. row m (gatherBlock t k) ++ (row m (gatherSource t k) ++ row m (gatherTarget t k))))
-    ++ section (join (suc d) 0 (λ k. row m (propagateBlock t k) ++ (row m (propagateSource t k) ++ row m (propagateTarget t k))))))))
+    ++ (section (join (suc d) 0 (λ k. row m (propagateBlock t k) ++ (row m (propagateSource t k) ++ row m (propagateTarget t k))))
+    ++ section (join d 0 (λ k. row m (backSource t k) ++ row m (backTarget t k))))))))

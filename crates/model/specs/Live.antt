@@ -7,7 +7,7 @@ use Prim.Native.Nat.{ℕ}
 use lib.Dec.{T}
 use Rattle.model.specs.Lists.{_∈_}
 use Rattle.model.specs.Tree.{Tree}
-use Rattle.model.specs.Edges.{byLetter, byLoop, edge, EdgeKind, edges, gatherEdge, letterEdge, loopEdge, propagateEdge, scatterEdge}
+use Rattle.model.specs.Edges.{backEdge, byLetter, byLoop, edge, EdgeKind, edges, gatherEdge, letterEdge, loopEdge, propagateEdge, scatterEdge}
 
 -- all that a set of states reaches by the edges of R
 pub data Reached (R : ℕ → ℕ → Type 0) (D : ℕ → Type 0) : ℕ → Type 0 where
@@ -21,6 +21,7 @@ letterless (loopEdge c) = false
 letterless propagateEdge = true
 letterless scatterEdge = true
 letterless gatherEdge = true
+letterless backEdge = true
 
 abbrev pub Free : Tree → ℕ → ℕ → Type 0
 Free t q r = (e : EdgeKind) × (k : ℕ) × (edge e k q r ∈ edges t) × T (letterless e)

@@ -19,14 +19,20 @@ canLoop option = false
 canLoop star = true
 canLoop plus = true
 
--- what a group keeps after its `)`: nothing, or `?` (document 02, Wish 3)
+-- what a group keeps after its `)`: nothing, `?` (document 02, Wish 3), or `*` (Wish 12)
 pub data Mark : Type 0 where
-  unmarked optional : Mark
+  unmarked optional starred : Mark
 
--- a union with `?` may be left out
+-- a union with `?` or `*` may be left out; one with `*` may be gone through again
 abbrev pub canOmit : Mark → Bool
 canOmit unmarked = false
 canOmit optional = true
+canOmit starred = true
+
+abbrev pub canReturn : Mark → Bool
+canReturn unmarked = false
+canReturn optional = false
+canReturn starred = true
 
 -- "Alternatives hold sequences, sequences hold items": a sequence is a letter (its class and its repeat) or a union (its mark and its
 -- alternatives), and what follows it

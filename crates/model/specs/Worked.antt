@@ -1,5 +1,5 @@
--- THE WORKED EXAMPLES OF DOCUMENT 01 ("Measured examples"), and some of document 02's optional groups (Wish 3) and spellings (Wish 9), as rows of a rule
--- and what is claimed of it.
+-- THE WORKED EXAMPLES OF DOCUMENT 01 ("Measured examples"), and some of document 02's optional and repeated groups (Wishes 3 and 12) and spellings (Wish 9),
+-- as rows of a rule and what is claimed of it.
 -- Nothing here is believed: proofs/Examples.antt proves every row.
 use mathlib.Core.Path.{_≡_}
 use mathlib.Core.Bool.{Bool}
@@ -14,15 +14,16 @@ use Rattle.model.specs.Grammar.{IsRule}
 use Rattle.model.specs.Writing.{writing}
 use Rattle.model.specs.Edges.{states}
 use Rattle.model.specs.Ends.{EndsAre}
-use Rattle.model.specs.Image.{gatherBlock, gatherSource, gatherTarget, image, propagateBlock, propagateSource, propagateTarget, scatterBlock, scatterSource, scatterTarget}
+use Rattle.model.specs.Image.{backSource, backTarget, gatherBlock, gatherSource, gatherTarget, image, propagateBlock, propagateSource, propagateTarget, scatterBlock, scatterSource, scatterTarget}
 use Rattle.model.specs.Answers.{BuildSays, refused}
 use Rattle.model.specs.Spelling.{Latest, Spelled}
 
--- what a row may claim of the tree of an accepted rule; masks as numbers: block, source, target at depth k
+-- what a row may claim of the tree of an accepted rule; masks as numbers: block, source, target at depth k; of back edges source and target
 pub data Claim : Type 0 where
   isWritten : String → Claim
   hasStates : ℕ → Claim
   scatterAt gatherAt propagateAt : (k block source target : ℕ) → Claim
+  returnAt : (k source target : ℕ) → Claim
   hasEnds : (text : String) (places : List ℕ) → Claim
   hasImage : (words : List ℕ) → Claim
   isSpelledBy isNotSpelledBy : (text : String) (start end : ℕ) (states : List ℕ) → Claim
@@ -38,6 +39,7 @@ Holds t (hasStates m) = states t ≡ m
 Holds t (scatterAt k b s g) = Masks t (scatterBlock t) (scatterSource t) (scatterTarget t) k b s g
 Holds t (gatherAt k b s g) = Masks t (gatherBlock t) (gatherSource t) (gatherTarget t) k b s g
 Holds t (propagateAt k b s g) = Masks t (propagateBlock t) (propagateSource t) (propagateTarget t) k b s g
+Holds t (returnAt k s g) = (mask (states t) (backSource t k) ≡ s) × (mask (states t) (backTarget t k) ≡ g)
 Holds t (hasEnds text places) = EndsAre t (bytes text) places
 Holds t (hasImage words) = image t ≡ words
 Holds t (isSpelledBy text start end list) = Spelled t (bytes text) start end list
@@ -55,7 +57,7 @@ abbrev pub Right : Row → Type 0
 Right (rule ⊨ claim) = (t : Tree) × IsRule (bytes rule) t × Holds t claim
 Right (refusedWith2 rule) = (before : List ℕ) → BuildSays (bytes rule) before (refused 2 before)
 
--- the examples that document 01 marks P, in its order
+-- the examples that document 01 marks P, in its order; `(a)*`, the last but one of them, is a rule since Wish 12 (`repeatedGroups`)
 abbrev pub marked : List Row
 marked =
     "a" ⊨ hasEnds "aba" (1 ∷ 3 ∷ [])
@@ -82,7 +84,6 @@ marked =
     ∷ refusedWith2 ""
     ∷ refusedWith2 "()"
     ∷ refusedWith2 "a||b"
-    ∷ refusedWith2 "(a)*"
     ∷ refusedWith2 "[c-ab]"
     ∷ []
 
@@ -115,16 +116,60 @@ optionalGroups =
     ∷ "((ab)?)?" ⊨ isWritten "(ab)?"
     ∷ "((ab)?|c)?" ⊨ isWritten "((ab)?|c)"
     ∷ "(a{,2})?" ⊨ isWritten "a?a?"
-    ∷ refusedWith2 "(a)*"
-    ∷ refusedWith2 "(a)+"
     ∷ refusedWith2 "(a)??"
+    ∷ []
+
+-- document 02, Wish 12: groups with `*` and `+`, their states, and what their back edges do
+abbrev pub repeatedGroups : List Row
+repeatedGroups =
+    "(a)*" ⊨ isWritten "(a)*"
+    ∷ "(a)*" ⊨ hasStates 4
+    ∷ "(ab)*" ⊨ isWritten "(ab)*"
+    ∷ "(ab)*" ⊨ hasStates 5
+    ∷ "(ab)*" ⊨ returnAt 0 8 2
+    ∷ "(ab)*" ⊨ propagateAt 0 17 1 16
+    ∷ "(ab)*" ⊨ hasEnds "ab" (0 ∷ 1 ∷ 2 ∷ [])
+    ∷ "x(ab)*y" ⊨ hasEnds "xyxababy" (2 ∷ 8 ∷ [])
+    ∷ "x(ab)*y" ⊨ isSpelledBy "xababy" 0 6 (1 ∷ 3 ∷ 4 ∷ 3 ∷ 4 ∷ 6 ∷ [])
+    ∷ "x(ab)*y" ⊨ isNotSpelledBy "xababy" 0 6 (1 ∷ 3 ∷ 4 ∷ 5 ∷ 4 ∷ 6 ∷ [])
+    ∷ "x(ab)*y" ⊨ hasLatest "xxababy" 7 1
+    ∷ "(a|b)*" ⊨ isWritten "((a|b))*"
+    ∷ "(a|b)*" ⊨ hasStates 8
+    ∷ "(a|b)*" ⊨ returnAt 0 64 2
+    ∷ "(a|b)*" ⊨ hasEnds "cab" (0 ∷ 1 ∷ 2 ∷ 3 ∷ [])
+    ∷ "x(a|b)*y" ⊨ hasEnds "xabay" (5 ∷ [])
+    ∷ "(ab)+" ⊨ isWritten "ab(ab)*"
+    ∷ "(a|b)+" ⊨ isWritten "(a|b)((a|b))*"
+    ∷ "(a|b)+" ⊨ hasStates 13
+    ∷ "(a|b)+" ⊨ returnAt 0 2048 64
+    ∷ "(a|b)+" ⊨ hasEnds "cab" (2 ∷ 3 ∷ [])
+    ∷ "x(a|b)+y" ⊨ hasEnds "xyxaby" (6 ∷ [])
+    ∷ "(a?)+" ⊨ isWritten "a?(a?)*"
+    ∷ "(a?)+" ⊨ hasStates 5
+    ∷ "(a?)+" ⊨ returnAt 0 8 4
+    ∷ "(a?)+" ⊨ hasEnds "ba" (0 ∷ 1 ∷ 2 ∷ [])
+    ∷ "x(a?)+y" ⊨ hasEnds "xyxaaay" (2 ∷ 7 ∷ [])
+    ∷ "((a)+)+" ⊨ isWritten "a(a)*(a(a)*)*"
+    ∷ "((a)+)+" ⊨ hasStates 11
+    ∷ "((a)+)+" ⊨ returnAt 0 520 36
+    ∷ "((a)+)+" ⊨ returnAt 1 256 128
+    ∷ "((a)+)+" ⊨ hasEnds "baa" (2 ∷ 3 ∷ [])
+    -- the second round leads on through the first round's body
+    ∷ "((ab)*c?)*y" ⊨ hasEnds "babcaby" (7 ∷ [])
+    ∷ "((ab)*)*" ⊨ isWritten "((ab)*)*"
+    ∷ "((ab)*)?" ⊨ isWritten "(ab)*"
+    ∷ "((ab)?)*" ⊨ isWritten "((ab)?)*"
+    ∷ "(((((((a)+)+)+)+)+)+)+" ⊨ hasStates 383
+    ∷ refusedWith2 "(a)**"
+    ∷ refusedWith2 "(a)*?"
+    ∷ refusedWith2 "(a)+?"
     ∷ refusedWith2 "(a){2}"
     ∷ []
 
 -- further examples: those that document 01 lists without the mark and a checker can compute, and doubtful points
 abbrev pub further : List Row
 further =
-    "a" ⊨ hasImage (3 ∷ 2 ∷ 1 ∷ 0 ∷ 256 ∷ (replicate 97 0 ++ (2 ∷ (replicate 158 0 ++ (256 ∷ (replicate 256 0 ++ (0 ∷ 0 ∷ 3 ∷ 0 ∷ 0 ∷ 0 ∷ [])))))))
+    "a" ⊨ hasImage (3 ∷ 2 ∷ 1 ∷ 0 ∷ 256 ∷ (replicate 97 0 ++ (2 ∷ (replicate 158 0 ++ (256 ∷ (replicate 256 0 ++ (0 ∷ 0 ∷ 3 ∷ 0 ∷ 0 ∷ 0 ∷ 0 ∷ [])))))))
     ∷ "a?bc?" ⊨ propagateAt 0 15 5 10
     ∷ "((a|b)|c)" ⊨ hasStates 10
     ∷ "a(b?|c)d" ⊨ hasEnds "ad" (2 ∷ [])

@@ -6,7 +6,7 @@ use lib.Dec.{leb, ltb, eqb}
 use Rattle.model.specs.Lists.{within}
 use Rattle.model.specs.Bits.{bit}
 use Rattle.model.specs.Bytes.{byte, bytes, signs}
-use Rattle.model.specs.Tree.{Alts, end, last, letter, Mark, more, once, option, optional, plus, Repeat, star, Tree, union, unmarked}
+use Rattle.model.specs.Tree.{Alts, end, last, letter, Mark, more, once, option, optional, plus, Repeat, star, starred, Tree, union, unmarked}
 use Rattle.model.specs.Grammar.{every}
 
 -- an "upper-case digit"
@@ -53,6 +53,7 @@ repeatWriting plus = bytes "+"
 abbrev pub markWriting : Mark → List ℕ
 markWriting unmarked = []
 markWriting optional = bytes "?"
+markWriting starred = bytes "*"
 
 -- "Every union is bracketed, also at the top."
 abbrev mutual

@@ -1,6 +1,7 @@
--- EVERY EDGE LEADS TO ONE OF THE TREE'S STATES, for the arcs of a sequence end at or below the state in which it ends. One without a letter rises. One
--- that takes a byte does not fall, and never enters state 0: it leads to the next state or to its own.
+-- EVERY EDGE LEADS TO ONE OF THE TREE'S STATES, for the arcs of a sequence end at or below the state in which it ends. One without a letter rises, but
+-- for those that lead back. One that takes a byte does not fall, and never enters state 0: it leads to the next state or to its own.
 use Prim.Native.Nat.{ℕ, suc, _≤_, _<_}
+use mathlib.Core.Path.{refl}
 use mathlib.Core.Logic.{inl, inr}
 use native.Mathlib.Omega.{arith}
 use Rattle.model.specs.Lists.{_∈_, All}
@@ -9,9 +10,11 @@ use Rattle.model.specs.Edges.{altsEnd, endsOf, seqEnd, startsOf, states,
 use Rattle.model.specs.Live.{Free, itself, onward, Reached, Takes}
 use Rattle.model.proofs.Definitions.Free.{free-is}
 use Rattle.model.proofs.Definitions.Takes.{takes-is}
-use Rattle.model.proofs.Language.Arcs.{altsArcs, Arc, arcs, branch-whole, Byte, forkArc, letter-whole, Still}
+use Rattle.model.proofs.Language.Arcs.{altsArcs, Arc, arc, ArcKind, arcs, backArc, branch-whole, Byte, forkArc, letter-whole, letterArc, loopArc, propagateArc, Still}
 use Rattle.model.proofs.Language.Languages.{altsEnd-lt, seqEnd-le}
 use Rattle.model.proofs.Laws.Lists.{all-app, all-in, all-map}
+use Rattle.model.proofs.Passes.Closure.{AnyEdge}
+use Rattle.model.proofs.Passes.OnTrees.{Gathers, Propagates, Scatters}
 
 -- the alternatives of a union start past its start, and start and end at or below the last one's end
 starts-between : (a : Alts) (p r : ℕ) → r ∈ startsOf (ways a p) → (p < r) × (r ≤ altsEnd a p)
@@ -26,13 +29,21 @@ ends-below (last s) p r (inr h) = absurd h
 ends-below (more s a) p r (inl e) = omega (arith, altsEnd-lt a (seqEnd s (suc p)))
 ends-below (more s a) p r (inr h) = ends-below a (seqEnd s (suc p)) r h
 
+-- a move along an arc that does not lead back rises
+abbrev Rises : ArcKind → ℕ → ℕ → Type 0
+Rises (letterArc c) q r = q < r
+Rises (loopArc c) q r = q < r
+Rises propagateArc q r = q < r
+Rises (forkArc xs) q r = q < r
+Rises backArc q r = Unit
+
 -- the moves along an arc lead to a state or below it
 record To (top : ℕ) (e : Arc) : Type 0 where
-  pub still : (q r : ℕ) → Still (e .kind) (e .from) (e .to) q r → (q < r) × (r ≤ top)
+  pub still : (q r : ℕ) → Still (e .kind) (e .from) (e .to) q r → Rises (e .kind) q r × (r ≤ top)
   pub byte : (b q r : ℕ) → Byte b (e .kind) (e .from) (e .to) q r → (q ≤ r) × (0 < r) × (r ≤ top)
 
 higher : {top other : ℕ} → top ≤ other → (e : Arc) → To top e → To other e
-higher l e I = record { still = λ q r m. let k = I .still q r m in omega (arith, k .0, k .1); byte = λ b q r m. let k = I .byte b q r m in omega (arith, k .0, k .1, k .2) }
+higher l e I = record { still = λ q r m. let k = I .still q r m in (k .0, omega (arith, k .1)); byte = λ b q r m. let k = I .byte b q r m in omega (arith, k .0, k .1, k .2) }
 
 mutual
   below : (s : Seq) (t k : ℕ) → All (To (seqEnd s t)) (arcs s t k)
@@ -49,6 +60,7 @@ mutual
       branch-whole (To z) m a s t k (record {
         skips = λ x. record { still = λ q r m. omega (arith, m .0, m .1, altsEnd-lt a t, seqEnd-le s u); byte = λ b q r m. absurd m };
         forks = record { still = fork; byte = λ b q r m. absurd m };
+        returns = λ x. record { still = λ q r m. (tt, omega (arith, m .1, altsEnd-lt a t, seqEnd-le s u)); byte = λ b q r m. absurd m };
         alts = all-map (To (altsEnd a t)) (To z) (higher (omega (arith, seqEnd-le s u))) (altsArcs a t k) (alts-below a t k);
         rest = below s u k;
       })
@@ -76,14 +88,13 @@ module _ (t : Tree) where
   within = all-in (To (seqEnd t 0)) (arcs t 0 0) (below t 0 0)
 
   -- AN EDGE WITHOUT A LETTER
-  free-between : (q r : ℕ) → Free t q r → (q < r) × (r ≤ seqEnd t 0)
-  free-between q r h = let a = free-is t q r .0 h in within (a .0) (a .1) .still q r (a .2)
-
   pub free-below : (q r : ℕ) → Free t q r → r < states t
-  free-below q r h = omega (arith, free-between q r h .1)
+  free-below q r h = let a = free-is t q r .0 h in omega (arith, within (a .0) (a .1) .still q r (a .2) .1)
 
-  pub free-rises : (q r : ℕ) → Free t q r → q < r
-  free-rises q r h = free-between q r h .0
+  pub quiet-rises : (q r : ℕ) → AnyEdge (Propagates t) (Gathers t) (Scatters t) q r → q < r
+  quiet-rises q r (inl (k, i)) = within (arc propagateArc k q r) i .still q r (refl, refl) .0
+  quiet-rises q r (inr (inl (k, (xs, p, i, h)))) = within (arc (forkArc xs) k p r) i .still q r (inr (h, refl)) .0
+  quiet-rises q r (inr (inr (k, (xs, u, i, h)))) = within (arc (forkArc xs) k q u) i .still q r (inl (refl, h)) .0
 
   -- ONE THAT TAKES A BYTE
   takes-between : (b q r : ℕ) → Takes t b q r → (q ≤ r) × (0 < r) × (r ≤ seqEnd t 0)

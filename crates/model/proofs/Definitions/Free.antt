@@ -5,11 +5,11 @@ use mathlib.Core.List.{List, [], _∷_, _++_}
 use Prim.Native.Nat.{ℕ, suc}
 use lib.Dec.{T}
 use Rattle.model.specs.Tree.{canLoop, canSkip, Tree}
-use Rattle.model.specs.Edges.{Edge, edge, EdgeKind, edgesOf, endsOf, gatherEdge, letterAt, loopEdge, Part, parts, propagateEdge, scatterEdge, startsOf, unionAt}
+use Rattle.model.specs.Edges.{backEdge, Edge, edge, EdgeKind, edgesOf, endsOf, gatherEdge, letterAt, loopEdge, Part, parts, propagateEdge, returnAt, scatterEdge, startsOf, unionAt}
 use Rattle.model.specs.Edges.{when as whenEdge}
 use Rattle.model.specs.Live.{Free, letterless}
 use Rattle.model.proofs.Definitions.Along.{arc-when, edge-when, from-of, gathers, kind-of, over, scatters, StillAlong, to-of, when-arc, when-edge, when-later}
-use Rattle.model.proofs.Language.Arcs.{Arc, arc, arcs, forkArc, letterArc, loopArc, propagateArc, Still, when}
+use Rattle.model.proofs.Language.Arcs.{Arc, arc, arcs, backArc, forkArc, letterArc, loopArc, propagateArc, Still, when}
 use Rattle.model.proofs.Language.Parts.{arcs-are, arcsOf}
 use Rattle.model.proofs.Laws.Each.{each-in, in-each, in-map, map-in}
 use Rattle.model.proofs.Laws.Lists.{In, in-split, later, sooner}
@@ -61,6 +61,8 @@ free-part (unionAt empty k t ws u) q r (e, j, m, h) = go (in-split (scatters k t
         let w = map-in (λ a. edge scatterEdge k t (a .0)) ws (edge e j q r) n in
         (F, fork-in, inl (from-of (w .2), subst (In (startsOf ws)) (sym (to-of (w .2))) (in-map (λ a. a .0) ws (w .0) (w .1))))
     go (inr n) = rest (in-split (gathers k u ws) (over empty k t u) (edge e j q r) n)
+free-part (returnAt k i j) q r (e, l, inl s, h) = (arc backArc k i j, inl refl, (from-of s, to-of s))
+free-part (returnAt k i j) q r (e, l, inr n, h) = absurd n
 
 part-free : (p : Part) (q r : ℕ) → StillAlong (arcsOf p) q r → FreeIn (edgesOf p) q r
 part-free (letterAt c x k i) q r (a, m, h) = go m
@@ -138,6 +140,9 @@ part-free (unionAt empty k t ws u) q r (a, m, h) = go (arc-when empty P (F ∷ [
         )
     go (inr (inl s)) = fork (moved F s)
     go (inr (inr n)) = absurd n
+part-free (returnAt k i j) q r (a, inl s, h) =
+    let n = subst (λ (y : Arc). Still (y .kind) (y .from) (y .to) q r) s h in (backEdge, k, inl (λ l. edge backEdge k (n .0 l) (n .1 l)), tt)
+part-free (returnAt k i j) q r (a, inr n, h) = absurd n
 
 -- AN EDGE WITHOUT A LETTER IS A WAY ALONG AN ARC WITHOUT A LETTER
 pub free-is : (t : Tree) (q r : ℕ) → Free t q r ↔ StillAlong (arcs t 0 0) q r

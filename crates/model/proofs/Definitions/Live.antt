@@ -1,4 +1,4 @@
--- The live states of document 01 are the bits that the passes set: before any byte, after one from any set of states, and so after a text.
+-- The live states of document 01 are the bits that two rounds of the passes set: before any byte, after one from any set of states, and so after a text.
 use mathlib.Core.Path.{_≡_, refl, sym, subst}
 use mathlib.Core.Logic.{_⊎_, inl, inr, _↔_}
 use mathlib.Core.Bool.{Bool}
@@ -6,21 +6,19 @@ use mathlib.Core.List.{List, [], _∷_}
 use Prim.Native.Nat.{ℕ}
 use lib.Dec.{T, eqb→eq, eqb-refl}
 use Rattle.model.specs.Tree.{Tree}
-use Rattle.model.specs.Edges.{depth}
 use Rattle.model.specs.Live.{After, Before, Free, itself, Live, LiveFrom, onward, Reached, Takes}
 use Rattle.model.proofs.Definitions.Along.{StillAlong}
 use Rattle.model.proofs.Definitions.Free.{free-is}
 use Rattle.model.proofs.Definitions.Takes.{takes-is}
 use Rattle.model.proofs.Ends.Run.{liveSet, Moved, moved, moved-in, moved-out, startSet, still-free}
-use Rattle.model.proofs.Language.Arcs.{arc, arcs, forkArc, propagateArc}
-use Rattle.model.proofs.Language.Stretches.{feed}
-use Rattle.model.proofs.Passes.Closure.{AnyEdge}
-use Rattle.model.proofs.Passes.OnTrees.{Gathers, Propagates, Scatters}
+use Rattle.model.proofs.Language.Arcs.{arc, arcs, backArc, forkArc, propagateArc}
+use Rattle.model.proofs.Language.Languages.{feed}
+use Rattle.model.proofs.Passes.OnTrees.{Silent}
 use Rattle.model.proofs.Words.Full.{Full}
-use Rattle.model.proofs.Words.Passes.{bits-are, passed}
+use Rattle.model.proofs.Words.Rounds.{bits-are, closed}
 
 -- what is reached grows with the edges and with the set
-reached-map : {R S : ℕ → ℕ → Type 0} {D E : ℕ → Type 0} → ((q r : ℕ) → R q r → S q r) → ((q : ℕ) → D q → E q) → {q : ℕ} → Reached R D q → Reached S E q
+pub reached-map : {R S : ℕ → ℕ → Type 0} {D E : ℕ → Type 0} → ((q r : ℕ) → R q r → S q r) → ((q : ℕ) → D q → E q) → {q : ℕ} → Reached R D q → Reached S E q
 reached-map f g (itself h) = itself (g _ h)
 reached-map f g (onward {q} {r} c e) = onward (reached-map f g c) (f q r e)
 
@@ -38,39 +36,37 @@ module _ (t : Tree) where
   live-map (b ∷ text) f q h = live-map text (after-map b f) q h
 
 module _ (t : Tree) (F : Full t) where
-  abbrev Silent : ℕ → ℕ → Type 0
-  Silent = AnyEdge (Propagates t) (Gathers t) (Scatters t)
-
-  silent-free : (q r : ℕ) → Silent q r → Free t q r
+  pub silent-free : (q r : ℕ) → Silent t q r → Free t q r
   silent-free q r h = free-is t q r .1 (go h)
     where
-      go : Silent q r → StillAlong (arcs t 0 0) q r
-      go (inl e) = (arc propagateArc (e .0) q r, e .1, (refl, refl))
-      go (inr (inl e)) = (arc (forkArc (e .1 .0)) (e .0) (e .1 .1) r, e .1 .2, inr (e .1 .3, refl))
-      go (inr (inr e)) = (arc (forkArc (e .1 .0)) (e .0) q (e .1 .1), e .1 .2, inl (refl, e .1 .3))
+      go : Silent t q r → StillAlong (arcs t 0 0) q r
+      go (inl (inl e)) = (arc propagateArc (e .0) q r, e .1, (refl, refl))
+      go (inl (inr (inl e))) = (arc (forkArc (e .1 .0)) (e .0) (e .1 .1) r, e .1 .2, inr (e .1 .3, refl))
+      go (inl (inr (inr e))) = (arc (forkArc (e .1 .0)) (e .0) q (e .1 .1), e .1 .2, inl (refl, e .1 .3))
+      go (inr e) = (arc backArc (e .0) q r, e .1, (refl, refl))
 
-  free-silent : (q r : ℕ) → Free t q r → Silent q r
+  pub free-silent : (q r : ℕ) → Free t q r → Silent t q r
   free-silent q r h = let a = free-is t q r .0 h in still-free t F (a .0 .kind) (a .0 .level) (a .0 .from) (a .0 .to) q r (a .1) (a .2)
 
-  -- the passes from any set give what the edges without a letter reach
-  pub passed-is : (D : ℕ → Bool) (q : ℕ) → T (passed t F (depth t) D q) ↔ Reached (Free t) (λ x. T (D x)) q
-  passed-is D q = (
+  -- the two rounds from any set give what the edges without a letter reach
+  pub closed-is : (D : ℕ → Bool) (q : ℕ) → T (closed t F D q) ↔ Reached (Free t) (λ x. T (D x)) q
+  closed-is D q = (
     λ h. reached-map silent-free (λ x k. k) (bits-are t F D q .0 h),
     λ h. bits-are t F D q .1 (reached-map free-silent (λ x k. k) h),
   )
 
   -- BEFORE ANY BYTE
-  pub before-is : (q : ℕ) → T (passed t F (depth t) startSet q) ↔ Before t q
+  pub before-is : (q : ℕ) → T (closed t F startSet q) ↔ Before t q
   before-is q = (
-    λ h. reached-map (λ x y e. e) (λ x k. eqb→eq x 0 k) (passed-is startSet q .0 h),
-    λ h. passed-is startSet q .1 (reached-map (λ x y e. e) (λ x k. subst (λ (y : ℕ). T (startSet y)) (sym k) (eqb-refl 0)) h),
+    λ h. reached-map (λ x y e. e) (λ x k. eqb→eq x 0 k) (closed-is startSet q .0 h),
+    λ h. closed-is startSet q .1 (reached-map (λ x y e. e) (λ x k. subst (λ (y : ℕ). T (startSet y)) (sym k) (eqb-refl 0)) h),
   )
 
   -- AFTER A BYTE, from any set of states
-  pub after-is : (b : ℕ) (D : ℕ → Bool) (q : ℕ) → T (passed t F (depth t) (moved (arcs t 0 0) b D) q) ↔ After t b (λ x. T (D x)) q
+  pub after-is : (b : ℕ) (D : ℕ → Bool) (q : ℕ) → T (closed t F (moved (arcs t 0 0) b D) q) ↔ After t b (λ x. T (D x)) q
   after-is b D q = (
-    λ h. reached-map (λ x y e. e) (λ x k. there x (moved-out t F b D x k)) (passed-is (moved (arcs t 0 0) b D) q .0 h),
-    λ h. passed-is (moved (arcs t 0 0) b D) q .1 (reached-map (λ x y e. e) back h),
+    λ h. reached-map (λ x y e. e) (λ x k. there x (moved-out t F b D x k)) (closed-is (moved (arcs t 0 0) b D) q .0 h),
+    λ h. closed-is (moved (arcs t 0 0) b D) q .1 (reached-map (λ x y e. e) back h),
   )
     where
       Moves : ℕ → Type 0

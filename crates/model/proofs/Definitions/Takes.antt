@@ -7,7 +7,7 @@ use Prim.Native.Nat.{ℕ, suc}
 use lib.Dec.{T}
 use Rattle.model.specs.Bits.{bit}
 use Rattle.model.specs.Tree.{canLoop, canSkip, Tree}
-use Rattle.model.specs.Edges.{byLetter, byLoop, Edge, edge, EdgeKind, edgesOf, gatherEdge, letterAt, letterEdge, loopEdge, Part, parts, propagateEdge, scatterEdge, unionAt}
+use Rattle.model.specs.Edges.{byLetter, byLoop, Edge, edge, EdgeKind, edgesOf, gatherEdge, letterAt, letterEdge, loopEdge, Part, parts, propagateEdge, returnAt, scatterEdge, unionAt}
 use Rattle.model.specs.Edges.{when as whenEdge}
 use Rattle.model.specs.Live.{Takes}
 use Rattle.model.proofs.Definitions.Along.{arc-when, ByteAlong, edge-when, from-of, gathers, kind-of, over, scatters, to-of, when-arc, when-edge}
@@ -60,6 +60,8 @@ takes-part (unionAt empty k t ws u) b q r (e, j, m, h) = go (in-split (scatters 
     go : In (scatters k t ws) (edge e j q r) ⊎ In (gathers k u ws ++ over empty k t u) (edge e j q r) → Found
     go (inl n) = let w = map-in (λ a. edge scatterEdge k t (a .0)) ws (edge e j q r) n in absurd (kept scatterEdge (kind-of (w .2)))
     go (inr n) = rest (in-split (gathers k u ws) (over empty k t u) (edge e j q r) n)
+takes-part (returnAt k i j) b q r (e, l, inl s, h) = absurd (subst (λ (y : EdgeKind). T (byLetter b y || byLoop b y)) (kind-of s) h)
+takes-part (returnAt k i j) b q r (e, l, inr n, h) = absurd n
 
 part-takes : (p : Part) (b q r : ℕ) → ByteAlong (arcsOf p) b q r → TakesIn (edgesOf p) b q r
 part-takes (letterAt c x k i) b q r (a, m, h) = go m
@@ -110,6 +112,8 @@ part-takes (unionAt empty k t ws u) b q r (a, m, h) = go (arc-when empty P (F �
     go (inl s) = absurd (moved P (s .1))
     go (inr (inl s)) = absurd (moved F s)
     go (inr (inr n)) = absurd n
+part-takes (returnAt k i j) b q r (a, inl s, h) = absurd (subst (λ (y : Arc). Byte b (y .kind) (y .from) (y .to) q r) s h)
+part-takes (returnAt k i j) b q r (a, inr n, h) = absurd n
 
 -- AN EDGE THAT TAKES A BYTE IS A WAY ALONG AN ARC BY THAT BYTE
 pub takes-is : (t : Tree) (b q r : ℕ) → Takes t b q r ↔ ByteAlong (arcs t 0 0) b q r

@@ -17,7 +17,7 @@ use Rattle.model.proofs.Definitions.Ends.{end-stops}
 use Rattle.model.proofs.Definitions.EndsList.{places-are, placesFrom}
 use Rattle.model.proofs.Ends.Stops.{StopsAt}
 use Rattle.model.proofs.Image.Rows.{room}
-use Rattle.model.proofs.Language.Stretches.{feed}
+use Rattle.model.proofs.Language.Languages.{feed}
 use Rattle.model.proofs.Words.Full.{Full}
 use Rattle.model.proofs.Words.ImageRun.{tree-carry, treeMasks}
 use Rattle.model.proofs.Words.Run.{Bytes, bytes-fed, bytes-take, end-words}
@@ -33,7 +33,7 @@ pub tree-ends : (t : Tree) → Full t → (text : List ℕ) → Bytes text → E
 tree-ends t F text B = places-are t text (isEnd t text) is (λ p e. end-stops t text p .0 e .0)
   where
     stops : (p : ℕ) → T (isEnd t text p) ↔ StopsAt t text p
-    stops p = end-words (states t) (width (states t)) t F (treeMasks (states t) (width (states t)) t) (tree-carry (states t) (width (states t)) t (room (states t))) (le-refl (states t)) text p (bytes-fed [] (take p text) tt (bytes-take p text B))
+    stops p = end-words (states t) (width (states t)) t F (treeMasks (states t) (width (states t)) t) (tree-carry (states t) (width (states t)) t (room (states t)) (le-refl (states t))) text p (bytes-fed [] (take p text) tt (bytes-take p text B))
 
     is : (p : ℕ) → p ≤ length text → T (isEnd t text p) ↔ End t text p
     is p l = (λ h. end-stops t text p .1 (l, stops p .0 h), λ e. stops p .1 (end-stops t text p .0 e .1))

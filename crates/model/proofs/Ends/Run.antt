@@ -11,19 +11,19 @@ use lib.Dec.{T, eqb, eqb→eq, eqb-refl}
 use Rattle.model.specs.Lists.{All, any}
 use Rattle.model.specs.Bits.{bit}
 use Rattle.model.specs.Tree.{Alts, end, last, letter, more, Seq, union}
-use Rattle.model.specs.Edges.{altsEnd, depth, seqEnd}
+use Rattle.model.specs.Edges.{altsEnd, seqEnd}
 use Rattle.model.specs.Live.{itself, onward, Reached}
 use Rattle.model.specs.Ends.{Spells}
 use Rattle.model.proofs.Language.Accepts.{accepts}
-use Rattle.model.proofs.Language.Arcs.{altsArcs, Arc, arc, ArcKind, arcs, branch-whole, Byte, forkArc, letter-whole, letterArc, loopArc, propagateArc, Still}
-use Rattle.model.proofs.Language.Stretches.{feed, stretch}
+use Rattle.model.proofs.Language.Arcs.{altsArcs, Arc, arc, ArcKind, arcs, backArc, branch-whole, Byte, forkArc, letter-whole, letterArc, loopArc, propagateArc, Still}
+use Rattle.model.proofs.Language.Languages.{feed}
+use Rattle.model.proofs.Language.Stretches.{stretch}
 use Rattle.model.proofs.Language.Texts.{byte, LeadsTo, start, still}
 use Rattle.model.proofs.Laws.Bool.{and-both, and-split, or-left, or-right, or-split}
 use Rattle.model.proofs.Laws.Lists.{all-app, all-in, any-in, any-out, In}
-use Rattle.model.proofs.Passes.Closure.{AnyEdge}
-use Rattle.model.proofs.Passes.OnTrees.{Gathers, Propagates, Scatters}
+use Rattle.model.proofs.Passes.OnTrees.{Silent}
 use Rattle.model.proofs.Words.Full.{Full}
-use Rattle.model.proofs.Words.Passes.{bits-are, passed}
+use Rattle.model.proofs.Words.Rounds.{bits-are, closed}
 
 -- ---- the sets of the run
 -- a letter's arc takes the byte; a loop does
@@ -32,12 +32,14 @@ takesByte b (letterArc c) = bit c b
 takesByte b (loopArc c) = false
 takesByte b propagateArc = false
 takesByte b (forkArc xs) = false
+takesByte b backArc = false
 
 abbrev pub loopsByte : ℕ → ArcKind → Bool
 loopsByte b (letterArc c) = false
 loopsByte b (loopArc c) = bit c b
 loopsByte b propagateArc = false
 loopsByte b (forkArc xs) = false
+loopsByte b backArc = false
 
 -- the letters' and the repeats' sets of a byte, and the set of state 0
 abbrev pub letterSet : List Arc → ℕ → ℕ → Bool
@@ -60,6 +62,7 @@ Steps (letterArc c) i j = j ≡ suc i
 Steps (loopArc c) i j = (j ≡ i) × (0 < j)
 Steps propagateArc i j = Unit
 Steps (forkArc xs) i j = Unit
+Steps backArc i j = Unit
 
 abbrev ArcSteps : Arc → Type 0
 ArcSteps e = Steps (e .kind) (e .from) (e .to)
@@ -68,7 +71,7 @@ mutual
   steps : (s : Seq) (t k : ℕ) → All ArcSteps (arcs s t k)
   steps end t k = tt
   steps (letter c r s) t k = letter-whole ArcSteps c r s t k (record { takes = refl; loops = λ x. (refl, omega arith); skips = λ x. tt; rest = steps s (suc t) k })
-  steps (union m a s) t k = branch-whole ArcSteps m a s t k (record { skips = λ x. tt; forks = tt; alts = altsSteps a t k; rest = steps s (suc (altsEnd a t)) k })
+  steps (union m a s) t k = branch-whole ArcSteps m a s t k (record { skips = λ x. tt; forks = tt; returns = λ x. tt; alts = altsSteps a t k; rest = steps s (suc (altsEnd a t)) k })
 
   altsSteps : (a : Alts) (p k : ℕ) → All ArcSteps (altsArcs a p k)
   altsSteps (last s) p k = steps s (suc p) (suc k)
@@ -80,12 +83,14 @@ takes-move b (letterArc c) i j x n h k = (h, omega arith, k)
 takes-move b (loopArc c) i j x n h k = absurd h
 takes-move b propagateArc i j x n h k = absurd h
 takes-move b (forkArc xs) i j x n h k = absurd h
+takes-move b backArc i j x n h k = absurd h
 
 loops-move : (b : ℕ) (w : ArcKind) (i j x : ℕ) → Steps w i j → T (loopsByte b w) → suc x ≡ j → Byte b w i j (suc x) (suc x)
 loops-move b (letterArc c) i j x n h k = absurd h
 loops-move b (loopArc c) i j x n h k = (h, omega (arith, n .0), k)
 loops-move b propagateArc i j x n h k = absurd h
 loops-move b (forkArc xs) i j x n h k = absurd h
+loops-move b backArc i j x n h k = absurd h
 
 move-from : (b : ℕ) (w : ArcKind) (i j q x : ℕ) → Steps w i j → Byte b w i j q (suc x)
     → (suc x ≡ j) × ((T (takesByte b w) × (q ≡ x)) ⊎ (T (loopsByte b w) × (q ≡ suc x)))
@@ -93,6 +98,7 @@ move-from b (letterArc c) i j q x n m = (m .2, inl (m .0, omega (arith, m .1, m 
 move-from b (loopArc c) i j q x n m = (m .2, inr (m .0, omega (arith, m .1, m .2, n .0)))
 move-from b propagateArc i j q x n m = absurd m
 move-from b (forkArc xs) i j q x n m = absurd m
+move-from b backArc i j q x n m = absurd m
 
 module _ (s : Seq) (F : Full s) where
   abbrev es : List Arc
@@ -139,21 +145,23 @@ module _ (s : Seq) (F : Full s) where
             (any-in (λ e. loopsByte b (e .kind) && eqb (suc x) (e .to)) es e i (and-both (loopsByte b (e .kind)) (eqb (suc x) (e .to)) (k .0) there)))
       ]
 
-  -- ---- the moves along arcs without a letter are the propagate, gather and scatter edges
+  -- ---- the moves along arcs without a letter are the propagate, gather, scatter and back edges
   abbrev Free : ℕ → ℕ → Type 0
-  Free = AnyEdge (Propagates s) (Gathers s) (Scatters s)
+  Free = Silent s
 
   pub still-free : (w : ArcKind) (k i j q r : ℕ) → In es (arc w k i j) → Still w i j q r → Free q r
   still-free (letterArc c) k i j q r h m = absurd m
   still-free (loopArc c) k i j q r h m = absurd m
-  still-free propagateArc k i j q r h m = inl (k, subst (In es) (λ n. arc propagateArc k (sym (m .0) n) (sym (m .1) n)) h)
-  still-free (forkArc xs) k i j q r h (inl m) = inr (inr (k, (xs, j, subst (λ (y : ℕ). In es (arc (forkArc xs) k y j)) (sym (m .0)) h, m .1)))
-  still-free (forkArc xs) k i j q r h (inr m) = inr (inl (k, (xs, i, subst (λ (y : ℕ). In es (arc (forkArc xs) k i y)) (sym (m .1)) h, m .0)))
+  still-free propagateArc k i j q r h m = inl (inl (k, subst (In es) (λ n. arc propagateArc k (sym (m .0) n) (sym (m .1) n)) h))
+  still-free (forkArc xs) k i j q r h (inl m) = inl (inr (inr (k, (xs, j, subst (λ (y : ℕ). In es (arc (forkArc xs) k y j)) (sym (m .0)) h, m .1))))
+  still-free (forkArc xs) k i j q r h (inr m) = inl (inr (inl (k, (xs, i, subst (λ (y : ℕ). In es (arc (forkArc xs) k i y)) (sym (m .1)) h, m .0))))
+  still-free backArc k i j q r h m = inr (k, subst (In es) (λ n. arc backArc k (sym (m .0) n) (sym (m .1) n)) h)
 
   free-leads : (w : List ℕ) (q r : ℕ) → Free q r → LeadsTo (In es) w q → LeadsTo (In es) w r
-  free-leads w q r (inl e) h = still (arc propagateArc (e .0) q r) (e .1) (refl, refl) h
-  free-leads w q r (inr (inl e)) h = still (arc (forkArc (e .1 .0)) (e .0) (e .1 .1) r) (e .1 .2) (inr (e .1 .3, refl)) h
-  free-leads w q r (inr (inr e)) h = still (arc (forkArc (e .1 .0)) (e .0) q (e .1 .1)) (e .1 .2) (inl (refl, e .1 .3)) h
+  free-leads w q r (inl (inl e)) h = still (arc propagateArc (e .0) q r) (e .1) (refl, refl) h
+  free-leads w q r (inl (inr (inl e))) h = still (arc (forkArc (e .1 .0)) (e .0) (e .1 .1) r) (e .1 .2) (inr (e .1 .3, refl)) h
+  free-leads w q r (inl (inr (inr e))) h = still (arc (forkArc (e .1 .0)) (e .0) q (e .1 .1)) (e .1 .2) (inl (refl, e .1 .3)) h
+  free-leads w q r (inr e) h = still (arc backArc (e .0) q r) (e .1) (refl, refl) h
 
   reached-leads : (w : List ℕ) (D : ℕ → Type 0) → ((q : ℕ) → D q → LeadsTo (In es) w q) → {q : ℕ} → Reached Free D q → LeadsTo (In es) w q
   reached-leads w D f (itself h) = f _ h
@@ -161,8 +169,8 @@ module _ (s : Seq) (F : Full s) where
 
   -- ---- the run: the set before any byte, and after one more
   abbrev pub liveSet : List ℕ → ℕ → Bool
-  liveSet [] = passed s F (depth s) startSet
-  liveSet (b ∷ w) = passed s F (depth s) (moved es b (liveSet w))
+  liveSet [] = closed s F startSet
+  liveSet (b ∷ w) = closed s F (moved es b (liveSet w))
 
   run-out : (w : List ℕ) (q : ℕ) → T (liveSet w q) → LeadsTo (In es) w q
   run-out [] q h = reached-leads [] (λ x. T (startSet x)) (λ x k. subst (LeadsTo (In es) []) (sym (eqb→eq x 0 k)) start) (bits-are s F startSet q .0 h)
@@ -189,4 +197,4 @@ module _ (s : Seq) (F : Full s) where
 
   -- THE THEOREM: after the text w the accepting state is live exactly if w ends with a stretch that the tree spells
   pub ends-are : (w : List ℕ) → T (liveSet w (seqEnd s 0)) ↔ ((u : List ℕ) × (v : List ℕ) × (w ≡ feed u v) × Spells s v)
-  ends-are w = (λ h. stretch s w .0 (accepts s w .0 (run-out w (seqEnd s 0) h)), λ h. run-in (accepts s w .1 (stretch s w .1 h)))
+  ends-are w = (λ h. stretch s w .0 (accepts s F w .0 (run-out w (seqEnd s 0) h)), λ h. run-in (accepts s F w .1 (stretch s w .1 h)))

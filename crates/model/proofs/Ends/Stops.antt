@@ -10,7 +10,8 @@ use Rattle.model.specs.Tree.{Seq}
 use Rattle.model.specs.Edges.{seqEnd}
 use Rattle.model.specs.Ends.{Spells}
 use Rattle.model.proofs.Ends.Run.{ends-are, liveSet}
-use Rattle.model.proofs.Language.Stretches.{feed, feed-app}
+use Rattle.model.proofs.Language.Languages.{feed}
+use Rattle.model.proofs.Language.Stretches.{feed-app}
 use Rattle.model.proofs.Words.Full.{Full}
 
 -- a text stops with a stretch that the tree spells

@@ -6,7 +6,7 @@ use native.Mathlib.Nat.{mul-add, mul-assoc, mul-le-mul-left, mul-left-comm, mul-
 use native.Mathlib.Omega.{arith}
 use lib.ListN.{drop, take}
 use lib.Seq.{drop-drop, take-take}
-use Rattle.model.specs.Models.Apart.{chunk, depthWord, gatherAt, gatherIn, lettersIn, propagateAt, propagateIn, repeatsIn, scatterAt, scatterIn, widthWord}
+use Rattle.model.specs.Models.Apart.{backAt, backIn, chunk, depthWord, gatherAt, gatherIn, lettersIn, propagateAt, propagateIn, repeatsIn, scatterAt, scatterIn, widthWord}
 
 -- there is room for part k where there is for n
 pub part-fits : (w : ℕ) {k n : ℕ} → k < n → w * k + w ≤ w * n
@@ -44,6 +44,22 @@ three-at W k j a S ws h e =
     place : a + 3 * W * k + W * j ≡ a + W * (3 * k + j)
     place = omega (arith, mul-add W (3 * k) j, mul-left-comm W 3 k, mul-assoc 3 W k)
 
+pub two-at : (W k j a : ℕ) (S ws : List ℕ) → j < 2 → S ≡ drop a ws → chunk W j (chunk (2 * W) k S) ≡ take W (drop (a + W * (2 * k + j)) ws)
+two-at W k j a S ws h e =
+    part-of-part W (W * j) (2 * W) (drop (2 * W * k) S) (go j h)
+    ∙ ap (λ (l : List ℕ). take W (drop (W * j) (drop (2 * W * k) l))) e
+    ∙ ap (λ (l : List ℕ). take W (drop (W * j) l)) (drop-drop (2 * W * k) a ws)
+    ∙ ap (take W) (drop-drop (W * j) (a + 2 * W * k) ws)
+    ∙ ap (λ (n : ℕ). take W (drop n ws)) place
+  where
+    go : (i : ℕ) → i < 2 → W * i + W ≤ 2 * W
+    go zero l = omega arith
+    go (suc zero) l = omega arith
+    go (suc (suc i)) l = absurd (omega arith)
+
+    place : a + 2 * W * k + W * j ≡ a + W * (2 * k + j)
+    place = omega (arith, mul-add W (2 * k) j, mul-left-comm W 2 k, mul-assoc 2 W k)
+
 -- ---- the sections
 module _ (ws : List ℕ) where
   abbrev W : ℕ
@@ -69,3 +85,8 @@ module _ (ws : List ℕ) where
   propagate-at =
       past (gatherIn ws) ws (gatherAt W d) (3 * W * d) gather-at
       ∙ ap (λ (n : ℕ). drop n ws) (let e : gatherAt W d + 3 * W * d + 1 ≡ propagateAt W d = omega arith in e)
+
+  pub back-at : backIn ws ≡ drop (backAt W d) ws
+  back-at =
+      past (propagateIn ws) ws (propagateAt W d) (3 * W * suc d) propagate-at
+      ∙ ap (λ (n : ℕ). drop n ws) (let e : propagateAt W d + 3 * W * suc d + 1 ≡ backAt W d = omega arith in e)

@@ -5,9 +5,9 @@ use mathlib.Core.Bool.{Bool, true, false, _&&_, _||_, or-assoc}
 use mathlib.Core.List.{List, _∷_, _++_}
 use Prim.Native.Nat.{ℕ, suc}
 use Rattle.model.specs.Lists.{any}
-use Rattle.model.specs.Tree.{Alts, canLoop, canSkip, letter, Mark, more, Repeat, Seq, union}
+use Rattle.model.specs.Tree.{Alts, canLoop, canReturn, canSkip, letter, Mark, more, Repeat, Seq, union}
 use Rattle.model.specs.Edges.{altsEnd, seqEnd, unionEmpty, Way, ways}
-use Rattle.model.proofs.Language.Arcs.{altsArcs, Arc, arc, arcs, forkArc, letterArc, loopArc, propagateArc, when}
+use Rattle.model.proofs.Language.Arcs.{altsArcs, Arc, arc, arcs, backArc, forkArc, letterArc, loopArc, propagateArc, when}
 use Rattle.model.proofs.Laws.Lists.{any-app}
 
 module _ (g : Arc → Bool) where
@@ -43,20 +43,27 @@ module _ (g : Arc → Bool) where
       go a l p f = simp or-assoc
 
   pub any-union : (m : Mark) (a : Alts) (s : Seq) (t k : ℕ) → any g (arcs (union m a s) t k)
-      ≡ (branchTest (unionEmpty m a) k t (ways a t) (suc (altsEnd a t)) || (any g (altsArcs a t k) || any g (arcs s (suc (altsEnd a t)) k)))
+      ≡ (branchTest (unionEmpty m a) k t (ways a t) (suc (altsEnd a t))
+      || ((canReturn m && g (arc backArc k (altsEnd a t) (suc t))) || (any g (altsArcs a t k) || any g (arcs s (suc (altsEnd a t)) k))))
   any-union m a s t k =
-      any-when (unionEmpty m a) (arc propagateArc k t u) (arc (forkArc (ways a t)) k t u ∷ (altsArcs a t k ++ arcs s u k))
-      ∙ ap (λ (v : Bool). P || (F || v)) (any-app g (altsArcs a t k) (arcs s u k))
-      ∙ sym (or-assoc P F (any g (altsArcs a t k) || any g (arcs s u k)))
+      any-when (unionEmpty m a) (arc propagateArc k t u) (arc (forkArc (ways a t)) k t u ∷ when (canReturn m) back (altsArcs a t k ++ arcs s u k))
+      ∙ ap (λ (v : Bool). P || (F || v)) (any-when (canReturn m) back (altsArcs a t k ++ arcs s u k) ∙ ap (λ (v : Bool). R || v) (any-app g (altsArcs a t k) (arcs s u k)))
+      ∙ sym (or-assoc P F (R || (any g (altsArcs a t k) || any g (arcs s u k))))
     where
       u : ℕ
       u = suc (altsEnd a t)
+
+      back : Arc
+      back = arc backArc k (altsEnd a t) (suc t)
 
       P : Bool
       P = unionEmpty m a && g (arc propagateArc k t u)
 
       F : Bool
       F = g (arc (forkArc (ways a t)) k t u)
+
+      R : Bool
+      R = canReturn m && g back
 
   pub any-more : (s : Seq) (a : Alts) (p k : ℕ) → any g (altsArcs (more s a) p k) ≡ (any g (arcs s (suc p) (suc k)) || any g (altsArcs a (seqEnd s (suc p)) k))
   any-more s a p k = any-app g (arcs s (suc p) (suc k)) (altsArcs a (seqEnd s (suc p)) k)

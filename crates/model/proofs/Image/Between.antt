@@ -9,11 +9,11 @@ use native.Mathlib.Omega.{arith}
 use lib.Dec.{T}
 use lib.ListN.{length, getD}
 use Rattle.model.specs.Lists.{All}
-use Rattle.model.specs.Tree.{Alts, canLoop, canOmit, canSkip, end, last, letter, Mark, more, Repeat, Seq, union}
+use Rattle.model.specs.Tree.{Alts, canLoop, canOmit, canReturn, canSkip, end, last, letter, Mark, more, Repeat, Seq, union}
 use Rattle.model.specs.Edges.{altsEmpty, altsEnd, seqEnd, Way, ways}
 use Rattle.model.specs.Models.Tokens.{aBar, aClose, aLetter, altsTokens, anOpen, shown, Token, tokens}
-use Rattle.model.proofs.Image.Unions.{shown-empty}
-use Rattle.model.proofs.Language.Arcs.{altsArcs, Arc, arc, ArcKind, arcs, Branch, branch-parts, branch-whole, forkArc, Letter, letter-parts, letter-whole, letterArc, loopArc, propagateArc}
+use Rattle.model.proofs.Image.Unions.{shown-empty, shown-returns}
+use Rattle.model.proofs.Language.Arcs.{altsArcs, Arc, arc, ArcKind, arcs, backArc, Branch, branch-parts, branch-whole, forkArc, Letter, letter-parts, letter-whole, letterArc, loopArc, propagateArc}
 use Rattle.model.proofs.Laws.Bool.{le-or-lt}
 use Rattle.model.proofs.Laws.Lists.{all-app, all-in, all-left, all-right, In, in-all}
 
@@ -27,6 +27,7 @@ Says K (letterArc c) i j = (j ≡ suc i) × (r : Repeat) × (K i ≡ aLetter c r
 Says K (loopArc c) i j = (j ≡ i) × (z : ℕ) × (r : Repeat) × (i ≡ suc z) × (K z ≡ aLetter c r) × T (canLoop r)
 Says K propagateArc i j = Skips K i j
 Says K (forkArc xs) i j = (K i ≡ anOpen) × (z : ℕ) × (m : Mark) × (j ≡ suc z) × (K z ≡ aClose m)
+Says K backArc i j = (m : Mark) × (K i ≡ aClose m) × T (canReturn m)
 
 -- what a token after state i says of the arcs that have E; a bar says nothing
 abbrev pub Owns : (Arc → Type 0) → Token → ℕ → Type 0
@@ -34,7 +35,9 @@ Owns E (aLetter c r) i =
     (k : ℕ) × E (arc (letterArc c) k i (suc i)) × (T (canLoop r) → E (arc (loopArc c) k (suc i) (suc i))) × (T (canSkip r) → E (arc propagateArc k i (suc i)))
 Owns E anOpen i = (xs : List Way) × (k : ℕ) × (j : ℕ) × E (arc (forkArc xs) k i j)
 Owns E aBar i = Unit
-Owns E (aClose m) i = (xs : List Way) × (k : ℕ) × (j : ℕ) × E (arc (forkArc xs) k j (suc i)) × (T (canOmit m) → E (arc propagateArc k j (suc i)))
+Owns E (aClose m) i =
+    (xs : List Way) × (k : ℕ) × (j : ℕ) × E (arc (forkArc xs) k j (suc i)) × (T (canOmit m) → E (arc propagateArc k j (suc i)))
+    × (T (canReturn m) → E (arc backArc k i (suc j)))
 
 -- ---- the token after each state
 module _ (K : ℕ → Token) where
@@ -102,6 +105,7 @@ module _ (K : ℕ → Token) where
         branch-whole Told m a s t k (record {
           skips = λ x. over-union (altsEnd a t) o refl closed (subst T (sym (shown-empty m (altsEmpty a))) x);
           forks = (S .0, altsEnd a t, o, refl, closed);
+          returns = λ x. (o, closed, subst T (sym (shown-returns m (altsEmpty a))) x);
           alts = told-alts a o t k (S .1);
           rest = told s (suc (altsEnd a t)) k (S .2);
         })
@@ -141,7 +145,7 @@ module _ (K : ℕ → Token) where
           o = shown m (altsEmpty a)
 
           own : Owns E (aClose o) (altsEnd a t)
-          own = (ways a t, k, t, B .forks, λ x. B .skips (subst T (shown-empty m (altsEmpty a)) x))
+          own = (ways a t, k, t, B .forks, λ x. B .skips (subst T (shown-empty m (altsEmpty a)) x), λ x. B .returns (subst T (shown-returns m (altsEmpty a)) x))
 
           go : (t ≡ i) ⊎ (t < i) → (i ≤ altsEnd a t) ⊎ (altsEnd a t < i) → (t < i → i ≤ altsEnd a t → Owned i) → (altsEnd a t < i → Owned i) → Owned i
           go (inl q) y within later = here t i anOpen q (S .0) (ways a t, k, suc (altsEnd a t), B .forks)

@@ -12,8 +12,8 @@ use lib.ListN.{length, getD, drop, length-drop}
 use lib.Seq.{drop-at, length-take-le}
 use Rattle.model.specs.Bits.{bit, mask}
 use Rattle.model.specs.Image.{section, width}
-use Rattle.model.specs.Models.Apart.{anyBelow, bitOf, chunk, depthWord, gatherIn, lettersIn, propagateIn, repeatsIn, scatterIn, stateWord, tape, tokenAt, tokenOf, tokensBetween, tokensFrom, widthWord}
-use Rattle.model.specs.Models.LayOut.{assemble, begin, blockOf, gather-block, gather-source, gather-target, laid, layOut, loop-place, reach, scatter-block, scatter-source, scatter-target, set, sourceOf, targetOf, three, tokenLetters, tokenLoops, valid, Which}
+use Rattle.model.specs.Models.Apart.{anyBelow, backIn, bitOf, chunk, depthWord, gatherIn, lettersIn, propagateIn, repeatsIn, scatterIn, stateWord, tape, tokenAt, tokenOf, tokensBetween, tokensFrom, widthWord}
+use Rattle.model.specs.Models.LayOut.{assemble, back-source, back-target, begin, blockOf, gather-block, gather-source, gather-target, laid, layOut, loop-place, reach, scatter-block, scatter-source, scatter-target, set, sourceOf, targetOf, three, tokenLetters, tokenLoops, two, valid, Which}
 use Rattle.model.specs.Models.Tokens.{aBar, classOf, Token}
 use Rattle.model.specs.Models.Verdict.{accepts}
 use Rattle.model.specs.Models.Words.{andWords, Fit, value}
@@ -21,7 +21,7 @@ use Rattle.model.proofs.Image.LetterPlaces.{repeats-by-letters}
 use Rattle.model.proofs.Image.Rebuild.{rebuild}
 use Rattle.model.proofs.Image.Rows.{room, wide}
 use Rattle.model.proofs.Image.SameBits.{fit-drop, fit-take, holds-one}
-use Rattle.model.proofs.Image.Sections.{after-gather, after-repeats, after-scatter, gather-found, gatherRows, gathers-length, length-assembled, letterRows, letters-length, loopRows, loops-length, part-gather, part-letters, part-propagate, part-repeats, part-scatter, propagateRows, propagates-length, repeats-found, scatter-found, scatterRows, scatters-length}
+use Rattle.model.proofs.Image.Sections.{after-gather, after-propagate, after-repeats, after-scatter, backRows, backs-length, gather-found, gatherRows, gathers-length, length-assembled, letterRows, letters-length, loopRows, loops-length, part-back, part-gather, part-letters, part-propagate, part-repeats, part-scatter, propagate-found, propagateRows, propagates-length, repeats-found, scatter-found, scatterRows, scatters-length}
 use Rattle.model.proofs.Image.Verdict.{accept, accepted}
 use Rattle.model.proofs.Laws.Bits.{below-in, bit-zero}
 use Rattle.model.proofs.Laws.Bool.{is-not}
@@ -31,7 +31,7 @@ use Rattle.model.proofs.Words.Operations.{near-and, none-and-l}
 
 -- ---- what is compared
 pub record Compared (ws : List ℕ) (l : List Token) : Type 0 where
-  pub long : length ws ≡ 9 + widthWord ws * (515 + 9 * depthWord ws)
+  pub long : length ws ≡ 10 + widthWord ws * (515 + 11 * depthWord ws)
   pub shape-count : getD ws 0 0 ≡ 3
   pub states : stateWord ws ≡ suc (length l)
   pub width-word : widthWord ws ≡ width (stateWord ws)
@@ -41,6 +41,7 @@ pub record Compared (ws : List ℕ) (l : List Token) : Type 0 where
   pub scatter-count : getD (drop (widthWord ws * 256) (repeatsIn ws)) 0 0 ≡ 3 * widthWord ws * depthWord ws
   pub gather-count : getD (drop (3 * widthWord ws * depthWord ws) (scatterIn ws)) 0 0 ≡ 3 * widthWord ws * depthWord ws
   pub propagate-count : getD (drop (3 * widthWord ws * depthWord ws) (gatherIn ws)) 0 0 ≡ 3 * widthWord ws * suc (depthWord ws)
+  pub back-count : getD (drop (3 * widthWord ws * suc (depthWord ws)) (propagateIn ws)) 0 0 ≡ 2 * widthWord ws * depthWord ws
   -- no letter mask has state 0 or a state at or past m
   pub letters : (b x : ℕ) → b < 256 → (x ≡ 0) ⊎ (stateWord ws ≤ x) → bitOf (widthWord ws) (lettersIn ws) b x ≡ false
   pub repeats : (b : ℕ) → b < 256 → chunk (widthWord ws) b (repeatsIn ws)
@@ -51,6 +52,8 @@ pub record Compared (ws : List ℕ) (l : List Token) : Type 0 where
       ≡ three (stateWord ws) (widthWord ws) (layOut l begin gather-block k) (layOut l begin gather-source k) (layOut l begin gather-target k)
   pub propagate : (k : ℕ) → k < suc (depthWord ws) → chunk (3 * widthWord ws) k (propagateIn ws)
       ≡ three (stateWord ws) (widthWord ws) (blockOf (layOut l begin) k) (sourceOf (layOut l begin) k) (targetOf (layOut l begin) k)
+  pub back : (k : ℕ) → k < depthWord ws → chunk (2 * widthWord ws) k (backIn ws)
+      ≡ two (stateWord ws) (widthWord ws) (layOut l begin back-source k) (layOut l begin back-target k)
 
 -- a repeat mask by the letter mask xs: words that hold a letter's set, and the loop places, are the loops' set
 repeat-words : (l : List Token) (b m W : ℕ) (xs : List ℕ) → m ≡ suc (length l) → m ≤ wide W → Holds m W xs (tokenLetters l b)
@@ -70,11 +73,11 @@ repeat-words l b m W xs states fits X =
     P = set-holds m W (layOut l begin loop-place 0) fits
 
 -- ---- a tape's letters are read off the words themselves
-class-of : (f : ℕ → Bool) (l n p c o : Bool) (b : ℕ) → b < 256 → anyBelow 256 f ≡ l → bit (classOf (tokenOf l (mask 256 f) n p c o)) b ≡ f b
-class-of f true n p c o b h e = bit-mask 256 b f h
-class-of f false n p c o b h e = go c o ∙ bit-zero b ∙ sym (is-not (f b) (λ t. subst T e (below-in 256 f b h t)))
+class-of : (f : ℕ → Bool) (l n p c o r : Bool) (b : ℕ) → b < 256 → anyBelow 256 f ≡ l → bit (classOf (tokenOf l (mask 256 f) n p c o r)) b ≡ f b
+class-of f true n p c o r b h e = bit-mask 256 b f h
+class-of f false n p c o r b h e = go c o ∙ bit-zero b ∙ sym (is-not (f b) (λ t. subst T e (below-in 256 f b h t)))
   where
-    go : (c o : Bool) → bit (classOf (tokenOf false (mask 256 f) n p c o)) b ≡ bit 0 b
+    go : (c o : Bool) → bit (classOf (tokenOf false (mask 256 f) n p c o r)) b ≡ bit 0 b
     go true o = refl
     go false true = refl
     go false false = refl
@@ -100,7 +103,7 @@ getD-between (suc n) i f h = getD-from n 0 i f (le-of-suc-le-suc h) ∙ ap f (ze
 pub tape-letters : (ws : List ℕ) (b i : ℕ) → b < 256 → suc i < stateWord ws → tokenLetters (tape ws) b (suc i) ≡ bitOf (widthWord ws) (lettersIn ws) b (suc i)
 tape-letters ws b i h k =
     ap (λ (y : Token). bit (classOf y) b) (getD-between (stateWord ws) i (tokenAt ws) k)
-    ∙ class-of (λ b. bitOf (widthWord ws) (lettersIn ws) b (suc i)) (anyBelow 256 (λ b. bitOf (widthWord ws) (lettersIn ws) b (suc i))) _ _ _ _ b h refl
+    ∙ class-of (λ b. bitOf (widthWord ws) (lettersIn ws) b (suc i)) (anyBelow 256 (λ b. bitOf (widthWord ws) (lettersIn ws) b (suc i))) _ _ _ _ _ b h refl
 
 -- SOUND: what was compared is all
 pub compared-laid : (ws : List ℕ) → Fit ws → Compared ws (tape ws) → ws ≡ laid (tape ws)
@@ -113,11 +116,13 @@ compared-laid ws fit C =
       scatter-count = C .scatter-count;
       gather-count = C .gather-count;
       propagate-count = C .propagate-count;
+      back-count = C .back-count;
       letters = letters-same;
       repeats = λ b h. C .repeats b h ∙ repeat-words l b m W (chunk W b (lettersIn ws)) (C .states) fits (letters-hold b h);
       scatter = C .scatter;
       gather = C .gather;
       propagate = C .propagate;
+      back = C .back;
     })
     ∙ (λ i. assemble (C .states i) ((C .width-word ∙ ap width (C .states)) i) (C .level i) (tokenLetters l) (tokenLoops l) (layOut l begin))
   where
@@ -197,9 +202,11 @@ module _ (l : List Token) where
         (repeats-found m W d L R B) (loops-length m W d L R B) (scatters-length m W d L R B);
     gather-count = count-after (scatterIn (laid l)) (scatterRows m W d L R B) (gatherRows m W d L R B) (after-gather m W d L R B) (3 * W * d) (3 * W * d)
         (scatter-found m W d L R B) (scatters-length m W d L R B) (gathers-length m W d L R B);
-    propagate-count = count-after (gatherIn (laid l)) (gatherRows m W d L R B) (propagateRows m W d L R B) [] (3 * W * d) (3 * W * suc d)
-        (gather-found m W d L R B ∙ ap (λ (z : List ℕ). gatherRows m W d L R B ++ z) (sym (append-nil (after-gather m W d L R B))))
-        (gathers-length m W d L R B) (propagates-length m W d L R B);
+    propagate-count = count-after (gatherIn (laid l)) (gatherRows m W d L R B) (propagateRows m W d L R B) (after-propagate m W d L R B) (3 * W * d) (3 * W * suc d)
+        (gather-found m W d L R B) (gathers-length m W d L R B) (propagates-length m W d L R B);
+    back-count = count-after (propagateIn (laid l)) (propagateRows m W d L R B) (backRows m W d L R B) [] (3 * W * suc d) (2 * W * d)
+        (propagate-found m W d L R B ∙ ap (λ (z : List ℕ). propagateRows m W d L R B ++ z) (sym (append-nil (after-propagate m W d L R B))))
+        (propagates-length m W d L R B) (backs-length m W d L R B);
     letters = λ b x h o. ap (λ (z : List ℕ). bit (value z) x) (part-letters m W d L R B b h) ∙ set-clear (L b) x refl o;
     repeats = λ b h. part-repeats m W d L R B b h
         ∙ sym (ap (λ (z : List ℕ). andWords z (set m W (B loop-place 0))) (part-letters m W d L R B b h)
@@ -207,6 +214,7 @@ module _ (l : List Token) where
     scatter = part-scatter m W d L R B;
     gather = part-gather m W d L R B;
     propagate = part-propagate m W d L R B;
+    back = part-back m W d L R B;
   }
 
 -- THE COMPARISON DECIDES, for any words below 2^64

@@ -28,7 +28,7 @@ use Rattle.model.proofs.Image.Tokens.{tokens-inj}
 use Rattle.model.proofs.Image.Unions.{good-full}
 use Rattle.model.proofs.Image.Verdict.{is-image, IsImage}
 use Rattle.model.proofs.Image.WellFormed.{well-fine, well-formed}
-use Rattle.model.proofs.Language.Stretches.{feed}
+use Rattle.model.proofs.Language.Languages.{feed}
 use Rattle.model.proofs.Reading.WellFormed.{rule-well, WellFormed}
 use Rattle.model.proofs.Reading.Written.{written}
 use Rattle.model.proofs.Words.Full.{Full}

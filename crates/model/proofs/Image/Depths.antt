@@ -1,6 +1,6 @@
 -- Some mask of some depth below a tree's depth has a state exactly if some arc marks that state: no union and no propagate edge lies deeper.
 use mathlib.Core.Path.{_≡_, refl, sym, _∙_}
-use mathlib.Core.Bool.{Bool, _&&_}
+use mathlib.Core.Bool.{Bool, _&&_, _||_}
 use mathlib.Core.List.{List}
 use Prim.Native.Nat.{ℕ, suc, _+_, _≤_, _<_}
 use native.Mathlib.Omega.{arith}
@@ -9,19 +9,19 @@ use Rattle.model.specs.Lists.{All, any}
 use Rattle.model.specs.Tree.{Alts, end, last, letter, more, Seq, union}
 use Rattle.model.specs.Edges.{altsDepth, altsEnd, depth, seqEnd}
 use Rattle.model.specs.Models.Apart.{anyBelow}
-use Rattle.model.specs.Models.LayOut.{entering, gather-target, scatter-source}
+use Rattle.model.specs.Models.LayOut.{back-source, entering, gather-target, scatter-source}
 use Rattle.model.proofs.Image.Marks.{onKind}
 use Rattle.model.proofs.Image.Places.{arcs-set}
 use Rattle.model.proofs.Image.Sets.{treeSet}
-use Rattle.model.proofs.Image.Shown.{closes, isFork, isPropagate, opens, skips}
-use Rattle.model.proofs.Language.Arcs.{altsArcs, Arc, ArcKind, arcs, branch-whole, forkArc, letter-whole, letterArc, loopArc, propagateArc}
+use Rattle.model.proofs.Image.Shown.{closes, comesBack, isFork, isPropagate, isReturn, opens, skips}
+use Rattle.model.proofs.Language.Arcs.{altsArcs, Arc, ArcKind, arcs, backArc, branch-whole, forkArc, letter-whole, letterArc, loopArc, propagateArc}
 use Rattle.model.proofs.Laws.Bits.{below-in, below-out, below-same}
-use Rattle.model.proofs.Laws.Bool.{and-both, and-split, same-truth}
+use Rattle.model.proofs.Laws.Bool.{and-both, and-split, or-left, or-right, same-truth}
 use Rattle.model.proofs.Laws.Lists.{all-app, all-in, any-in, any-out, In}
 
--- an arc lies no deeper than n, and a union above it
+-- an arc lies no deeper than n, and a union, or its way back, above it
 abbrev Shallow : ℕ → Arc → Type 0
-Shallow n e = (e .level ≤ n) × (T (isFork (e .kind)) → e .level < n)
+Shallow n e = (e .level ≤ n) × (T (isFork (e .kind) || isReturn (e .kind)) → e .level < n)
 
 mutual
   shallow : (s : Seq) (t k n : ℕ) → k + depth s ≤ n → All (Shallow n) (arcs s t k)
@@ -37,6 +37,7 @@ mutual
       branch-whole (Shallow n) m a s t k (record {
         skips = λ y. (omega arith, λ x. absurd x);
         forks = (omega arith, λ x. omega arith);
+        returns = λ y. (omega arith, λ x. omega arith);
         alts = shallow-alts a t k n (omega arith);
         rest = shallow s (suc (altsEnd a t)) k n (omega arith);
       })
@@ -88,25 +89,27 @@ module _ (s : Seq) (i : ℕ) where
   pub open-is : anyBelow (depth s) (λ k. treeSet s scatter-source k i) ≡ opens es i
   open-is =
       by-depth (depth s) (λ k. treeSet s scatter-source k i) (onKind scatter-source i) (λ w a z. isFork w && eqb i a) (λ k. sym (arcs-set s scatter-source k i))
-      same (λ e h t. depth-of e h .1 (and-split (isFork (e .kind)) (eqb i (e .from)) t .0))
+      same (λ e h t. depth-of e h .1 (or-left (isFork (e .kind)) (isReturn (e .kind)) (and-split (isFork (e .kind)) (eqb i (e .from)) t .0)))
     where
       same : (w : ArcKind) (a z : ℕ) → onKind scatter-source i w a z ≡ (isFork w && eqb i a)
       same (letterArc c) a z = refl
       same (loopArc c) a z = refl
       same propagateArc a z = refl
       same (forkArc xs) a z = refl
+      same backArc a z = refl
 
   -- a union ends in i + 1
   pub close-is : anyBelow (depth s) (λ k. treeSet s gather-target k (suc i)) ≡ closes es i
   close-is =
       by-depth (depth s) (λ k. treeSet s gather-target k (suc i)) (onKind gather-target (suc i)) (λ w a z. isFork w && eqb (suc i) z)
-      (λ k. sym (arcs-set s gather-target k (suc i))) same (λ e h t. depth-of e h .1 (and-split (isFork (e .kind)) (eqb (suc i) (e .to)) t .0))
+      (λ k. sym (arcs-set s gather-target k (suc i))) same (λ e h t. depth-of e h .1 (or-left (isFork (e .kind)) (isReturn (e .kind)) (and-split (isFork (e .kind)) (eqb (suc i) (e .to)) t .0)))
     where
       same : (w : ArcKind) (a z : ℕ) → onKind gather-target (suc i) w a z ≡ (isFork w && eqb (suc i) z)
       same (letterArc c) a z = refl
       same (loopArc c) a z = refl
       same propagateArc a z = refl
       same (forkArc xs) a z = refl
+      same backArc a z = refl
 
   -- a propagate edge enters i + 1
   pub skip-is : anyBelow (suc (depth s)) (λ k. treeSet s entering k (suc i)) ≡ skips es i
@@ -119,3 +122,17 @@ module _ (s : Seq) (i : ℕ) where
       same (loopArc c) a z = refl
       same propagateArc a z = refl
       same (forkArc xs) a z = refl
+      same backArc a z = refl
+
+  -- a back edge starts in i
+  pub return-is : anyBelow (depth s) (λ k. treeSet s back-source k i) ≡ comesBack es i
+  return-is =
+      by-depth (depth s) (λ k. treeSet s back-source k i) (onKind back-source i) (λ w a z. isReturn w && eqb i a) (λ k. sym (arcs-set s back-source k i))
+      same (λ e h t. depth-of e h .1 (or-right (isFork (e .kind)) (isReturn (e .kind)) (and-split (isReturn (e .kind)) (eqb i (e .from)) t .0)))
+    where
+      same : (w : ArcKind) (a z : ℕ) → onKind back-source i w a z ≡ (isReturn w && eqb i a)
+      same (letterArc c) a z = refl
+      same (loopArc c) a z = refl
+      same propagateArc a z = refl
+      same (forkArc xs) a z = refl
+      same backArc a z = refl

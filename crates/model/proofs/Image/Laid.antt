@@ -6,7 +6,7 @@ use Prim.Native.Nat.{ℕ, suc, _<_}
 use Rattle.model.specs.Tree.{Seq}
 use Rattle.model.specs.Edges.{depth, seqEnd}
 use Rattle.model.specs.Image.{join, section, width}
-use Rattle.model.specs.Models.LayOut.{assemble, begin, blockOf, gather-block, gather-source, gather-target, laid, layOut, scatter-block, scatter-source, scatter-target, set, sourceOf, targetOf, three, tokenLetters, tokenLoops, Which}
+use Rattle.model.specs.Models.LayOut.{assemble, back-source, back-target, begin, blockOf, gather-block, gather-source, gather-target, laid, layOut, scatter-block, scatter-source, scatter-target, set, sourceOf, targetOf, three, tokenLetters, tokenLoops, two, Which}
 use Rattle.model.specs.Models.Tokens.{Token, tokens}
 use Rattle.model.proofs.Ends.Run.{letterSet, loopSet}
 use Rattle.model.proofs.Image.Depth.{reach-is}
@@ -28,7 +28,8 @@ assemble-same m W d L R L′ R′ B B′ hl hr hb =
     ++ (section (join-same 256 0 (λ b. set m W (R b)) (λ b. set m W (R′ b)) (λ b h. set-same m W (R b) (R′ b) (λ x l. hr b x h l)) i)
     ++ (section (join d 0 (λ k. three m W (λ x. hb scatter-block k x i) (λ x. hb scatter-source k x i) (λ x. hb scatter-target k x i)))
     ++ (section (join d 0 (λ k. three m W (λ x. hb gather-block k x i) (λ x. hb gather-source k x i) (λ x. hb gather-target k x i)))
-    ++ section (join (suc d) 0 (λ k. three m W (blockOf (λ w k x. hb w k x i) k) (sourceOf (λ w k x. hb w k x i) k) (targetOf (λ w k x. hb w k x i) k)))))))
+    ++ (section (join (suc d) 0 (λ k. three m W (blockOf (λ w k x. hb w k x i) k) (sourceOf (λ w k x. hb w k x i) k) (targetOf (λ w k x. hb w k x i) k)))
+    ++ section (join d 0 (λ k. two m W (λ x. hb back-source k x i) (λ x. hb back-target k x i))))))))
 
 -- THE THEOREM
 pub laid-is : (s : Seq) → laid (tokens s []) ≡ arcImage s

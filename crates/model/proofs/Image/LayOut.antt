@@ -5,15 +5,15 @@ use mathlib.Core.List.{List, [], _∷_}
 use Prim.Native.Nat.{ℕ, suc}
 use lib.ListN.{length}
 use Rattle.model.specs.Lists.{any}
-use Rattle.model.specs.Tree.{Alts, canOmit, end, last, letter, Mark, more, Seq, union}
+use Rattle.model.specs.Tree.{Alts, canOmit, canReturn, end, last, letter, Mark, more, Seq, union}
 use Rattle.model.specs.Edges.{altsEmpty, altsEnd, seqEmpty, seqEnd, unionEmpty}
-use Rattle.model.specs.Models.LayOut.{barMarks, begin, bridgeMarks, closeMarksIn, Frame, layOut, nextAlternative, opened, openMarks, Scan, step, Which}
+use Rattle.model.specs.Models.LayOut.{barMarks, begin, bridgeMarks, closeMarksIn, Frame, layOut, nextAlternative, opened, openMarks, returnMarks, Scan, step, Which}
 use Rattle.model.specs.Models.Tokens.{aBar, aClose, aLetter, altsTokens, shown, Token, tokens}
 use Rattle.model.proofs.Image.ArcTests.{any-letter, any-more, any-union, letterTest}
-use Rattle.model.proofs.Image.Marks.{bridge-marks, letter-marks, on, tailMarks, union-marks}
+use Rattle.model.proofs.Image.Marks.{bridge-marks, letter-marks, on, return-marks, tailMarks, union-marks}
 use Rattle.model.proofs.Image.Scan.{after, after-end, after-letter, after-union, afterUnion, alternativeAt}
-use Rattle.model.proofs.Image.Unions.{shown-empty}
-use Rattle.model.proofs.Language.Arcs.{altsArcs, Arc, arc, arcs, propagateArc}
+use Rattle.model.proofs.Image.Unions.{shown-empty, shown-returns}
+use Rattle.model.proofs.Language.Arcs.{altsArcs, Arc, arc, arcs, backArc, propagateArc}
 use Rattle.model.proofs.Laws.Bool.{or-left-comm}
 
 module _ (w : Which) (k x : ℕ) where
@@ -41,9 +41,10 @@ module _ (w : Which) (k x : ℕ) where
     sets (union m a s) rest q =
         ap (λ (v : Bool). O || v)
         (sets-alts a n (tokens s rest) t (opened q) (q .stack)
-        ∙ (λ i. (I || (M || (shown-empty m (altsEmpty a) i && bridge-marks w k x d t u i))) || sets s rest (afterUnion a n t (opened q) (q .stack)) i))
-        ∙ go O I M P F (laidFrom rest (after s (afterUnion a n t (opened q) (q .stack))))
-        ∙ ap₂ (λ (v : Bool) (z : Scan). ((P || v) || (I || F)) || laidFrom rest z) (union-marks w k x d a q) (after-union m a s q)
+        ∙ (λ i. (I || (M || ((shown-empty m (altsEmpty a) i && bridge-marks w k x d t u i) || (shown-returns m (altsEmpty a) i && return-marks w k x d (altsEnd a t) (suc t) i))))
+        || sets s rest (afterUnion a n t (opened q) (q .stack)) i))
+        ∙ go O I M P R F (laidFrom rest (after s (afterUnion a n t (opened q) (q .stack))))
+        ∙ ap₂ (λ (v : Bool) (z : Scan). ((P || v) || (R || (I || F))) || laidFrom rest z) (union-marks w k x d a q) (after-union m a s q)
         ∙ ap (λ (v : Bool). v || laidFrom rest (after (union m a s) q)) (sym (any-union (on w k x) m a s t d))
       where
         t : ℕ
@@ -70,16 +71,20 @@ module _ (w : Which) (k x : ℕ) where
         P : Bool
         P = unionEmpty m a && on w k x (arc propagateArc d t u)
 
+        R : Bool
+        R = canReturn m && on w k x (arc backArc d (altsEnd a t) (suc t))
+
         F : Bool
         F = marked (arcs s u d)
 
-        go : (o i m p f r : Bool) → (o || ((i || (m || p)) || (f || r))) ≡ (((p || (o || m)) || (i || f)) || r)
-        go o i m p f r = simp (or-assoc, or-left-comm)
+        go : (o i m p b f r : Bool) → (o || ((i || (m || (p || b))) || (f || r))) ≡ (((p || (o || m)) || (b || (i || f))) || r)
+        go o i m p b f r = simp (or-assoc, or-left-comm)
 
-    -- the alternatives after state p of an open union: their arcs, the union's bars and close, its propagate edge
+    -- the alternatives after state p of an open union: their arcs, the union's bars and close, its propagate edge and its back edge
     sets-alts : (a : Alts) (m : Mark) (rest : List Token) (p : ℕ) (f : Frame) (st : List Frame) → laidFrom (altsTokens a m rest) (alternativeAt p f st)
         ≡ ((marked (altsArcs a p (length st))
-        || (tailMarks a p (length st) f w k x || (canOmit m && bridgeMarks (f .start) (suc (altsEnd a p)) (length st) w k x)))
+        || (tailMarks a p (length st) f w k x
+        || ((canOmit m && bridgeMarks (f .start) (suc (altsEnd a p)) (length st) w k x) || (canReturn m && returnMarks (altsEnd a p) (suc (f .start)) (length st) w k x))))
         || laidFrom rest (afterUnion a m p f st))
     sets-alts (last s) m rest p f st =
         sets s (aClose m ∷ rest) (alternativeAt p f st)
@@ -113,7 +118,7 @@ module _ (w : Which) (k x : ℕ) where
         M = tailMarks a z d g w k x
 
         P : Bool
-        P = canOmit m && bridgeMarks (f .start) (suc (altsEnd a z)) d w k x
+        P = (canOmit m && bridgeMarks (f .start) (suc (altsEnd a z)) d w k x) || (canReturn m && returnMarks (altsEnd a z) (suc (f .start)) d w k x)
 
         R : Bool
         R = laidFrom rest (afterUnion (more s a) m p f st)

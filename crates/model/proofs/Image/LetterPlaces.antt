@@ -10,7 +10,7 @@ use native.Mathlib.Omega.{arith}
 use lib.Dec.{T, eqb, eqb-refl}
 use lib.ListN.{length, getD}
 use Rattle.model.specs.Bits.{bit}
-use Rattle.model.specs.Tree.{canLoop, canOmit, once, option, plus, star}
+use Rattle.model.specs.Tree.{canLoop, canOmit, canReturn, once, option, plus, star}
 use Rattle.model.specs.Models.Apart.{anyBelow, bitOf, lettersIn, stateWord, widthWord}
 use Rattle.model.specs.Models.LayOut.{afterBar, afterClose, barMarksIn, begin, closeMarksIn, Frame, layOut, letter-place, loop-place, mark, Scan, set, step, tokenLetters, tokenLoops, Which}
 use Rattle.model.specs.Models.Tokens.{aBar, aClose, aLetter, anOpen, classOf, loopClassOf, Token}
@@ -89,7 +89,7 @@ loop-marks (aClose m) q x = go (q .stack)
   where
     go : (st : List Frame) → closeMarksIn m (q .position) st loop-place 0 x ≡ false
     go [] = refl
-    go (f ∷ st) = and-false (canOmit m)
+    go (f ∷ st) = ap₂ _||_ (and-false (canOmit m)) (and-false (canReturn m))
 
 pub lay-loops : (l : List Token) (q : Scan) (i : ℕ) → i < length l → layOut l q loop-place 0 (suc (q .position + i)) ≡ isLooping (getD l i aBar)
 lay-loops = at-token loop-place isLooping loop-marks
@@ -122,7 +122,7 @@ letter-marks (aClose m) q x = go (q .stack)
   where
     go : (st : List Frame) → closeMarksIn m (q .position) st letter-place 0 x ≡ false
     go [] = refl
-    go (f ∷ st) = and-false (canOmit m)
+    go (f ∷ st) = ap₂ _||_ (and-false (canOmit m)) (and-false (canReturn m))
 
 pub lay-letters : (l : List Token) (q : Scan) (i : ℕ) → i < length l → layOut l q letter-place 0 (suc (q .position + i)) ≡ isLetter (getD l i aBar)
 lay-letters = at-token letter-place isLetter letter-marks

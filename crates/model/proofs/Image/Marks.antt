@@ -7,9 +7,9 @@ use Rattle.model.specs.Lists.{within}
 use Rattle.model.specs.Tree.{Alts, canLoop, canSkip, last, more, Repeat}
 use Rattle.model.specs.Edges.{altsEnd, endsOf, seqEmpty, seqEnd, startsOf, ways}
 use Rattle.model.specs.Image.{firstEnd, lastStart}
-use Rattle.model.specs.Models.LayOut.{barMarks, bridgeMarks, closeMarks, entering, Frame, gather-block, gather-source, gather-target, leaving, letter-place, letterMarks, loop-place, nextAlternative, opened, openMarks, Scan, scatter-block, scatter-source, scatter-target, Which}
+use Rattle.model.specs.Models.LayOut.{back-source, back-target, barMarks, bridgeMarks, closeMarks, entering, Frame, gather-block, gather-source, gather-target, leaving, letter-place, letterMarks, loop-place, nextAlternative, opened, openMarks, returnMarks, Scan, scatter-block, scatter-source, scatter-target, Which}
 use Rattle.model.proofs.Image.ArcTests.{letterTest}
-use Rattle.model.proofs.Language.Arcs.{Arc, arc, ArcKind, forkArc, letterArc, loopArc, propagateArc}
+use Rattle.model.proofs.Language.Arcs.{Arc, arc, ArcKind, backArc, forkArc, letterArc, loopArc, propagateArc}
 
 -- ---- the places of an arc
 -- letter and loop places have no depth of their own
@@ -24,48 +24,70 @@ levelOf gather-source d = d
 levelOf gather-target d = d
 levelOf leaving d = d
 levelOf entering d = d
+levelOf back-source d = d
+levelOf back-target d = d
 
 abbrev pub onKind : Which → ℕ → ArcKind → ℕ → ℕ → Bool
 onKind letter-place x (letterArc c) i j = eqb x j
 onKind letter-place x (loopArc c) i j = false
 onKind letter-place x propagateArc i j = false
 onKind letter-place x (forkArc xs) i j = false
+onKind letter-place x backArc i j = false
 onKind loop-place x (letterArc c) i j = false
 onKind loop-place x (loopArc c) i j = eqb x j
 onKind loop-place x propagateArc i j = false
 onKind loop-place x (forkArc xs) i j = false
+onKind loop-place x backArc i j = false
 onKind scatter-block x (letterArc c) i j = false
 onKind scatter-block x (loopArc c) i j = false
 onKind scatter-block x propagateArc i j = false
 onKind scatter-block x (forkArc xs) i j = eqb x (suc (lastStart xs))
+onKind scatter-block x backArc i j = false
 onKind scatter-source x (letterArc c) i j = false
 onKind scatter-source x (loopArc c) i j = false
 onKind scatter-source x propagateArc i j = false
 onKind scatter-source x (forkArc xs) i j = eqb x i
+onKind scatter-source x backArc i j = false
 onKind scatter-target x (letterArc c) i j = false
 onKind scatter-target x (loopArc c) i j = false
 onKind scatter-target x propagateArc i j = false
 onKind scatter-target x (forkArc xs) i j = within x (startsOf xs)
+onKind scatter-target x backArc i j = false
 onKind gather-block x (letterArc c) i j = false
 onKind gather-block x (loopArc c) i j = false
 onKind gather-block x propagateArc i j = false
 onKind gather-block x (forkArc xs) i j = leb (firstEnd xs) x && ltb x j
+onKind gather-block x backArc i j = false
 onKind gather-source x (letterArc c) i j = false
 onKind gather-source x (loopArc c) i j = false
 onKind gather-source x propagateArc i j = false
 onKind gather-source x (forkArc xs) i j = within x (endsOf xs)
+onKind gather-source x backArc i j = false
 onKind gather-target x (letterArc c) i j = false
 onKind gather-target x (loopArc c) i j = false
 onKind gather-target x propagateArc i j = false
 onKind gather-target x (forkArc xs) i j = eqb x j
+onKind gather-target x backArc i j = false
 onKind leaving x (letterArc c) i j = false
 onKind leaving x (loopArc c) i j = false
 onKind leaving x propagateArc i j = eqb x i
 onKind leaving x (forkArc xs) i j = false
+onKind leaving x backArc i j = false
 onKind entering x (letterArc c) i j = false
 onKind entering x (loopArc c) i j = false
 onKind entering x propagateArc i j = eqb x j
 onKind entering x (forkArc xs) i j = false
+onKind entering x backArc i j = false
+onKind back-source x (letterArc c) i j = false
+onKind back-source x (loopArc c) i j = false
+onKind back-source x propagateArc i j = false
+onKind back-source x (forkArc xs) i j = false
+onKind back-source x backArc i j = eqb x i
+onKind back-target x (letterArc c) i j = false
+onKind back-target x (loopArc c) i j = false
+onKind back-target x propagateArc i j = false
+onKind back-target x (forkArc xs) i j = false
+onKind back-target x backArc i j = eqb x j
 
 abbrev pub on : Which → ℕ → ℕ → Arc → Bool
 on w k x e = onKind w x (e .kind) (e .from) (e .to) && eqb (levelOf w (e .level)) k
@@ -82,6 +104,23 @@ bridge-marks gather-source k x d i j = refl
 bridge-marks gather-target k x d i j = refl
 bridge-marks leaving k x d i j = refl
 bridge-marks entering k x d i j = refl
+bridge-marks back-source k x d i j = refl
+bridge-marks back-target k x d i j = refl
+
+-- ---- a back edge
+pub return-marks : (w : Which) (k x d i j : ℕ) → returnMarks i j d w k x ≡ on w k x (arc backArc d i j)
+return-marks letter-place k x d i j = refl
+return-marks loop-place k x d i j = refl
+return-marks scatter-block k x d i j = refl
+return-marks scatter-source k x d i j = refl
+return-marks scatter-target k x d i j = refl
+return-marks gather-block k x d i j = refl
+return-marks gather-source k x d i j = refl
+return-marks gather-target k x d i j = refl
+return-marks leaving k x d i j = refl
+return-marks entering k x d i j = refl
+return-marks back-source k x d i j = refl
+return-marks back-target k x d i j = refl
 
 -- ---- a letter: its own arc, its loop, its propagate edge
 nothing : (l s : Bool) → false ≡ ((l && false) || (s && false))
@@ -100,6 +139,8 @@ letter-marks gather-source k x d t c r = nothing (canLoop r) (canSkip r)
 letter-marks gather-target k x d t c r = nothing (canLoop r) (canSkip r)
 letter-marks leaving k x d t c r = ap (λ (b : Bool). b || (canSkip r && (eqb x t && eqb d k))) (sym (and-false (canLoop r)))
 letter-marks entering k x d t c r = ap (λ (b : Bool). b || (canSkip r && (eqb x (suc t) && eqb d k))) (sym (and-false (canLoop r)))
+letter-marks back-source k x d t c r = nothing (canLoop r) (canSkip r)
+letter-marks back-target k x d t c r = nothing (canLoop r) (canSkip r)
 
 -- ---- a union
 -- what the bars and the close of the alternatives after state p mark, for a union at depth d with the frame f
@@ -158,3 +199,5 @@ union-marks gather-source k x d a q = tail-gather-source k x d a (q .position) (
 union-marks gather-target k x d a q = tail-gather-target k x d a (q .position) (opened q)
 union-marks leaving k x d a q = tail-none k x d leaving (λ z f a. refl) (λ z. refl) a (q .position) (opened q)
 union-marks entering k x d a q = tail-none k x d entering (λ z f a. refl) (λ z. refl) a (q .position) (opened q)
+union-marks back-source k x d a q = tail-none k x d back-source (λ z f a. refl) (λ z. refl) a (q .position) (opened q)
+union-marks back-target k x d a q = tail-none k x d back-target (λ z f a. refl) (λ z. refl) a (q .position) (opened q)

@@ -8,12 +8,12 @@ use lib.Dec.{leb, ltb, eqb}
 use Rattle.model.specs.Lists.{any, within}
 use Rattle.model.specs.Tree.{Seq}
 use Rattle.model.specs.Edges.{Way}
-use Rattle.model.specs.Models.LayOut.{begin, entering, gather-block, gather-source, gather-target, layOut, leaving, letter-place, loop-place, scatter-block, scatter-source, scatter-target, Which}
+use Rattle.model.specs.Models.LayOut.{back-source, back-target, begin, entering, gather-block, gather-source, gather-target, layOut, leaving, letter-place, loop-place, scatter-block, scatter-source, scatter-target, Which}
 use Rattle.model.specs.Models.Tokens.{tokens}
 use Rattle.model.proofs.Image.LayOut.{lay-out-is}
 use Rattle.model.proofs.Image.Marks.{on, onKind}
 use Rattle.model.proofs.Image.Sets.{treeSet}
-use Rattle.model.proofs.Language.Arcs.{Arc, ArcKind, arcs, forkArc, letterArc, loopArc, propagateArc}
+use Rattle.model.proofs.Language.Arcs.{Arc, ArcKind, arcs, backArc, forkArc, letterArc, loopArc, propagateArc}
 use Rattle.model.proofs.Laws.Lists.{any-app}
 use Rattle.model.proofs.Words.Chains.{noFork, ofPropagate, propagatesOf}
 use Rattle.model.proofs.Words.Forks.{forksOf, noPropagate, ofFork, Union}
@@ -36,27 +36,29 @@ module _ (X : Type 0) (fromPropagate : ℕ → ℕ → List X) (fromFork : List 
 
 -- for a mask of unions: only forks pass, and a fork passes as its union does
 forks-any : (p : Union → Bool) (h : ArcKind → ℕ → ℕ → Bool) → ((c i j : ℕ) → h (letterArc c) i j ≡ false) → ((c i j : ℕ) → h (loopArc c) i j ≡ false)
-    → ((i j : ℕ) → h propagateArc i j ≡ false) → ((xs : List Way) (i j : ℕ) → (h (forkArc xs) i j || false) ≡ any p (ofFork xs i j))
+    → ((i j : ℕ) → h propagateArc i j ≡ false) → ((i j : ℕ) → h backArc i j ≡ false) → ((xs : List Way) (i j : ℕ) → (h (forkArc xs) i j || false) ≡ any p (ofFork xs i j))
     → (k : ℕ) (es : List Arc) → any (λ e. h (e .kind) (e .from) (e .to) && eqb (e .level) k) es ≡ any p (forksOf k es)
-forks-any p h at-letter at-loop at-propagate at-fork = items-any Union noPropagate ofFork p h same
+forks-any p h at-letter at-loop at-propagate at-back at-fork = items-any Union noPropagate ofFork p h same
   where
     same : (w : ArcKind) (i j : ℕ) → h w i j ≡ any p (pick Union noPropagate ofFork w i j)
     same (letterArc c) i j = at-letter c i j
     same (loopArc c) i j = at-loop c i j
     same propagateArc i j = at-propagate i j
     same (forkArc xs) i j = sym (or-false (h (forkArc xs) i j)) ∙ at-fork xs i j
+    same backArc i j = at-back i j
 
 -- for the propagate edges: only they pass
 propagates-any : (p : Way → Bool) (h : ArcKind → ℕ → ℕ → Bool) → ((c i j : ℕ) → h (letterArc c) i j ≡ false) → ((c i j : ℕ) → h (loopArc c) i j ≡ false)
-    → ((xs : List Way) (i j : ℕ) → h (forkArc xs) i j ≡ false) → ((i j : ℕ) → h propagateArc i j ≡ p (i, j))
+    → ((xs : List Way) (i j : ℕ) → h (forkArc xs) i j ≡ false) → ((i j : ℕ) → h backArc i j ≡ false) → ((i j : ℕ) → h propagateArc i j ≡ p (i, j))
     → (k : ℕ) (es : List Arc) → any (λ e. h (e .kind) (e .from) (e .to) && eqb (e .level) k) es ≡ any p (propagatesOf k es)
-propagates-any p h at-letter at-loop at-fork at-propagate = items-any Way ofPropagate noFork p h same
+propagates-any p h at-letter at-loop at-fork at-back at-propagate = items-any Way ofPropagate noFork p h same
   where
     same : (w : ArcKind) (i j : ℕ) → h w i j ≡ any p (pick Way ofPropagate noFork w i j)
     same (letterArc c) i j = at-letter c i j
     same (loopArc c) i j = at-loop c i j
     same propagateArc i j = at-propagate i j ∙ sym (or-false (p (i, j)))
     same (forkArc xs) i j = at-fork xs i j
+    same backArc i j = at-back i j
 
 leaves-any : (x : ℕ) (ps : List Way) → any (λ p. eqb x (p .0)) ps ≡ leavesOf ps x
 leaves-any x [] = refl
@@ -71,23 +73,25 @@ pub arcs-set : (s : Seq) (w : Which) (k x : ℕ) → any (on w k x) (arcs s 0 0)
 arcs-set s letter-place k x = refl
 arcs-set s loop-place k x = refl
 arcs-set s scatter-block k x =
-    forks-any (λ u. eqb x (suc (u .final))) (onKind scatter-block x) (λ c i j. refl) (λ c i j. refl) (λ i j. refl) (λ xs i j. refl) k (arcs s 0 0)
+    forks-any (λ u. eqb x (suc (u .final))) (onKind scatter-block x) (λ c i j. refl) (λ c i j. refl) (λ i j. refl) (λ i j. refl) (λ xs i j. refl) k (arcs s 0 0)
 arcs-set s scatter-source k x =
-    forks-any (λ u. eqb x (u .start)) (onKind scatter-source x) (λ c i j. refl) (λ c i j. refl) (λ i j. refl) (λ xs i j. refl) k (arcs s 0 0)
+    forks-any (λ u. eqb x (u .start)) (onKind scatter-source x) (λ c i j. refl) (λ c i j. refl) (λ i j. refl) (λ i j. refl) (λ xs i j. refl) k (arcs s 0 0)
 arcs-set s scatter-target k x =
-    forks-any (λ u. within x (u .starts)) (onKind scatter-target x) (λ c i j. refl) (λ c i j. refl) (λ i j. refl) (λ xs i j. refl) k (arcs s 0 0)
+    forks-any (λ u. within x (u .starts)) (onKind scatter-target x) (λ c i j. refl) (λ c i j. refl) (λ i j. refl) (λ i j. refl) (λ xs i j. refl) k (arcs s 0 0)
 arcs-set s gather-block k x =
-    forks-any (λ u. leb (u .first) x && ltb x (u .close)) (onKind gather-block x) (λ c i j. refl) (λ c i j. refl) (λ i j. refl) (λ xs i j. refl) k (arcs s 0 0)
+    forks-any (λ u. leb (u .first) x && ltb x (u .close)) (onKind gather-block x) (λ c i j. refl) (λ c i j. refl) (λ i j. refl) (λ i j. refl) (λ xs i j. refl) k (arcs s 0 0)
 arcs-set s gather-source k x =
-    forks-any (λ u. within x (u .ends)) (onKind gather-source x) (λ c i j. refl) (λ c i j. refl) (λ i j. refl) (λ xs i j. refl) k (arcs s 0 0)
+    forks-any (λ u. within x (u .ends)) (onKind gather-source x) (λ c i j. refl) (λ c i j. refl) (λ i j. refl) (λ i j. refl) (λ xs i j. refl) k (arcs s 0 0)
 arcs-set s gather-target k x =
-    forks-any (λ u. eqb x (u .close)) (onKind gather-target x) (λ c i j. refl) (λ c i j. refl) (λ i j. refl) (λ xs i j. refl) k (arcs s 0 0)
+    forks-any (λ u. eqb x (u .close)) (onKind gather-target x) (λ c i j. refl) (λ c i j. refl) (λ i j. refl) (λ i j. refl) (λ xs i j. refl) k (arcs s 0 0)
 arcs-set s leaving k x =
-    propagates-any (λ p. eqb x (p .0)) (onKind leaving x) (λ c i j. refl) (λ c i j. refl) (λ xs i j. refl) (λ i j. refl) k (arcs s 0 0)
+    propagates-any (λ p. eqb x (p .0)) (onKind leaving x) (λ c i j. refl) (λ c i j. refl) (λ xs i j. refl) (λ i j. refl) (λ i j. refl) k (arcs s 0 0)
     ∙ leaves-any x (propagatesOf k (arcs s 0 0))
 arcs-set s entering k x =
-    propagates-any (λ p. eqb x (p .1)) (onKind entering x) (λ c i j. refl) (λ c i j. refl) (λ xs i j. refl) (λ i j. refl) k (arcs s 0 0)
+    propagates-any (λ p. eqb x (p .1)) (onKind entering x) (λ c i j. refl) (λ c i j. refl) (λ xs i j. refl) (λ i j. refl) (λ i j. refl) k (arcs s 0 0)
     ∙ enters-any x (propagatesOf k (arcs s 0 0))
+arcs-set s back-source k x = refl
+arcs-set s back-target k x = refl
 
 -- LAY OUT MARKS THE TREE'S SETS
 pub tree-sets : (s : Seq) (w : Which) (k x : ℕ) → layOut (tokens s []) begin w k x ≡ treeSet s w k x

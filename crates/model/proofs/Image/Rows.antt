@@ -11,7 +11,7 @@ use lib.Pow.{pow-add, pow-mono}
 use Rattle.model.specs.Bits.{bit, mask}
 use Rattle.model.specs.Image.{join, width, words}
 use Rattle.model.specs.Models.Apart.{chunk}
-use Rattle.model.specs.Models.LayOut.{set, three}
+use Rattle.model.specs.Models.LayOut.{set, three, two}
 use Rattle.model.specs.Models.Words.{value}
 use Rattle.model.proofs.Laws.Bits.{mask-same}
 use Rattle.model.proofs.Words.Bits.{bit-mask, mask-lt}
@@ -71,11 +71,24 @@ module _ (m W : ℕ) (f g h : ℕ → Bool) where
   pub three-2 : chunk W 2 (three m W f g h) ≡ set m W h
   three-2 =
       ap (λ (l : List ℕ). take W (drop (W * 2) l)) (sym (append-assoc (set m W f) (set m W g) (set m W h)))
-      ∙ ap (take W) (drop-at (set m W f ++ set m W g) (set m W h) (W * 2) two)
+      ∙ ap (take W) (drop-at (set m W f ++ set m W g) (set m W h) (W * 2) long)
       ∙ take-all W (set m W h) (omega (arith, length-set m W h))
     where
-      two : length (set m W f ++ set m W g) ≡ W * 2
-      two = omega (arith, length-append (set m W f) (set m W g), length-set m W f, length-set m W g)
+      long : length (set m W f ++ set m W g) ≡ W * 2
+      long = omega (arith, length-append (set m W f) (set m W g), length-set m W f, length-set m W g)
+
+-- ---- the two masks of the back edges of one depth
+module _ (m W : ℕ) (f g : ℕ → Bool) where
+  pub length-two : length (two m W f g) ≡ 2 * W
+  length-two = omega (arith, length-append (set m W f) (set m W g), length-set m W f, length-set m W g)
+
+  pub two-0 : chunk W 0 (two m W f g) ≡ set m W f
+  two-0 = ap (λ (j : ℕ). take W (drop j (two m W f g))) (mul-zero W) ∙ take-at (set m W f) (set m W g) W (length-set m W f)
+
+  pub two-1 : chunk W 1 (two m W f g) ≡ set m W g
+  two-1 =
+      ap (take W) (drop-at (set m W f) (set m W g) (W * 1) (let e : length (set m W f) ≡ W * 1 = omega (arith, length-set m W f) in e))
+      ∙ take-all W (set m W g) (omega (arith, length-set m W g))
 
 -- ---- parts of w words each
 module _ (w : ℕ) (f : ℕ → List ℕ) (same : (k : ℕ) → length (f k) ≡ w) where

@@ -8,10 +8,10 @@ use native.Mathlib.Omega.{arith}
 use lib.ListN.{length, drop, length-append}
 use Rattle.model.specs.Bits.{bit}
 use Rattle.model.specs.Image.{join, section}
-use Rattle.model.specs.Models.Apart.{bitOf, bitOfThree, chunk, gatherIn, lettersIn, propagateIn, repeatsIn, scatterIn}
-use Rattle.model.specs.Models.LayOut.{assemble, blockOf, gather-block, gather-source, gather-target, scatter-block, scatter-source, scatter-target, set, sourceOf, targetOf, three, Which}
+use Rattle.model.specs.Models.Apart.{backIn, bitOf, bitOfThree, bitOfTwo, chunk, gatherIn, lettersIn, propagateIn, repeatsIn, scatterIn}
+use Rattle.model.specs.Models.LayOut.{assemble, back-source, back-target, blockOf, gather-block, gather-source, gather-target, scatter-block, scatter-source, scatter-target, set, sourceOf, targetOf, three, two, Which}
 use Rattle.model.specs.Models.Words.{value}
-use Rattle.model.proofs.Image.Rows.{chunk-join, chunk-join-end, length-join, length-set, length-three, past-join, set-bit, three-0, three-1, three-2, wide}
+use Rattle.model.proofs.Image.Rows.{chunk-join, chunk-join-end, length-join, length-set, length-three, length-two, past-join, set-bit, three-0, three-1, three-2, two-0, wide}
 
 module _ (m W d : ℕ) (L R : ℕ → ℕ → Bool) (B : Which → ℕ → ℕ → Bool) where
   abbrev all : List ℕ
@@ -33,6 +33,9 @@ module _ (m W d : ℕ) (L R : ℕ → ℕ → Bool) (B : Which → ℕ → ℕ �
   abbrev pub propagateWordsAt : ℕ → List ℕ
   propagateWordsAt k = three m W (blockOf B k) (sourceOf B k) (targetOf B k)
 
+  abbrev pub backWordsAt : ℕ → List ℕ
+  backWordsAt k = two m W (B back-source k) (B back-target k)
+
   letter-length : (b : ℕ) → length (letterWordsAt b) ≡ W
   letter-length b = length-set m W (L b)
 
@@ -47,6 +50,9 @@ module _ (m W d : ℕ) (L R : ℕ → ℕ → Bool) (B : Which → ℕ → ℕ �
 
   propagate-length : (k : ℕ) → length (propagateWordsAt k) ≡ 3 * W
   propagate-length k = length-three m W (blockOf B k) (sourceOf B k) (targetOf B k)
+
+  back-length : (k : ℕ) → length (backWordsAt k) ≡ 2 * W
+  back-length k = length-two m W (B back-source k) (B back-target k)
 
   -- ---- the words of each section
   abbrev pub letterRows : List ℕ
@@ -64,6 +70,9 @@ module _ (m W d : ℕ) (L R : ℕ → ℕ → Bool) (B : Which → ℕ → ℕ �
   abbrev pub propagateRows : List ℕ
   propagateRows = join (suc d) 0 propagateWordsAt
 
+  abbrev pub backRows : List ℕ
+  backRows = join d 0 backWordsAt
+
   pub letters-length : length letterRows ≡ W * 256
   letters-length = length-join W letterWordsAt letter-length 256 0
 
@@ -79,9 +88,15 @@ module _ (m W d : ℕ) (L R : ℕ → ℕ → Bool) (B : Which → ℕ → ℕ �
   pub propagates-length : length propagateRows ≡ 3 * W * suc d
   propagates-length = length-join (3 * W) propagateWordsAt propagate-length (suc d) 0
 
+  pub backs-length : length backRows ≡ 2 * W * d
+  backs-length = length-join (2 * W) backWordsAt back-length d 0
+
   -- ---- what follows each section
+  abbrev pub after-propagate : List ℕ
+  after-propagate = section backRows
+
   abbrev pub after-gather : List ℕ
-  after-gather = section propagateRows
+  after-gather = section propagateRows ++ after-propagate
 
   abbrev pub after-scatter : List ℕ
   after-scatter = section gatherRows ++ after-gather
@@ -106,10 +121,15 @@ module _ (m W d : ℕ) (L R : ℕ → ℕ → Bool) (B : Which → ℕ → ℕ �
       ap (λ (l : List ℕ). drop 1 (drop (3 * W * d) l)) scatter-found
       ∙ past-join (3 * W) scatterWordsAt scatter-length d (length gatherRows) (gatherRows ++ after-gather)
 
-  pub propagate-found : propagateIn all ≡ propagateRows
+  pub propagate-found : propagateIn all ≡ propagateRows ++ after-propagate
   propagate-found =
       ap (λ (l : List ℕ). drop 1 (drop (3 * W * d) l)) gather-found
-      ∙ past-join (3 * W) gatherWordsAt gather-length d (length propagateRows) propagateRows
+      ∙ past-join (3 * W) gatherWordsAt gather-length d (length propagateRows) (propagateRows ++ after-propagate)
+
+  pub back-found : backIn all ≡ backRows
+  back-found =
+      ap (λ (l : List ℕ). drop 1 (drop (3 * W * suc d) l)) propagate-found
+      ∙ past-join (3 * W) propagateWordsAt propagate-length (suc d) (length backRows) backRows
 
   -- ---- and in it each part
   pub part-letters : (b : ℕ) → b < 256 → chunk W b (lettersIn all) ≡ letterWordsAt b
@@ -125,7 +145,10 @@ module _ (m W d : ℕ) (L R : ℕ → ℕ → Bool) (B : Which → ℕ → ℕ �
   part-gather k h = ap (chunk (3 * W) k) gather-found ∙ chunk-join (3 * W) gatherWordsAt gather-length d k after-gather h
 
   pub part-propagate : (k : ℕ) → k < suc d → chunk (3 * W) k (propagateIn all) ≡ propagateWordsAt k
-  part-propagate k h = ap (chunk (3 * W) k) propagate-found ∙ chunk-join-end (3 * W) propagateWordsAt propagate-length (suc d) k h
+  part-propagate k h = ap (chunk (3 * W) k) propagate-found ∙ chunk-join (3 * W) propagateWordsAt propagate-length (suc d) k after-propagate h
+
+  pub part-back : (k : ℕ) → k < d → chunk (2 * W) k (backIn all) ≡ backWordsAt k
+  part-back k h = ap (chunk (2 * W) k) back-found ∙ chunk-join-end (2 * W) backWordsAt back-length d k h
 
   -- ---- and in that each bit that taking apart looks at
   module _ (room : m ≤ wide W) where
@@ -155,8 +178,13 @@ module _ (m W d : ℕ) (L R : ℕ → ℕ → Bool) (B : Which → ℕ → ℕ �
         ap (λ (ws : List ℕ). bit (value ws) x) (ap (chunk W 1) (part-propagate k h) ∙ three-1 m W (blockOf B k) (sourceOf B k) (targetOf B k))
         ∙ set-bit m W (sourceOf B k) room x l
 
-  -- "The length is 9 + W(515 + 9d) words."
-  pub length-assembled : length all ≡ 9 + W * (515 + 9 * d)
+    pub read-back-source : (k x : ℕ) → k < d → x < m → bitOfTwo W (backIn all) 0 k x ≡ B back-source k x
+    read-back-source k x h l =
+        ap (λ (ws : List ℕ). bit (value ws) x) (ap (chunk W 0) (part-back k h) ∙ two-0 m W (B back-source k) (B back-target k))
+        ∙ set-bit m W (B back-source k) room x l
+
+  -- "The length is 9 + W(515 + 9d) words", and "lengths grow by 1 + 2Wd"
+  pub length-assembled : length all ≡ 10 + W * (515 + 11 * d)
   length-assembled =
       omega (
         arith,
@@ -164,10 +192,12 @@ module _ (m W d : ℕ) (L R : ℕ → ℕ → Bool) (B : Which → ℕ → ℕ �
         length-append (section loopRows) after-repeats,
         length-append (section scatterRows) after-scatter,
         length-append (section gatherRows) after-gather,
+        length-append (section propagateRows) after-propagate,
         letters-length,
         loops-length,
         scatters-length,
         gathers-length,
         propagates-length,
+        backs-length,
         mul-suc (3 * W) d,
       )

@@ -9,13 +9,13 @@ use native.Mathlib.Omega.{arith}
 use lib.Dec.{T, eqb, eqb→eq, eqb-refl}
 use Rattle.model.specs.Lists.{any}
 use Rattle.model.specs.Bits.{bit}
-use Rattle.model.specs.Tree.{canLoop, canOmit, canSkip, Seq}
+use Rattle.model.specs.Tree.{canLoop, canOmit, canReturn, canSkip, Seq}
 use Rattle.model.specs.Edges.{seqEnd}
 use Rattle.model.specs.Models.LayOut.{tokenLetters, tokenLoops}
 use Rattle.model.specs.Models.Tokens.{aBar, aClose, aLetter, anOpen, classOf, loopClassOf, Token, tokens}
 use Rattle.model.proofs.Ends.Run.{letterSet, loopsByte, loopSet, takesByte}
 use Rattle.model.proofs.Image.Between.{over-letter, over-union, Owns, owns, Says, says, Skips, token}
-use Rattle.model.proofs.Language.Arcs.{Arc, arc, ArcKind, arcs, forkArc, letterArc, loopArc, propagateArc}
+use Rattle.model.proofs.Language.Arcs.{Arc, arc, ArcKind, arcs, backArc, forkArc, letterArc, loopArc, propagateArc}
 use Rattle.model.proofs.Laws.Bits.{no-bit}
 use Rattle.model.proofs.Laws.Bool.{and-both, and-split, is-not, same-truth}
 use Rattle.model.proofs.Laws.Lists.{any-in, any-out, In}
@@ -26,14 +26,23 @@ isFork (letterArc c) = false
 isFork (loopArc c) = false
 isFork propagateArc = false
 isFork (forkArc xs) = true
+isFork backArc = false
 
 abbrev pub isPropagate : ArcKind → Bool
 isPropagate (letterArc c) = false
 isPropagate (loopArc c) = false
 isPropagate propagateArc = true
 isPropagate (forkArc xs) = false
+isPropagate backArc = false
 
--- a union starts in i; one ends in i + 1; a propagate edge enters i + 1
+abbrev pub isReturn : ArcKind → Bool
+isReturn (letterArc c) = false
+isReturn (loopArc c) = false
+isReturn propagateArc = false
+isReturn (forkArc xs) = false
+isReturn backArc = true
+
+-- a union starts in i; one ends in i + 1; a propagate edge enters i + 1; a back edge starts in i
 abbrev pub opens : List Arc → ℕ → Bool
 opens es i = any (λ e. isFork (e .kind) && eqb i (e .from)) es
 
@@ -42,6 +51,9 @@ closes es i = any (λ e. isFork (e .kind) && eqb (suc i) (e .to)) es
 
 abbrev pub skips : List Arc → ℕ → Bool
 skips es i = any (λ e. isPropagate (e .kind) && eqb (suc i) (e .to)) es
+
+abbrev pub comesBack : List Arc → ℕ → Bool
+comesBack es i = any (λ e. isReturn (e .kind) && eqb i (e .from)) es
 
 abbrev pub isOpen : Token → Bool
 isOpen (aLetter c r) = false
@@ -60,6 +72,12 @@ tokenSkips (aLetter c r) = canSkip r
 tokenSkips anOpen = false
 tokenSkips aBar = false
 tokenSkips (aClose m) = canOmit m
+
+abbrev pub tokenReturns : Token → Bool
+tokenReturns (aLetter c r) = false
+tokenReturns anOpen = false
+tokenReturns aBar = false
+tokenReturns (aClose m) = canReturn m
 
 -- ---- what each shows
 loop-bit : (b : Bool) (c i : ℕ) → T b → T (bit c i) → T (bit (cond b c 0) i)
@@ -100,6 +118,7 @@ module _ (s : Seq) (i : ℕ) (l : i < seqEnd s 0) where
       out (loopArc c) a z m h = absurd h
       out propagateArc a z m h = absurd h
       out (forkArc xs) a z m h = absurd h
+      out backArc a z m h = absurd h
 
       own : (x : Token) → Owns (In es) x i → T (bit (classOf x) b) → (e : Arc) × In es e × T (takesByte b (e .kind) && eqb (suc i) (e .to))
       own (aLetter c r) o h = (arc (letterArc c) (o .0) i (suc i), o .1, and-both (bit c b) (eqb (suc i) (suc i)) h (eqb-refl (suc i)))
@@ -118,6 +137,7 @@ module _ (s : Seq) (i : ℕ) (l : i < seqEnd s 0) where
           (loop-bit (canLoop (m .2)) c b (m .5) (k .0))
       out propagateArc a z m h = absurd h
       out (forkArc xs) a z m h = absurd h
+      out backArc a z m h = absurd h
 
       own : (x : Token) → Owns (In es) x i → T (bit (loopClassOf x) b) → (e : Arc) × In es e × T (loopsByte b (e .kind) && eqb (suc i) (e .to))
       own (aLetter c r) o h =
@@ -135,6 +155,7 @@ module _ (s : Seq) (i : ℕ) (l : i < seqEnd s 0) where
       out (loopArc c) a z m h = absurd h
       out propagateArc a z m h = absurd h
       out (forkArc xs) a z m h = known isOpen a anOpen (eqb→eq i a h) (m .0) tt
+      out backArc a z m h = absurd h
 
       own : (x : Token) → Owns (In es) x i → T (isOpen x) → (e : Arc) × In es e × T (isFork (e .kind) && eqb i (e .from))
       own (aLetter c r) o h = absurd h
@@ -150,6 +171,7 @@ module _ (s : Seq) (i : ℕ) (l : i < seqEnd s 0) where
       out (loopArc c) a z m h = absurd h
       out propagateArc a z m h = absurd h
       out (forkArc xs) a z m h = known isClose (m .1) (aClose (m .2)) (omega (arith, m .3, eqb→eq (suc i) z h)) (m .4) tt
+      out backArc a z m h = absurd h
 
       own : (x : Token) → Owns (In es) x i → T (isClose x) → (e : Arc) × In es e × T (isFork (e .kind) && eqb (suc i) (e .to))
       own (aLetter c r) o h = absurd h
@@ -170,12 +192,30 @@ module _ (s : Seq) (i : ℕ) (l : i < seqEnd s 0) where
       out (loopArc c) a z m h = absurd h
       out propagateArc a z m h = over a z (eqb→eq (suc i) z h) m
       out (forkArc xs) a z m h = absurd h
+      out backArc a z m h = absurd h
 
       own : (x : Token) → Owns (In es) x i → T (tokenSkips x) → (e : Arc) × In es e × T (isPropagate (e .kind) && eqb (suc i) (e .to))
       own (aLetter c r) o h = (arc propagateArc (o .0) i (suc i), o .3 h, eqb-refl (suc i))
       own anOpen o h = absurd h
       own aBar o h = absurd h
       own (aClose m) o h = (arc propagateArc (o .1) (o .2) (suc i), o .4 h, eqb-refl (suc i))
+
+  -- a back edge starts exactly where a close shows it
+  pub returns-show : comesBack es i ≡ tokenReturns (token s i)
+  returns-show = shown (λ w a z. isReturn w && eqb i a) tokenReturns out own
+    where
+      out : (w : ArcKind) (a z : ℕ) → Says (token s) w a z → T (isReturn w && eqb i a) → T (tokenReturns (token s i))
+      out (letterArc c) a z m h = absurd h
+      out (loopArc c) a z m h = absurd h
+      out propagateArc a z m h = absurd h
+      out (forkArc xs) a z m h = absurd h
+      out backArc a z m h = known tokenReturns a (aClose (m .0)) (eqb→eq i a h) (m .1) (m .2)
+
+      own : (x : Token) → Owns (In es) x i → T (tokenReturns x) → (e : Arc) × In es e × T (isReturn (e .kind) && eqb i (e .from))
+      own (aLetter c r) o h = absurd h
+      own anOpen o h = absurd h
+      own aBar o h = absurd h
+      own (aClose m) o h = (arc backArc (o .1) i (suc (o .2)), o .5 h, eqb-refl i)
 
 -- ---- the letters' and the loops' sets are those of the tokens
 module _ (s : Seq) (b : ℕ) where
@@ -198,6 +238,7 @@ module _ (s : Seq) (b : ℕ) where
       never (loopArc c) a z m t e = absurd t
       never propagateArc a z m t e = absurd t
       never (forkArc xs) a z m t e = absurd t
+      never backArc a z m t e = absurd t
   letters-are (suc i) h = sym (letters-show s i (le-of-suc-le-suc h) b)
 
   pub loops-are : (x : ℕ) → x < suc (seqEnd s 0) → tokenLoops (tokens s []) b x ≡ loopSet (arcs s 0 0) b x
@@ -208,4 +249,5 @@ module _ (s : Seq) (b : ℕ) where
       never (loopArc c) a z m t e = omega (arith, m .0, m .3)
       never propagateArc a z m t e = absurd t
       never (forkArc xs) a z m t e = absurd t
+      never backArc a z m t e = absurd t
   loops-are (suc i) h = sym (loops-show s i (le-of-suc-le-suc h) b)

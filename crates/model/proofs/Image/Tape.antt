@@ -7,20 +7,20 @@ use native.Mathlib.Nat.{zero-lt-suc, zero-add}
 use native.Mathlib.Omega.{arith}
 use lib.ListN.{length, getD}
 use Rattle.model.specs.Bits.{bit, mask}
-use Rattle.model.specs.Tree.{canLoop, canOmit, canSkip, Mark, once, option, optional, plus, Repeat, Seq, star, unmarked}
+use Rattle.model.specs.Tree.{canLoop, canOmit, canReturn, canSkip, Mark, once, option, optional, plus, Repeat, Seq, star, starred, unmarked}
 use Rattle.model.specs.Edges.{depth, seqEnd}
 use Rattle.model.specs.Image.{width}
-use Rattle.model.specs.Models.Apart.{anyBelow, bitOf, bitOfThree, gatherIn, lettersIn, markOf, propagateIn, repeatOf, repeatsIn, scatterIn, tape, tokenAt, tokenOf, tokensFrom}
-use Rattle.model.specs.Models.LayOut.{entering, gather-target, leaving, scatter-source, Which}
+use Rattle.model.specs.Models.Apart.{anyBelow, backIn, bitOf, bitOfThree, bitOfTwo, gatherIn, lettersIn, markOf, propagateIn, repeatOf, repeatsIn, scatterIn, tape, tokenAt, tokenOf, tokensFrom}
+use Rattle.model.specs.Models.LayOut.{back-source, entering, gather-target, leaving, scatter-source, Which}
 use Rattle.model.specs.Models.Tokens.{aBar, aClose, aLetter, anOpen, classOf, loopClassOf, Token, tokens}
 use Rattle.model.proofs.Ends.Run.{letterSet, loopSet}
 use Rattle.model.proofs.Image.Between.{token}
 use Rattle.model.proofs.Image.Classes.{AllFine, class-is, Fine, fine-at, no-bits, some-bit}
-use Rattle.model.proofs.Image.Depths.{close-is, open-is, skip-is}
+use Rattle.model.proofs.Image.Depths.{close-is, open-is, return-is, skip-is}
 use Rattle.model.proofs.Image.Rows.{room}
-use Rattle.model.proofs.Image.Sections.{read-gather-target, read-letters, read-propagate-block, read-propagate-source, read-repeats, read-scatter-source}
+use Rattle.model.proofs.Image.Sections.{read-back-source, read-gather-target, read-letters, read-propagate-block, read-propagate-source, read-repeats, read-scatter-source}
 use Rattle.model.proofs.Image.Sets.{arcImage, treeSet}
-use Rattle.model.proofs.Image.Shown.{closes-show, isClose, isOpen, letters-show, loops-show, opens-show, skips, skips-show, tokenSkips}
+use Rattle.model.proofs.Image.Shown.{closes-show, isClose, isOpen, letters-show, loops-show, opens-show, returns-show, skips, skips-show, tokenReturns, tokenSkips}
 use Rattle.model.proofs.Image.Tokens.{length-tokens}
 use Rattle.model.proofs.Language.Arcs.{arcs}
 use Rattle.model.proofs.Laws.Bits.{below-same, mask-same}
@@ -31,6 +31,7 @@ use Rattle.model.proofs.Reading.WellFormed.{Class}
 abbrev remade : Token → Bool → Token
 remade x n =
     tokenOf (anyBelow 256 (λ b. bit (classOf x) b)) (mask 256 (λ b. bit (classOf x) b)) n (anyBelow 256 (λ b. bit (loopClassOf x) b)) (isClose x) (isOpen x)
+    (tokenReturns x)
 
 repeat-is : (r : Repeat) → repeatOf (canSkip r) (canLoop r) ≡ r
 repeat-is once = refl
@@ -42,18 +43,19 @@ loop-shows : (c : ℕ) (p : Bool) → Class c → anyBelow 256 (λ b. bit (cond 
 loop-shows c true C = some-bit c C
 loop-shows c false C = no-bits 256
 
-mark-is : (m : Mark) → markOf (canOmit m) ≡ m
+mark-is : (m : Mark) → markOf (canOmit m) (canReturn m) ≡ m
 mark-is unmarked = refl
 mark-is optional = refl
+mark-is starred = refl
 
 -- a fine token is made again from its tests
 remade-is : (x : Token) (n : Bool) → Fine x → n ≡ tokenSkips x → remade x n ≡ x
 remade-is (aLetter c r) n C h =
-    (λ i. tokenOf (some-bit c C i) (class-is c (C .bytes-only) i) (h i) (loop-shows c (canLoop r) C i) false false) ∙ ap (aLetter c) (repeat-is r)
-remade-is anOpen n C h = ap (λ (b : Bool). tokenOf b (mask 256 (λ b. bit 0 b)) n (anyBelow 256 (λ b. bit 0 b)) false true) (no-bits 256)
-remade-is aBar n C h = ap (λ (b : Bool). tokenOf b (mask 256 (λ b. bit 0 b)) n (anyBelow 256 (λ b. bit 0 b)) false false) (no-bits 256)
+    (λ i. tokenOf (some-bit c C i) (class-is c (C .bytes-only) i) (h i) (loop-shows c (canLoop r) C i) false false false) ∙ ap (aLetter c) (repeat-is r)
+remade-is anOpen n C h = ap (λ (b : Bool). tokenOf b (mask 256 (λ b. bit 0 b)) n (anyBelow 256 (λ b. bit 0 b)) false true false) (no-bits 256)
+remade-is aBar n C h = ap (λ (b : Bool). tokenOf b (mask 256 (λ b. bit 0 b)) n (anyBelow 256 (λ b. bit 0 b)) false false false) (no-bits 256)
 remade-is (aClose m) n C h =
-    ap₂ (λ (b n : Bool). tokenOf b (mask 256 (λ b. bit 0 b)) n (anyBelow 256 (λ b. bit 0 b)) true false) (no-bits 256) h ∙ ap aClose (mark-is m)
+    ap₂ (λ (b n : Bool). tokenOf b (mask 256 (λ b. bit 0 b)) n (anyBelow 256 (λ b. bit 0 b)) true false (canReturn m)) (no-bits 256) h ∙ ap aClose (mark-is m)
 
 -- a row by its tokens
 from-is : (l : List Token) (f : ℕ → Token) (a : ℕ) → ((i : ℕ) → i < length l → f (a + i) ≡ getD l i aBar) → tokensFrom (length l) a f ≡ l
@@ -87,7 +89,7 @@ module _ (s : Seq) (fine : AllFine (tokens s [])) where
 
   token-is : (i : ℕ) → i < seqEnd s 0 → tokenAt ws i ≡ token s i
   token-is i l =
-      (λ j. tokenOf (is-letter j) (class j) (may-skip j) (may-loop j) (is-close j) (is-open j))
+      (λ j. tokenOf (is-letter j) (class j) (may-skip j) (may-loop j) (is-close j) (is-open j) (is-return j))
       ∙ remade-is (token s i) (skips (arcs s 0 0) i) (fine-at (tokens s []) i fine) (skips-show s i l)
     where
       here : i < m
@@ -135,6 +137,11 @@ module _ (s : Seq) (fine : AllFine (tokens s [])) where
       is-open =
           below-same d (λ k. bitOfThree W (scatterIn ws) 1 k i) (λ k. B scatter-source k i) (λ k h. read-scatter-source m W d L R B (room m) k i h here)
           ∙ open-is s i ∙ opens-show s i l
+
+      is-return : anyBelow d (λ k. bitOfTwo W (backIn ws) 0 k i) ≡ tokenReturns (token s i)
+      is-return =
+          below-same d (λ k. bitOfTwo W (backIn ws) 0 k i) (λ k. B back-source k i) (λ k h. read-back-source m W d L R B (room m) k i h here)
+          ∙ return-is s i ∙ returns-show s i l
 
   -- THE TAPE OF A TREE'S IMAGE IS THE TREE'S TOKENS
   pub tape-is : tape (arcImage s) ≡ tokens s []

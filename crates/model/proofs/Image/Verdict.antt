@@ -78,11 +78,11 @@ some-class f h = record { some-byte = positive (mask 256 f) refl; bytes-only = m
         absurd (no-bit (r .0) (subst (λ (n : ℕ). T (bit n (r .0))) e (subst T (sym (bit-mask 256 (r .0) f (r .1))) (r .2))))
     positive (suc n) e = zero-lt-suc n
 
-fine-token : (f : ℕ → Bool) (l n p c o : Bool) → anyBelow 256 f ≡ l → Fine (tokenOf l (mask 256 f) n p c o)
-fine-token f true n p c o e = some-class f (subst T (sym e) tt)
-fine-token f false n p true o e = tt
-fine-token f false n p false true e = tt
-fine-token f false n p false false e = tt
+fine-token : (f : ℕ → Bool) (l n p c o b : Bool) → anyBelow 256 f ≡ l → Fine (tokenOf l (mask 256 f) n p c o b)
+fine-token f true n p c o b e = some-class f (subst T (sym e) tt)
+fine-token f false n p true o b e = tt
+fine-token f false n p false true b e = tt
+fine-token f false n p false false b e = tt
 
 fine-from : (n a : ℕ) (f : ℕ → Token) → ((i : ℕ) → Fine (f i)) → AllFine (tokensFrom n a f)
 fine-from zero a f h = tt
@@ -93,7 +93,7 @@ fine-between zero f h = tt
 fine-between (suc n) f h = fine-from n 0 f h
 
 pub tape-fine : (ws : List ℕ) → AllFine (tape ws)
-tape-fine ws = fine-between (stateWord ws) (tokenAt ws) (λ i. fine-token (λ b. bitOf (widthWord ws) (lettersIn ws) b (suc i)) _ _ _ _ _ refl)
+tape-fine ws = fine-between (stateWord ws) (tokenAt ws) (λ i. fine-token (λ b. bitOf (widthWord ws) (lettersIn ws) b (suc i)) _ _ _ _ _ _ refl)
 
 -- ---- SOUND
 pub image-sound : (ws : List ℕ) → T (accepts ws) → IsImage ws (parse (tape ws) .here)

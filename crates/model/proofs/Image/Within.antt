@@ -9,11 +9,11 @@ use Rattle.model.specs.Lists.{All}
 use Rattle.model.specs.Tree.{Alts, end, last, letter, more, Seq, union}
 use Rattle.model.specs.Edges.{altsEnd, seqEnd, ways}
 use Rattle.model.specs.Image.{firstEnd, lastStart}
-use Rattle.model.specs.Models.LayOut.{begin, entering, gather-block, gather-source, gather-target, layOut, leaving, letter-place, loop-place, scatter-block, scatter-source, scatter-target, Which}
+use Rattle.model.specs.Models.LayOut.{back-source, back-target, begin, entering, gather-block, gather-source, gather-target, layOut, leaving, letter-place, loop-place, scatter-block, scatter-source, scatter-target, Which}
 use Rattle.model.specs.Models.Tokens.{tokens}
 use Rattle.model.proofs.Image.LayOut.{lay-out-is}
 use Rattle.model.proofs.Image.Marks.{levelOf, on, onKind}
-use Rattle.model.proofs.Language.Arcs.{altsArcs, Arc, arcs, branch-whole, forkArc, letter-whole, letterArc, loopArc, propagateArc}
+use Rattle.model.proofs.Language.Arcs.{altsArcs, Arc, arcs, backArc, branch-whole, forkArc, letter-whole, letterArc, loopArc, propagateArc}
 use Rattle.model.proofs.Language.Languages.{altsEnd-lt, seqEnd-le}
 use Rattle.model.proofs.Laws.Bool.{and-split}
 use Rattle.model.proofs.Laws.Lists.{all-app, all-in, any-out}
@@ -34,6 +34,8 @@ low-fork a t n F l gather-source x h = omega (arith, ends-between a t x h)
 low-fork a t n F l gather-target x h = omega (arith, eqb→eq x (suc (altsEnd a t)) h)
 low-fork a t n F l leaving x h = absurd h
 low-fork a t n F l entering x h = absurd h
+low-fork a t n F l back-source x h = absurd h
+low-fork a t n F l back-target x h = absurd h
 
 low-propagate : (i j n : ℕ) → i ≤ n → j ≤ n → (w : Which) (x : ℕ) → T (onKind w x propagateArc i j) → x ≤ n
 low-propagate i j n hi hj letter-place x h = absurd h
@@ -46,6 +48,22 @@ low-propagate i j n hi hj gather-source x h = absurd h
 low-propagate i j n hi hj gather-target x h = absurd h
 low-propagate i j n hi hj leaving x h = omega (arith, eqb→eq x i h)
 low-propagate i j n hi hj entering x h = omega (arith, eqb→eq x j h)
+low-propagate i j n hi hj back-source x h = absurd h
+low-propagate i j n hi hj back-target x h = absurd h
+
+low-back : (i j n : ℕ) → i ≤ n → j ≤ n → (w : Which) (x : ℕ) → T (onKind w x backArc i j) → x ≤ n
+low-back i j n hi hj letter-place x h = absurd h
+low-back i j n hi hj loop-place x h = absurd h
+low-back i j n hi hj scatter-block x h = absurd h
+low-back i j n hi hj scatter-source x h = absurd h
+low-back i j n hi hj scatter-target x h = absurd h
+low-back i j n hi hj gather-block x h = absurd h
+low-back i j n hi hj gather-source x h = absurd h
+low-back i j n hi hj gather-target x h = absurd h
+low-back i j n hi hj leaving x h = absurd h
+low-back i j n hi hj entering x h = absurd h
+low-back i j n hi hj back-source x h = omega (arith, eqb→eq x i h)
+low-back i j n hi hj back-target x h = omega (arith, eqb→eq x j h)
 
 low-letter : (c i j n : ℕ) → j ≤ n → (w : Which) (x : ℕ) → T (onKind w x (letterArc c) i j) → x ≤ n
 low-letter c i j n hj letter-place x h = omega (arith, eqb→eq x j h)
@@ -58,6 +76,8 @@ low-letter c i j n hj gather-source x h = absurd h
 low-letter c i j n hj gather-target x h = absurd h
 low-letter c i j n hj leaving x h = absurd h
 low-letter c i j n hj entering x h = absurd h
+low-letter c i j n hj back-source x h = absurd h
+low-letter c i j n hj back-target x h = absurd h
 
 low-loop : (c i j n : ℕ) → j ≤ n → (w : Which) (x : ℕ) → T (onKind w x (loopArc c) i j) → x ≤ n
 low-loop c i j n hj letter-place x h = absurd h
@@ -70,6 +90,8 @@ low-loop c i j n hj gather-source x h = absurd h
 low-loop c i j n hj gather-target x h = absurd h
 low-loop c i j n hj leaving x h = absurd h
 low-loop c i j n hj entering x h = absurd h
+low-loop c i j n hj back-source x h = absurd h
+low-loop c i j n hj back-target x h = absurd h
 
 mutual
   low : (s : Seq) (t k n : ℕ) → Full s → seqEnd s t ≤ n → All (Low n) (arcs s t k)
@@ -87,6 +109,7 @@ mutual
       branch-whole (Low n) m a s t k (record {
         skips = λ x. low-propagate t (suc (altsEnd a t)) n (omega (arith, altsEnd-lt a t)) h;
         forks = low-fork a t n (F .0) h;
+        returns = λ x. low-back (altsEnd a t) (suc t) n (omega arith) (omega (arith, altsEnd-lt a t));
         alts = low-alts a t k n (F .0) (omega arith);
         rest = low s (suc (altsEnd a t)) k n (F .1) l;
       })

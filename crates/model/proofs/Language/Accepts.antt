@@ -12,14 +12,15 @@ use Rattle.model.proofs.Language.Languages.{after, Any}
 use Rattle.model.proofs.Language.Led.{texts-lead}
 use Rattle.model.proofs.Language.Texts.{at, end-of, LeadsTo, start, start-of, Texts, texts-table, to}
 use Rattle.model.proofs.Laws.Lists.{all-in, In, in-all}
+use Rattle.model.proofs.Words.Full.{Full}
 
-module _ (s : Seq) (w : List ℕ) where
+module _ (s : Seq) (F : Full s) (w : List ℕ) where
   -- the states that a text leads to are those whose language has it
   pub leads-to : (q : ℕ) → q ≤ seqEnd s 0 → LeadsTo (In (arcs s 0 0)) w q ↔ Texts s 0 Any q w
   leads-to q l = (
     leads-out (In (arcs s 0 0)) L (all-in (Carries L) (arcs s 0 0) (carried L s 0 0 Any (texts-table s 0 Any)))
         (λ v. to (start-of L s 0 Any (texts-table s 0 Any)) tt),
-    texts-lead (In (arcs s 0 0)) s 0 0 Any (in-all (arcs s 0 0)) (λ v x. start) q (omega arith) l w,
+    texts-lead (In (arcs s 0 0)) s 0 0 Any F (in-all (arcs s 0 0)) (λ v x. start) q (omega arith) l w,
   )
     where
       L : ℕ → List ℕ → Type 0

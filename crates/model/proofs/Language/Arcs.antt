@@ -8,7 +8,7 @@ use Prim.Native.Nat.{ℕ, suc}
 use lib.Dec.{T}
 use Rattle.model.specs.Lists.{_∈_, All}
 use Rattle.model.specs.Bits.{bit}
-use Rattle.model.specs.Tree.{Alts, canLoop, canSkip, end, last, letter, Mark, more, Repeat, Seq, union}
+use Rattle.model.specs.Tree.{Alts, canLoop, canReturn, canSkip, end, last, letter, Mark, more, Repeat, Seq, union}
 use Rattle.model.specs.Edges.{altsEnd, endsOf, seqEnd, startsOf, unionEmpty, Way, ways}
 use Rattle.model.proofs.Laws.Lists.{all-app, all-left, all-right}
 
@@ -17,6 +17,7 @@ pub data ArcKind : Type 0 where
   letterArc loopArc : ℕ → ArcKind
   propagateArc : ArcKind
   forkArc : List Way → ArcKind
+  backArc : ArcKind
 
 pub record Arc : Type 0 where
   pub kind : ArcKind
@@ -39,7 +40,8 @@ abbrev mutual
       arc (letterArc c) k t (suc t) ∷ when (canLoop r) (arc (loopArc c) k (suc t) (suc t)) (when (canSkip r) (arc propagateArc k t (suc t)) (arcs s (suc t) k))
   arcs (union m a s) t k =
       when (unionEmpty m a) (arc propagateArc k t (suc (altsEnd a t)))
-      (arc (forkArc (ways a t)) k t (suc (altsEnd a t)) ∷ (altsArcs a t k ++ arcs s (suc (altsEnd a t)) k))
+      (arc (forkArc (ways a t)) k t (suc (altsEnd a t))
+      ∷ when (canReturn m) (arc backArc k (altsEnd a t) (suc t)) (altsArcs a t k ++ arcs s (suc (altsEnd a t)) k))
 
   pub altsArcs : Alts → ℕ → ℕ → List Arc
   altsArcs (last s) p k = arcs s (suc p) (suc k)
@@ -51,12 +53,14 @@ Still (letterArc c) i j q r = ⊥
 Still (loopArc c) i j q r = ⊥
 Still propagateArc i j q r = (q ≡ i) × (r ≡ j)
 Still (forkArc xs) i j q r = ((q ≡ i) × (r ∈ startsOf xs)) ⊎ ((q ∈ endsOf xs) × (r ≡ j))
+Still backArc i j q r = (q ≡ i) × (r ≡ j)
 
 abbrev pub Byte : ℕ → ArcKind → ℕ → ℕ → ℕ → ℕ → Type 0
 Byte b (letterArc c) i j q r = T (bit c b) × (q ≡ i) × (r ≡ j)
 Byte b (loopArc c) i j q r = T (bit c b) × (q ≡ i) × (r ≡ j)
 Byte b propagateArc i j q r = ⊥
 Byte b (forkArc xs) i j q r = ⊥
+Byte b backArc i j q r = ⊥
 
 -- ---- what holds for all arcs, where one of them is there only if a test passes
 all-when : (Q : Arc → Type 0) (b : Bool) (e : Arc) (es : List Arc) → (T b → Q e) → All Q es → All Q (when b e es)
@@ -101,23 +105,30 @@ module _ (E : Arc → Type 0) where
   pub record Branch (m : Mark) (a : Alts) (s : Seq) (t k : ℕ) : Type 0 where
     pub skips : T (unionEmpty m a) → E (arc propagateArc k t (suc (altsEnd a t)))
     pub forks : E (arc (forkArc (ways a t)) k t (suc (altsEnd a t)))
+    pub returns : T (canReturn m) → E (arc backArc k (altsEnd a t) (suc t))
     pub alts : All E (altsArcs a t k)
     pub rest : All E (arcs s (suc (altsEnd a t)) k)
 
   pub branch-parts : (m : Mark) (a : Alts) (s : Seq) (t k : ℕ) → All E (arcs (union m a s) t k) → Branch m a s t k
   branch-parts m a s t k A =
       let u = suc (altsEnd a t) in
-      let es = arc (forkArc (ways a t)) k t u ∷ (altsArcs a t k ++ arcs s u k) in
+      let back = arc backArc k (altsEnd a t) (suc t) in
+      let ds = altsArcs a t k ++ arcs s u k in
+      let es = arc (forkArc (ways a t)) k t u ∷ when (canReturn m) back ds in
       let B = when-tail E (unionEmpty m a) (arc propagateArc k t u) es A in
+      let C = when-tail E (canReturn m) back ds (B .1) in
       record {
         skips = when-head E (unionEmpty m a) (arc propagateArc k t u) es A;
         forks = B .0;
-        alts = all-left E (altsArcs a t k) (arcs s u k) (B .1);
-        rest = all-right E (altsArcs a t k) (arcs s u k) (B .1);
+        returns = when-head E (canReturn m) back ds (B .1);
+        alts = all-left E (altsArcs a t k) (arcs s u k) C;
+        rest = all-right E (altsArcs a t k) (arcs s u k) C;
       }
 
   pub branch-whole : (m : Mark) (a : Alts) (s : Seq) (t k : ℕ) → Branch m a s t k → All E (arcs (union m a s) t k)
   branch-whole m a s t k A =
       let u = suc (altsEnd a t) in
-      all-when E (unionEmpty m a) (arc propagateArc k t u) (arc (forkArc (ways a t)) k t u ∷ (altsArcs a t k ++ arcs s u k)) (A .skips)
-      (A .forks, all-app E (altsArcs a t k) (arcs s u k) (A .alts) (A .rest))
+      let back = arc backArc k (altsEnd a t) (suc t) in
+      let ds = altsArcs a t k ++ arcs s u k in
+      all-when E (unionEmpty m a) (arc propagateArc k t u) (arc (forkArc (ways a t)) k t u ∷ when (canReturn m) back ds) (A .skips)
+      (A .forks, all-when E (canReturn m) back ds (A .returns) (all-app E (altsArcs a t k) (arcs s u k) (A .alts) (A .rest)))

@@ -6,12 +6,15 @@ use Prim.Native.Nat.{ℕ, suc}
 use lib.Dec.{T}
 use Rattle.model.specs.Lists.{_∈_, All}
 use Rattle.model.specs.Bits.{bit}
-use Rattle.model.specs.Tree.{Alts, end, last, letter, more, Seq, union}
+use Rattle.model.specs.Tree.{Alts, canReturn, end, last, letter, Mark, more, optional, Seq, starred, union, unmarked}
 use Rattle.model.specs.Edges.{altsEnd, endsOf, seqEnd, startsOf, ways}
-use Rattle.model.proofs.Language.Arcs.{altsArcs, Arc, arc, arcs, branch-whole, Byte, forkArc, letter-whole, propagateArc, Still}
-use Rattle.model.proofs.Language.Languages.{afterAlts, afterLetter, afterUnion, Language, loop-in, skip-letter, take-in, through-union, unionEmpty-in}
+use Rattle.model.specs.Ends.{AltsSpell}
+use Rattle.model.proofs.Language.Arcs.{altsArcs, Arc, arc, arcs, backArc, branch-whole, Byte, forkArc, letter-whole, propagateArc, Still}
+use Rattle.model.proofs.Language.Languages.{afterAlts, afterLetter, afterUnion, enter-union, Language, loop-in, skip-letter, take-in, unionEmpty-in, within}
+use Rattle.model.proofs.Language.Stretches.{through-body, through-union}
 use Rattle.model.proofs.Language.Texts.{at, byte, end-of, Has-alts, Has-texts, LeadsTo, start, start-of, still, to}
 use Rattle.model.proofs.Laws.Lists.{all-app}
+use Rattle.model.proofs.Words.Full.{first-start, last-end}
 
 -- an arc carries a family of languages along
 pub record Carries (L : ℕ → Language) (e : Arc) : Type 0 where
@@ -28,8 +31,14 @@ module _ (W : ℕ → Language) where
   at-state : {i j : ℕ} {w : List ℕ} → i ≡ j → W i w → W j w
   at-state {w = w} e h = subst (λ (x : ℕ). W x w) e h
 
+  along : (i j : ℕ) → ((w : List ℕ) → W i w → W j w) → (q r : ℕ) → (q ≡ i) × (r ≡ j) → (w : List ℕ) → W q w → W r w
+  along i j f q r m w h = at-state (sym (m .1)) (f w (at-state (m .0) h))
+
   skip-carries : (k i j : ℕ) → ((w : List ℕ) → W i w → W j w) → Carries W (arc propagateArc k i j)
-  skip-carries k i j f = record { still = λ q r m w h. at-state (sym (m .1)) (f w (at-state (m .0) h)); byte = λ b q r m. absurd m }
+  skip-carries k i j f = record { still = along i j f; byte = λ b q r m. absurd m }
+
+  return-carries : (k i j : ℕ) → ((w : List ℕ) → W i w → W j w) → Carries W (arc backArc k i j)
+  return-carries k i j f = record { still = along i j f; byte = λ b q r m. absurd m }
 
   by-byte : (c i j : ℕ) → ((b : ℕ) (w : List ℕ) → T (bit c b) → W i w → W j (b ∷ w))
       → (b q r : ℕ) → T (bit c b) × (q ≡ i) × (r ≡ j) → (w : List ℕ) → W q w → W r (b ∷ w)
@@ -63,7 +72,8 @@ module _ (W : ℕ → Language) where
         branch-whole (Carries W) m a s t k (record {
           skips = λ z. skip-carries k t u (λ w h. to n (unionEmpty-in m a P w z (at (K .0) h)));
           forks = record { still = fork; byte = λ b q r m. absurd m };
-          alts = alts-carried a t t k P (K .1);
+          returns = λ z. return-carries k (altsEnd a t) (suc t) (λ w h. starts-in a t t (within m a P) (K .1) (suc t) (first-start a t) w (back m z w (inner (altsEnd a t) (last-end a t) w h)));
+          alts = alts-carried a t t k (within m a P) (K .1);
           rest = carried s (suc (altsEnd a t)) k (afterUnion m a P) (K .2);
         })
       where
@@ -73,9 +83,17 @@ module _ (W : ℕ → Language) where
         n : W u ≡ afterUnion m a P
         n = start-of W s u (afterUnion m a P) (K .2)
 
+        inner : (q : ℕ) → q ∈ endsOf (ways a t) → (w : List ℕ) → W q w → afterAlts a (within m a P) w
+        inner q i w h = ends-in a t t (within m a P) (K .1) q i w h
+
+        back : (m : Mark) → T (canReturn m) → (w : List ℕ) → afterAlts a (within m a P) w → within m a P w
+        back unmarked z w h = absurd z
+        back optional z w h = absurd z
+        back starred z w h = through-body a P w h
+
         fork : (q r : ℕ) → Still (forkArc (ways a t)) t u q r → (w : List ℕ) → W q w → W r w
-        fork q r (inl x) w h = starts-in a t t P (K .1) r (x .1) w (at (K .0) (at-state (x .0) h))
-        fork q r (inr x) w h = at-state (sym (x .1)) (to n (through-union m P (afterAlts a P) w (ends-in a t t P (K .1) q (x .0) w h)))
+        fork q r (inl x) w h = starts-in a t t (within m a P) (K .1) r (x .1) w (enter-union m (AltsSpell a) P w (at (K .0) (at-state (x .0) h)))
+        fork q r (inr x) w h = at-state (sym (x .1)) (to n (through-union m a P w (inner q (x .0) w h)))
 
     alts-carried : (a : Alts) (t p k : ℕ) (P : Language) → Has-alts W a t p P → All (Carries W) (altsArcs a p k)
     alts-carried (last s) t p k P K = carried s (suc p) (suc k) P K

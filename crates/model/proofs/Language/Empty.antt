@@ -8,9 +8,9 @@ use Prim.Native.Nat.{ℕ}
 use native.Mathlib.Omega.{arith}
 use lib.Dec.{T}
 use lib.ListN.{length}
-use Rattle.model.specs.Tree.{Alts, canOmit, canSkip, end, last, letter, Mark, more, once, option, optional, plus, Repeat, Seq, star, union, unmarked}
+use Rattle.model.specs.Tree.{Alts, canOmit, canSkip, end, last, letter, Mark, more, once, option, optional, plus, Repeat, Seq, star, starred, union, unmarked}
 use Rattle.model.specs.Edges.{altsEmpty, seqEmpty, unionEmpty}
-use Rattle.model.specs.Ends.{AltsSpell, GroupSpells, LetterSpells, Spells}
+use Rattle.model.specs.Ends.{AltsSpell, GroupSpells, LetterSpells, never, Spells}
 use Rattle.model.proofs.Laws.Bool.{and-both, and-split, or-left, or-right, or-split}
 
 -- a letter spells the empty text exactly if it has `?` or `*`
@@ -24,10 +24,12 @@ letter-empty c plus = (λ h. absurd h, λ h. omega (arith, ap length (h .2)))
 group-spelled : (m : Mark) (e : Bool) (P : List ℕ → Type 0) → (T e → P []) → T (canOmit m || e) → GroupSpells m P []
 group-spelled unmarked e P f h = f h
 group-spelled optional e P f h = inl refl
+group-spelled starred e P f h = never refl
 
 spelled-group : (m : Mark) (e : Bool) (P : List ℕ → Type 0) → (P [] → T e) → GroupSpells m P [] → T (canOmit m || e)
 spelled-group unmarked e P f h = f h
 spelled-group optional e P f h = tt
+spelled-group starred e P f h = tt
 
 mutual
   empty-spelled : (s : Seq) → T (seqEmpty s) → Spells s []

@@ -2,31 +2,23 @@
 -- after P is one of P and then one that the item spells.
 use mathlib.Core.Path.{_≡_, refl, sym, ap, _∙_, subst}
 use mathlib.Core.Logic.{_⊎_, inl, inr, _↔_}
-use mathlib.Core.List.{List, [], _∷_, _++_, reverseAux}
+use mathlib.Core.List.{List, [], _∷_, _++_, append-assoc, append-nil}
 use Prim.Native.Nat.{ℕ}
 use lib.Dec.{T}
 use Rattle.model.specs.Lists.{All}
 use Rattle.model.specs.Bits.{bit}
-use Rattle.model.specs.Tree.{Alts, end, last, letter, Mark, more, once, option, optional, plus, Repeat, Seq, star, union, unmarked}
-use Rattle.model.specs.Ends.{AltsSpell, GroupSpells, LetterSpells, Spells}
-use Rattle.model.proofs.Language.Languages.{after, afterAlts, afterLetter, afterMark, afterUnion, Any, Language, Many, One}
+use Rattle.model.specs.Tree.{Alts, end, last, letter, Mark, more, once, option, optional, plus, Repeat, Seq, star, starred, union, unmarked}
+use Rattle.model.specs.Ends.{again, AltsSpell, GroupSpells, LetterSpells, never, Repeated, Spells}
+use Rattle.model.proofs.Language.Languages.{after, afterAlts, afterLetter, afterMark, afterUnion, Any, feed, Language, Many, One, Then, within}
 use Rattle.model.proofs.Laws.Lists.{all-app}
 
 -- every byte is in the class
 abbrev AllIn : ℕ → List ℕ → Type 0
 AllIn c v = All (λ b. T (bit c b)) v
 
--- the bytes v read after those of u
-abbrev pub feed : List ℕ → List ℕ → List ℕ
-feed u v = reverseAux v u
-
 pub feed-app : (u x y : List ℕ) → feed u (x ++ y) ≡ feed (feed u x) y
 feed-app u [] y = refl
 feed-app u (b ∷ x) y = feed-app (b ∷ u) x y
-
--- a text of P and then one of Q
-abbrev pub Then : Language → (List ℕ → Type 0) → Language
-Then P Q w = (u : List ℕ) × (v : List ℕ) × (w ≡ feed u v) × P u × Q v
 
 -- ---- a letter
 many-out : (c : ℕ) (P : Language) (w : List ℕ) → Many c P w → Then P (LetterSpells c plus) w
@@ -74,15 +66,17 @@ join P Q R w h =
     let m = h .3 in
     (m .0, m .1 ++ h .1, h .2 ∙ ap (λ (z : List ℕ). feed z (h .1)) (m .2) ∙ sym (feed-app (m .0) (m .1) (h .1)), m .3, (m .1, h .1, refl, m .4, h .4))
 
-mark-out : (m : Mark) (P Q : Language) (R : List ℕ → Type 0) (w : List ℕ) → (Q w → Then P R w) → afterMark m P Q w → Then P (GroupSpells m R) w
+mark-out : (m : Mark) (P Q : Language) (R : List ℕ → Type 0) (w : List ℕ) → (Q w → Then P R w) → afterMark m R P Q w → Then P (GroupSpells m R) w
 mark-out unmarked P Q R w f h = f h
 mark-out optional P Q R w f (inl h) = (w, [], refl, h, inl refl)
 mark-out optional P Q R w f (inr h) = let r = f h in (r .0, r .1, r .2, r .3, inr (r .4))
+mark-out starred P Q R w f h = h
 
-mark-in : (m : Mark) (P Q : Language) (R : List ℕ → Type 0) (u x : List ℕ) → P u → (R x → Q (feed u x)) → GroupSpells m R x → afterMark m P Q (feed u x)
+mark-in : (m : Mark) (P Q : Language) (R : List ℕ → Type 0) (u x : List ℕ) → P u → (R x → Q (feed u x)) → GroupSpells m R x → afterMark m R P Q (feed u x)
 mark-in unmarked P Q R u x p f h = f h
 mark-in optional P Q R u x p f (inl h) = inl (subst (λ (v : List ℕ). P (feed u v)) (sym h) p)
 mark-in optional P Q R u x p f (inr h) = inr (f h)
+mark-in starred P Q R u x p f h = (u, x, refl, p, h)
 
 mutual
   pub after-out : (s : Seq) (P : Language) (w : List ℕ) → after s P w → Then P (Spells s) w
@@ -101,7 +95,7 @@ mutual
   alts-out (more s a) P w (inr h) = let m = alts-out a P w h in (m .0, m .1, m .2, m .3, inr (m .4))
 
 mutual
-  after-in : (s : Seq) (P : Language) (u v : List ℕ) → P u → Spells s v → after s P (feed u v)
+  pub after-in : (s : Seq) (P : Language) (u v : List ℕ) → P u → Spells s v → after s P (feed u v)
   after-in end P u v p h = subst (λ (x : List ℕ). P (feed u x)) (sym h) p
   after-in (letter c r s) P u v p h =
       subst (after s (afterLetter c r P)) (sym (ap (feed u) (h .2) ∙ feed-app u (h .0) (h .1)))
@@ -115,6 +109,22 @@ mutual
   alts-in (last s) P u v p h = after-in s P u v p h
   alts-in (more s a) P u v p (inl h) = inl (after-in s P u v p h)
   alts-in (more s a) P u v p (inr h) = inr (alts-in a P u v p h)
+
+-- ---- through a union: what comes out of its alternatives is what comes after it, and with `*` also what goes into them
+more-of : (R : List ℕ → Type 0) {v : List ℕ} (x : List ℕ) → Repeated R v → R x → Repeated R (v ++ x)
+more-of R x (never e) h = again (ap (λ (y : List ℕ). y ++ x) e ∙ sym (append-nil x)) h (never refl)
+more-of R x (again {x = y} {y = z} e p r) h = again (ap (λ (y : List ℕ). y ++ x) e ∙ append-assoc y z x) p (more-of R x r h)
+
+pub through-body : (a : Alts) (P : Language) (w : List ℕ) → afterAlts a (Then P (Repeated (AltsSpell a))) w → Then P (Repeated (AltsSpell a)) w
+through-body a P w h =
+    let n = alts-out a (Then P (Repeated (AltsSpell a))) w h in
+    let l = n .3 in
+    (l .0, l .1 ++ n .1, n .2 ∙ ap (λ (y : List ℕ). feed y (n .1)) (l .2) ∙ sym (feed-app (l .0) (l .1) (n .1)), l .3, more-of (AltsSpell a) (n .1) (l .4) (n .4))
+
+pub through-union : (m : Mark) (a : Alts) (P : Language) (w : List ℕ) → afterAlts a (within m a P) w → afterUnion m a P w
+through-union unmarked a P w h = h
+through-union optional a P w h = inr h
+through-union starred a P w h = through-body a P w h
 
 -- THE THEOREM: a text is in the tree's language exactly if it ends with a stretch that the tree spells
 pub stretch : (s : Seq) (w : List ℕ) → after s Any w ↔ ((u : List ℕ) × (v : List ℕ) × (w ≡ feed u v) × Spells s v)

@@ -11,14 +11,14 @@ use Rattle.model.specs.Edges.{altsEnd, seqEnd}
 use Rattle.model.proofs.Language.Languages.{altsEnd-lt, seqEnd-le}
 use Rattle.model.proofs.Laws.Bool.{pick-gt, pick-le}
 
--- how a value goes through a letter, past a union, and from a union's start t into the alternative that starts in p
-module _ {ℓ} (X : Type ℓ) (through : ℕ → Repeat → X → X) (past : Mark → Alts → X → X) (inside : ℕ → ℕ → X → X) where
+-- how a value goes through a letter, past a union, into its alternatives, and from the union's start t to the alternative that starts in p
+module _ {ℓ} (X : Type ℓ) (through : ℕ → Repeat → X → X) (past into : Mark → Alts → X → X) (inside : ℕ → ℕ → X → X) where
   -- the value of state q, where v is handed to the start of a sequence; or to the start t of a union with the alternatives after p
   abbrev mutual
     pub value : Seq → ℕ → X → ℕ → X
     value end t v = λ q. v
     value (letter c r s) t v = λ q. cond (leb q t) v (value s (suc t) (through c r v) q)
-    value (union m a s) t v = λ q. cond (leb q t) v (cond (leb q (altsEnd a t)) (altsValue a t t v q) (value s (suc (altsEnd a t)) (past m a v) q))
+    value (union m a s) t v = λ q. cond (leb q t) v (cond (leb q (altsEnd a t)) (altsValue a t t (into m a v) q) (value s (suc (altsEnd a t)) (past m a v) q))
 
     pub altsValue : Alts → ℕ → ℕ → X → ℕ → X
     altsValue (last s) t p v = λ q. value s (suc p) (inside t (suc p) v) q
@@ -36,7 +36,7 @@ module _ {ℓ} (X : Type ℓ) (through : ℕ → Repeat → X → X) (past : Mar
       pub Has : Seq → ℕ → X → Type ℓ
       Has end t v = W t ≡ v
       Has (letter c r s) t v = (W t ≡ v) × Has s (suc t) (through c r v)
-      Has (union m a s) t v = (W t ≡ v) × HasA a t t v × Has s (suc (altsEnd a t)) (past m a v)
+      Has (union m a s) t v = (W t ≡ v) × HasA a t t (into m a v) × Has s (suc (altsEnd a t)) (past m a v)
 
       pub HasA : Alts → ℕ → ℕ → X → Type ℓ
       HasA (last s) t p v = Has s (suc p) (inside t (suc p) v)
@@ -62,9 +62,9 @@ module _ {ℓ} (X : Type ℓ) (through : ℕ → Repeat → X → X) (past : Mar
       )
       has (union m a s) t v A = (
         A t (le-refl t) (seqEnd-le (union m a s) t) ∙ pick-le t t v (rest t) (le-refl t),
-        hasA a t t v (λ q h k. A q (omega arith) (omega (arith, seqEnd-le s (suc z))) ∙ pick-gt q t v (rest q) h ∙ pick-le q z (altsValue a t t v q) (after q) k),
+        hasA a t t (into m a v) (λ q h k. A q (omega arith) (omega (arith, seqEnd-le s (suc z))) ∙ pick-gt q t v (rest q) h ∙ pick-le q z (altsValue a t t (into m a v) q) (after q) k),
         has s (suc z) (past m a v) (λ q h k. A q (omega (arith, altsEnd-lt a t)) k ∙ pick-gt q t v (rest q) (omega (arith, altsEnd-lt a t))
-            ∙ pick-gt q z (altsValue a t t v q) (after q) h),
+            ∙ pick-gt q z (altsValue a t t (into m a v) q) (after q) h),
       )
         where
           z : ℕ
@@ -74,7 +74,7 @@ module _ {ℓ} (X : Type ℓ) (through : ℕ → Repeat → X → X) (past : Mar
           after = value s (suc z) (past m a v)
 
           rest : ℕ → X
-          rest q = cond (leb q z) (altsValue a t t v q) (after q)
+          rest q = cond (leb q z) (altsValue a t t (into m a v) q) (after q)
 
       hasA : (a : Alts) (t p : ℕ) (v : X) → ((q : ℕ) → p < q → q ≤ altsEnd a p → W q ≡ altsValue a t p v q) → HasA a t p v
       hasA (last s) t p v A = has s (suc p) (inside t (suc p) v) A

@@ -24,7 +24,7 @@ Add R D r = D r ⊎ ((q : ℕ) × D q × R q r)
 abbrev pub Shut : (ℕ → ℕ → Type 0) → Set → Type 0
 Shut R F = (q r : ℕ) → F q → R q r → F r
 
-reached-in : {R : ℕ → ℕ → Type 0} {D F : Set} → D ⊆ F → Shut R F → {q : ℕ} → Reached R D q → F q
+pub reached-in : {R : ℕ → ℕ → Type 0} {D F : Set} → D ⊆ F → Shut R F → {q : ℕ} → Reached R D q → F q
 reached-in h s (itself d) = h _ d
 reached-in h s (onward {q = q} {r = r} c e) = s q r (reached-in h s c) e
 

@@ -10,7 +10,7 @@ use lib.Dec.{T}
 use Rattle.model.specs.Lists.{_∈_, All}
 use Rattle.model.specs.Tree.{Alts, canOmit, canSkip, end, last, letter, Mark, more, Repeat, Seq, union}
 use Rattle.model.specs.Edges.{altsDepth, altsEmpty, altsEnd, depth, endsOf, seqEmpty, seqEnd, startsOf, unionEmpty, Way, ways}
-use Rattle.model.proofs.Language.Arcs.{altsArcs, Arc, arc, ArcKind, arcs, branch-parts, branch-whole, forkArc, letter-parts, letter-whole, letterArc, loopArc, propagateArc}
+use Rattle.model.proofs.Language.Arcs.{altsArcs, Arc, arc, ArcKind, arcs, backArc, branch-parts, branch-whole, forkArc, letter-parts, letter-whole, letterArc, loopArc, propagateArc}
 use Rattle.model.proofs.Language.Values.{Has, has-end, has-start, HasA, out, table, value}
 use Rattle.model.proofs.Laws.Bool.{and-both, and-split, or-left, or-right}
 use Rattle.model.proofs.Laws.Lists.{all-app, all-left, all-right}
@@ -31,17 +31,20 @@ through c r v = past-item (canSkip r) v
 abbrev past : Mark → Alts → Info → Info
 past m a v = past-item (unionEmpty m a) v
 
+abbrev into : Mark → Alts → Info → Info
+into m a v = v
+
 abbrev inside : ℕ → ℕ → Info → Info
 inside t p v = record { level = suc (v .level); home = p; source = t; free = true }
 
 abbrev Known : (ℕ → Info) → Seq → ℕ → Info → Type 0
-Known = Has Info through past inside
+Known = Has Info through past into inside
 
 abbrev KnownA : (ℕ → Info) → Alts → ℕ → ℕ → Info → Type 0
-KnownA = HasA Info through past inside
+KnownA = HasA Info through past into inside
 
 abbrev at-end : Seq → Info → Info
-at-end = out Info through past inside
+at-end = out Info through past into inside
 
 -- at a sequence's end: if the way there needs no letter, the sequence can spell the empty text
 end-free : (s : Seq) (v : Info) → T (at-end s v .free) → T (seqEmpty s) × T (v .free)
@@ -97,16 +100,17 @@ Fits E W d (letterArc c) k q r = Unit
 Fits E W d (loopArc c) k q r = Unit
 Fits E W d propagateArc k q r = Skip W d k q r
 Fits E W d (forkArc xs) k q r = Split E W d k q r xs
+Fits E W d backArc k q r = k < d
 
 module _ (E : Arc → Type 0) (W : ℕ → Info) (d : ℕ) where
   abbrev pub ArcFits : Arc → Type 0
   ArcFits e = Fits E W d (e .kind) (e .level) (e .from) (e .to)
 
   start-of : (s : Seq) (t : ℕ) (v : Info) → Known W s t v → W t ≡ v
-  start-of = has-start Info through past inside W
+  start-of = has-start Info through past into inside W
 
   end-of : (s : Seq) (t : ℕ) (v : Info) → Known W s t v → W (seqEnd s t) ≡ at-end s v
-  end-of = has-end Info through past inside W
+  end-of = has-end Info through past into inside W
 
   -- ---- an item that can be skipped, from q to r
   skip-fits : (k q r : ℕ) (v : Info) (skips : Bool) → k ≤ d → v .level ≡ k → W q ≡ v → W r ≡ past-item skips v → T skips → Skip W d k q r
@@ -180,6 +184,7 @@ module _ (E : Arc → Type 0) (W : ℕ → Info) (d : ℕ) where
             begins = begins-fit a t t k v e (K .1);
             ends = ends-fit a t t u k v e (λ n. B .skips (or-right (canOmit m) (altsEmpty a) n)) (K .1);
           };
+          returns = λ n. omega arith;
           alts = alts-fit a t t k v (omega arith) e (B .alts) (K .1);
           rest = fits s u k (past m a v) (omega arith) e (B .rest) (K .2);
         })
@@ -197,9 +202,9 @@ abbrev at-start : Info
 at-start = record { level = 0; home = 0; source = 0; free = true }
 
 pub known : Seq → ℕ → Info
-known s = value Info through past inside s 0 at-start
+known s = value Info through past into inside s 0 at-start
 
 -- THE THEOREM: every arc of a tree fits what is known of its states
 pub tree-fits : (E : Arc → Type 0) (s : Seq) → All E (arcs s 0 0) → All (ArcFits E (known s) (depth s)) (arcs s 0 0)
 unfolding known
-tree-fits E s A = fits E (known s) (depth s) s 0 0 at-start (omega arith) refl A (table Info through past inside s 0 at-start)
+tree-fits E s A = fits E (known s) (depth s) s 0 0 at-start (omega arith) refl A (table Info through past into inside s 0 at-start)

@@ -1,6 +1,6 @@
 -- An answer is sound if what was read is what the grammar says of the bytes that were taken: each way in which a reader goes on keeps its answer
 -- sound. And what may follow a part of a rule, as tests on the next byte: with these the readers know where a part ends.
-use mathlib.Core.Path.{_≡_, refl, ap, subst}
+use mathlib.Core.Path.{_≡_, refl, sym, ap, subst}
 use mathlib.Core.Bool.{Bool, true, false, not, cond}
 use mathlib.Core.List.{List, [], _∷_, _++_, append-assoc}
 use Prim.Native.Nat.{ℕ, _≤_}
@@ -117,9 +117,8 @@ pub over-free : (r : List ℕ) → T (over r) → T (free r)
 over-free [] h = tt
 over-free (x ∷ xs) h = among (λ y. not (within y (bytes "?*+{"))) x (bytes "|)") h tt
 
-pub free-past : (r : List ℕ) → T (free r) → past (byte "?") r ≡ bad r
-free-past [] h = refl
-free-past (x ∷ xs) h = past-other (λ y. not (within y (bytes "?*+{"))) (byte "?") x xs h tt
+pub free-other : (x : ℕ) (xs : List ℕ) (y : ℕ) → T (free (x ∷ xs)) → T (within y (bytes "?*+{")) → eqb x y ≡ false
+free-other x xs y h k = unequal x y (λ e. T-not (within x (bytes "?*+{")) h (subst (λ (z : ℕ). T (within z (bytes "?*+{"))) (sym e) k))
 
 pub opens-free : (l : List ℕ) → T (opens l) → T (free l)
 opens-free [] h = absurd h

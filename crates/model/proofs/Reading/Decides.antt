@@ -9,11 +9,11 @@ use native.Mathlib.Omega.{arith}
 use lib.Dec.{T}
 use lib.ListN.{length, length-append}
 use Rattle.model.specs.Bytes.{byte, bytes}
-use Rattle.model.specs.Tree.{Alts, Mark, Seq}
-use Rattle.model.specs.Grammar.{also, bracket, group, IsAlts, IsItem, IsMark, IsRule, IsSeq, item, lone, nothing, only, query, rule, then}
+use Rattle.model.specs.Tree.{Alts, once, Repeat, Seq}
+use Rattle.model.specs.Grammar.{also, any-number, bracket, group, IsAlts, IsItem, IsMark, IsRule, IsSeq, item, lone, nothing, only, query, rule, some-number, then}
 use Rattle.model.specs.Models.Reader.{bad, got, over, Read, readAlts, readItem, readMark, readPiece, readRule, readSeq, whole}
 use Rattle.model.proofs.Laws.Bool.{is-true}
-use Rattle.model.proofs.Reading.Answers.{begins-append, begins-opens, begins-past, bind-past-sound, bind-sound, case-past-sound, closes, closes-over, closes-past, cond-sound, free, free-past, opens, opens-append, opens-free, opens-long, opens-over, over-free, parted, Sound, stopped, took}
+use Rattle.model.proofs.Reading.Answers.{begins-append, begins-opens, begins-past, bind-past-sound, bind-sound, case-past-sound, closes, closes-over, closes-past, cond-sound, equal-sound, free, free-other, opens, opens-append, opens-free, opens-long, opens-over, over-free, parted, Sound, stopped, took}
 use Rattle.model.proofs.Reading.Letters.{complete-letter, letter-begins, sound-letter}
 use Rattle.model.proofs.Reading.Signs.{complete-sign, sound-sign}
 
@@ -25,7 +25,11 @@ sound-piece l =
     took (u ++ v) (cc (append-assoc u v r′)) (lone refl refl d b)))
 
 sound-mark : (l : List ℕ) → Sound IsMark l (readMark l)
-sound-mark l = case-past-sound (byte "?") l (λ z r p. took (bytes "?") p (query refl refl)) (took [] refl (nothing refl refl))
+sound-mark [] = took [] refl (nothing refl refl)
+sound-mark (x ∷ xs) =
+    equal-sound x (byte "?") (λ e. took (bytes "?") (ap (λ (y : ℕ). y ∷ xs) e) (query refl refl))
+    (equal-sound x (byte "*") (λ e. took (bytes "*") (ap (λ (y : ℕ). y ∷ xs) e) (any-number refl refl))
+    (equal-sound x (byte "+") (λ e. took (bytes "+") (ap (λ (y : ℕ). y ∷ xs) e) (some-number refl refl)) (took [] refl (nothing refl refl))))
 
 mutual
   pub sound-alts : (n : ℕ) (l : List ℕ) → Sound IsAlts l (readAlts n l)
@@ -72,9 +76,16 @@ mutual
   item-opens (group p q d b) = rw p tt
 
 -- ---- what is in the grammar is read, and what may follow it is left
-complete-mark : {w : List ℕ} {m : Mark} → IsMark w m → (r : List ℕ) → T (free r) → readMark (w ++ r) ≡ got m r
-complete-mark (nothing p q) r c = rw (p, q, free-past r c)
+free-mark : (r : List ℕ) → T (free r) → readMark r ≡ got once r
+free-mark [] h = refl
+free-mark (x ∷ xs) h =
+    rw (free-other x xs (byte "?") h tt, free-other x xs (byte "*") h tt, free-other x xs (byte "+") h tt)
+
+complete-mark : {w : List ℕ} {q : Repeat} → IsMark w q → (r : List ℕ) → T (free r) → readMark (w ++ r) ≡ got q r
+complete-mark (nothing p q) r c = rw (p, q) (free-mark r c)
 complete-mark (query p q) r c = rw (p, q)
+complete-mark (any-number p q) r c = rw (p, q)
+complete-mark (some-number p q) r c = rw (p, q)
 
 mutual
   pub complete-alts : {w : List ℕ} {a : Alts} → IsAlts w a → (n : ℕ) (r : List ℕ) → T (closes r) → 3 * length (w ++ r) + 3 ≤ n → readAlts n (w ++ r) ≡ got a r

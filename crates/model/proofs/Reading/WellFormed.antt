@@ -1,6 +1,6 @@
 -- EVERY RULE'S TREE IS WELL FORMED: each class holds some byte and only bytes, no sequence is empty, each union without `?` has at least two
--- alternatives, and none of one with `?` can be empty; for the grammar has no empty class, no empty sequence, brackets around one alternative
--- vanish, and so does a `?` that is not needed.
+-- alternatives, none of one with `?` can be empty, and one with `*` has one body; for the grammar has no empty class, no empty sequence, brackets
+-- around one alternative vanish, and so does a `?` that is not needed.
 use mathlib.Core.Path.{_≡_}
 use mathlib.Core.Bool.{Bool, true, false, not, _&&_}
 use mathlib.Core.List.{List, _∷_}
@@ -13,8 +13,8 @@ use lib.Pow.{pow-pos, pow-lt}
 use Rattle.model.specs.Lists.{within}
 use Rattle.model.specs.Bits.{bit}
 use Rattle.model.specs.Bytes.{byte, IsEscape, number, plain, sign, signs}
-use Rattle.model.specs.Tree.{Alts, end, glue, last, letter, Mark, more, once, option, optional, plus, Repeat, Seq, star, union, unmarked}
-use Rattle.model.specs.Grammar.{absent, also, asterisk, beside, braces, bracket, class, copies, cross, dot, escape, escaped, group, grouped, IsAlts, IsItem, IsLetter, IsMark, IsMember, IsMembers, IsRule, IsSeq, IsSign, IsSingle, item, itself, lone, member, nothing, only, plain-byte, query, question, range, repeated, rule, Sign, single, span, then, times}
+use Rattle.model.specs.Tree.{Alts, end, glue, last, letter, Mark, more, once, option, optional, plus, Repeat, Seq, star, starred, union, unmarked}
+use Rattle.model.specs.Grammar.{absent, also, any-number, asterisk, beside, braces, bracket, class, copies, cross, cycle, dot, escape, escaped, group, grouped, IsAlts, IsItem, IsLetter, IsMark, IsMember, IsMembers, IsRule, IsSeq, IsSign, IsSingle, item, itself, lone, member, nothing, only, plain-byte, query, question, range, repeated, rule, Sign, single, some-number, span, then, times}
 use Rattle.model.specs.Edges.{altsEmpty}
 use Rattle.model.proofs.Laws.Bits.{bit-some}
 use Rattle.model.proofs.Laws.Bool.{and-both, and-split, cond-cases}
@@ -28,7 +28,7 @@ pub record Class (c : ℕ) : Type 0 where
   pub some-byte : 1 ≤ c
   pub bytes-only : c < 2 ^ 256
 
--- the mark that the grammar leaves a union: none where it has several alternatives, `?` where none of them can be empty
+-- the mark that the grammar leaves a union: none where it has several alternatives, `?` where none of them can be empty, `*` where it has one
 abbrev pub several : Alts → Bool
 several (last s) = false
 several (more s a) = true
@@ -36,6 +36,7 @@ several (more s a) = true
 abbrev pub marking : Mark → (several empty : Bool) → Bool
 marking unmarked n e = n
 marking optional n e = not e
+marking starred n e = not n
 
 abbrev pub Marked : Mark → Alts → Type 0
 Marked m a = T (marking m (several a) (altsEmpty a))
@@ -143,9 +144,14 @@ bracket-well : (a : Alts) → GoodAlts a → WellFormed (bracket a)
 bracket-well (last s) g = well s (g .0) (g .1)
 bracket-well (more s a) g = well (union unmarked (more s a) end) tt (tt, g, tt)
 
-grouped-well : {w : List ℕ} {m : Mark} (a : Alts) → IsMark w m → GoodAlts a → WellFormed (grouped a m)
+cycle-well : (a : Alts) → GoodAlts a → WellFormed (cycle a)
+cycle-well a g = let h = bracket-well a g in well (cycle a) tt (tt, (h .full, h .good), tt)
+
+grouped-well : {w : List ℕ} {r : Repeat} (a : Alts) → IsMark w r → GoodAlts a → WellFormed (grouped a r)
 grouped-well a (nothing p q) g = rw q (bracket-well a g)
 grouped-well a (query p q) g = rw q (cond-cases WellFormed (altsEmpty a) (λ e. bracket-well a g) (λ e. well (union optional a end) tt (e, g, tt)))
+grouped-well a (any-number p q) g = rw q (cycle-well a g)
+grouped-well a (some-number p q) g = rw q (glue-well (bracket a) (cycle a) (bracket-well a g) (cycle-well a g))
 
 mutual
   alts-good : {w : List ℕ} {a : Alts} → IsAlts w a → GoodAlts a

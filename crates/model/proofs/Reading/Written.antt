@@ -5,8 +5,8 @@ use mathlib.Core.Logic.{_↔_}
 use mathlib.Core.List.{List, [], _∷_, _++_, append-nil, append-assoc}
 use Prim.Native.Nat.{ℕ}
 use Rattle.model.specs.Bytes.{byte}
-use Rattle.model.specs.Tree.{Alts, end, glue, last, letter, Mark, more, once, option, optional, plus, Repeat, Seq, star, union, unmarked}
-use Rattle.model.specs.Grammar.{absent, also, asterisk, cross, group, grouped, IsAlts, IsItem, IsMark, IsRule, IsSeq, IsSign, item, lone, nothing, only, plainly, query, question, rule, then}
+use Rattle.model.specs.Tree.{Alts, end, glue, last, letter, Mark, more, once, option, optional, plus, Repeat, Seq, star, starred, union, unmarked}
+use Rattle.model.specs.Grammar.{absent, also, any-number, asterisk, cross, group, grouped, IsAlts, IsItem, IsMark, IsRule, IsSeq, IsSign, item, lone, nothing, only, plainly, query, question, rule, then}
 use Rattle.model.specs.Edges.{altsEmpty}
 use Rattle.model.specs.Writing.{altsWriting, classWriting, markWriting, repeatWriting, writing}
 use Rattle.model.proofs.Laws.Bool.{is-false}
@@ -34,14 +34,23 @@ wrote : (s : Seq) (w : List ℕ) → NonEmpty s → Wrote s w → IsSeq w s
 wrote s w f (naught p q) = absurd (subst NonEmpty p f)
 wrote s w f (something d) = d
 
-mark-sign : (m : Mark) → IsMark (markWriting m) m
+-- the sign of a mark
+abbrev signOf : Mark → Repeat
+signOf unmarked = once
+signOf optional = option
+signOf starred = star
+
+mark-sign : (m : Mark) → IsMark (markWriting m) (signOf m)
 mark-sign unmarked = nothing refl refl
 mark-sign optional = query refl refl
+mark-sign starred = any-number refl refl
 
-grouped-is : (m : Mark) (a : Alts) → Marked m a → union m a end ≡ grouped a m
+grouped-is : (m : Mark) (a : Alts) → Marked m a → union m a end ≡ grouped a (signOf m)
 grouped-is unmarked (last s) k = absurd k
 grouped-is unmarked (more s a) k = refl
 grouped-is optional a k = rw (is-false (altsEmpty a) k)
+grouped-is starred (last s) k = refl
+grouped-is starred (more s a) k = absurd k
 
 mutual
   seq-written : (s : Seq) → Good s → Wrote s (writing s)

@@ -14,10 +14,11 @@ use Rattle.model.specs.Models.Spelling.{isSpelled, latest}
 use Rattle.model.specs.Models.Verdict.{verdict}
 use Rattle.model.specs.Spelling.{CheckSays, Latest, no-end, no-room, not-an-image, proposed, Proposal, ProposeSays, refused, right, Spelled, text-too-long, wrong}
 use Rattle.model.specs.Tree.{Tree}
-use Rattle.model.proofs.Image.Decided.{verdict-none, verdict-some}
+use Rattle.model.proofs.Image.Decided.{rule-full, verdict-none, verdict-some}
 use Rattle.model.proofs.Laws.Bool.{cond-cases, is-not, is-true, le-false, le-or-lt, le-true}
 use Rattle.model.proofs.Spelling.Decided.{Found, latest-is, latest-none, latest-some, spelled-is}
 use Rattle.model.proofs.Spelling.Ends.{spelled-end}
+use Rattle.model.proofs.Words.Full.{Full}
 
 -- ---- CHECK, computed: the number and yes
 abbrev checkOf : Option Tree → (text : List ℕ) (start end : ℕ) (states : List ℕ) → ℕ × Bool
@@ -40,25 +41,25 @@ module _ (words text : List ℕ) (start end : ℕ) (states : List ℕ) where
   checks-not : NoImage words → answer ≡ (6, false)
   checks-not n = ap (λ (o : Option Tree). checkOf o text start end states) (verdict-none words .1 n)
 
-  gets-yes : (t : Tree) → Spelled t text start end states → isSpelled t text start end states ≡ true
-  gets-yes t s = is-true (isSpelled t text start end states) (spelled-is t text start end states .1 s)
+  gets-yes : (t : Tree) → Full t → Spelled t text start end states → isSpelled t text start end states ≡ true
+  gets-yes t F s = is-true (isSpelled t text start end states) (spelled-is t F text start end states .1 s)
 
-  gets-no : (t : Tree) → (Spelled t text start end states → ⊥) → isSpelled t text start end states ≡ false
-  gets-no t f = is-not (isSpelled t text start end states) (λ h. f (spelled-is t text start end states .0 h))
+  gets-no : (t : Tree) → Full t → (Spelled t text start end states → ⊥) → isSpelled t text start end states ≡ false
+  gets-no t F f = is-not (isSpelled t text start end states) (λ h. f (spelled-is t F text start end states .0 h))
 
   pub check-is : (n : ℕ) (a : Bool) → Says n a → _≡_ {A = ℕ × Bool} (n, a) answer
   check-is n a (not-an-image f e d) = (λ k. (e k, d k)) ∙ sym (checks-not f)
   check-is n a (text-too-long t I l e d) = (λ k. (e k, d k)) ∙ sym (checks t I ∙ rw (le-false (length text) 65535 l))
-  check-is n a (right t I l s e d) = (λ k. (e k, d k)) ∙ sym (checks t I ∙ rw (le-true (length text) 65535 l, gets-yes t s))
-  check-is n a (wrong t I l f e d) = (λ k. (e k, d k)) ∙ sym (checks t I ∙ rw (le-true (length text) 65535 l, gets-no t f))
+  check-is n a (right t I l s e d) = (λ k. (e k, d k)) ∙ sym (checks t I ∙ rw (le-true (length text) 65535 l, gets-yes t (rule-full t (I .is-rule)) s))
+  check-is n a (wrong t I l f e d) = (λ k. (e k, d k)) ∙ sym (checks t I ∙ rw (le-true (length text) 65535 l, gets-no t (rule-full t (I .is-rule)) f))
 
   -- THE TABLE SAYS SOMETHING FOR EVERY PROPOSAL
   pub check-total : Says (answer .0) (answer .1)
   check-total = go (verdict words) refl
     where
       tested : (t : Tree) → ImageOf words t → length text ≤ 65535 → (b : Bool) → isSpelled t text start end states ≡ b → Says 0 b
-      tested t I l true e = right t I l (spelled-is t text start end states .0 (subst T (sym e) tt)) refl refl
-      tested t I l false e = wrong t I l (λ s. subst T e (spelled-is t text start end states .1 s)) refl refl
+      tested t I l true e = right t I l (spelled-is t (rule-full t (I .is-rule)) text start end states .0 (subst T (sym e) tt)) refl refl
+      tested t I l false e = wrong t I l (λ s. subst T e (spelled-is t (rule-full t (I .is-rule)) text start end states .1 s)) refl refl
 
       go : (o : Option Tree) → verdict words ≡ o → Says (checkOf o text start end states .0) (checkOf o text start end states .1)
       go none e = not-an-image (verdict-none words .0 e) refl refl
@@ -108,12 +109,12 @@ module _ (words text : List ℕ) (end : ℕ) (before : List ℕ) where
   propose-is a (not-an-image n e) = ap settled e ∙ sym (proposes-not n)
   propose-is a (text-too-long t I l e) = ap settled e ∙ sym (proposes t I ∙ rw (le-false (length text) 65535 l))
   propose-is a (no-end t I l f e) =
-      ap settled e ∙ sym (from t I l (latest-none t text end (λ i rs s. f (spelled-end t (I .is-rule) text end .0 (i, rs, s)))))
-  propose-is a (no-room t i I l L r e) = ap settled e ∙ sym (from t I l (latest-some t text end i L) ∙ rw (le-false (end - i) (length before) r))
+      ap settled e ∙ sym (from t I l (latest-none t text end (rule-full t (I .is-rule)) (λ i rs s. f (spelled-end t (I .is-rule) text end .0 (i, rs, s)))))
+  propose-is a (no-room t i I l L r e) = ap settled e ∙ sym (from t I l (latest-some t text end (rule-full t (I .is-rule)) i L) ∙ rw (le-false (end - i) (length before) r))
   propose-is a (proposed t i rs I l L r s e) =
       ap settled e
       ∙ ap (λ (x : List ℕ). record { number = 0; start = i; count = end - i; lent = x }) (drop-at rs (drop (end - i) before) (end - i) (s .each))
-      ∙ sym (from t I l (latest-some t text end i L) ∙ rw (le-true (end - i) (length before) r))
+      ∙ sym (from t I l (latest-some t text end (rule-full t (I .is-rule)) i L) ∙ rw (le-true (end - i) (length before) r))
 
   -- THE TABLE SAYS SOMETHING FOR EVERY PLACE
   pub propose-total : (a : Proposal) × Proposes a
@@ -129,7 +130,7 @@ module _ (words text : List ℕ) (end : ℕ) (before : List ℕ) where
       found t I l (some i) L = roomy t I l i L (le-or-lt (end - i) (length before))
 
       within : (t : Tree) → ImageOf words t → (length text ≤ 65535) ⊎ (65535 < length text) → (a : Proposal) × Proposes a
-      within t I (inl l) = found t I l (latest t text end) (latest-is t text end)
+      within t I (inl l) = found t I l (latest t text end) (latest-is t text end (rule-full t (I .is-rule)))
       within t I (inr l) = (_, text-too-long t I l refl)
 
       go : (o : Option Tree) → verdict words ≡ o → (a : Proposal) × Proposes a

@@ -1,5 +1,6 @@
--- THE MODEL OF SPELLINGS DECIDES: a test that some edge passes is passed by an edge of the tree, and edges without a letter rise; so the steps along edges
--- are all there are, and the search for the latest start goes through every start from the last on.
+-- THE MODEL OF SPELLINGS DECIDES: a test that some edge passes is passed by an edge of the tree; edges without a letter rise but for those that lead back,
+-- and of these one is enough (`tree-rounds`). So the steps along edges are all there are, and the search for the latest start goes through every start
+-- from the last on.
 use mathlib.Core.Path.{_≡_, refl, sym, subst}
 use mathlib.Core.Logic.{_⊎_, inl, inr, _↔_}
 use mathlib.Core.Bool.{Bool, _&&_, _||_}
@@ -8,24 +9,28 @@ use mathlib.Core.Option.{Option, none, some}
 use Prim.Native.Nat.{ℕ, zero, suc, _-_, _≤_, _<_}
 use native.Mathlib.Nat.{eq-or-lt-of-le, le-refl}
 use native.Mathlib.Omega.{arith}
-use lib.Dec.{T, eqb, eqb→eq, eqb-refl, leb, leb→le, le→leb}
+use lib.Dec.{T, eqb, eqb→eq, eqb-refl, leb, leb→le, le→leb, ltb, lt→ltb, ltb→lt}
 use lib.ListN.{length}
 use Rattle.model.specs.Lists.{_∈_}
 use Rattle.model.specs.Edges.{accepting, byLetter, byLoop, edge, EdgeKind, edges}
-use Rattle.model.specs.Live.{itself, letterless, onward, Takes}
+use Rattle.model.specs.Live.{Free, itself, letterless, onward, Reached, Takes}
 use Rattle.model.specs.Models.Leads.{Leads}
-use Rattle.model.specs.Models.Spelling.{along, follows, isSpelled, latest, latestBelow, leads, reaches, reachesIn, steps}
+use Rattle.model.specs.Models.Spelling.{along, follows, isSpelled, latest, latestBelow, leads, reaches, rises, risesIn, steps}
 use Rattle.model.specs.Spelling.{between, Follow, Latest, Reaches, Spelled}
 use Rattle.model.specs.Tree.{Tree}
-use Rattle.model.proofs.Definitions.Below.{free-rises}
+use Rattle.model.proofs.Definitions.Below.{quiet-rises}
+use Rattle.model.proofs.Definitions.Live.{free-silent, reached-map, silent-free}
 use Rattle.model.proofs.Laws.Bool.{and-both, and-split, cond-cases, is-false, le-or-lt, or-left, or-right, or-split}
 use Rattle.model.proofs.Laws.Lists.{any-in, any-out}
+use Rattle.model.proofs.Passes.Closure.{Add, AnyEdge}
+use Rattle.model.proofs.Passes.OnTrees.{falls, Gathers, Propagates, Returns, Scatters, Silent, tree-rounds}
 use Rattle.model.proofs.Spelling.Ends.{spelled-leads}
+use Rattle.model.proofs.Words.Full.{Full}
 
 eq-test : {x y : ℕ} → x ≡ y → T (eqb x y)
 eq-test {x} e = subst (λ (z : ℕ). T (eqb x z)) e (eqb-refl x)
 
-module _ (t : Tree) where
+module _ (t : Tree) (F : Full t) where
   -- ---- along an edge of a kind
   abbrev By : (EdgeKind → Bool) → ℕ → ℕ → Type 0
   By kind p r = (e : EdgeKind) × (k : ℕ) × (edge e k p r ∈ edges t) × T (kind e)
@@ -39,31 +44,105 @@ module _ (t : Tree) where
     λ (p, r, (e, k, i, h), m). any-in (λ e. kind (e .kind) && f (e .from) (e .to)) (edges t) (edge e k p r) i (and-both (kind e) (f p r) h m),
   )
 
-  -- ---- without a letter: the last of the edges goes from p to x
-  abbrev onto : (n q x p r : ℕ) → Bool
-  onto n q x p r = eqb r x && reachesIn n t q p
+  -- ---- edges without a letter, those that rise and those that lead back
+  abbrev Quiet : ℕ → ℕ → Type 0
+  Quiet = AnyEdge (Propagates t) (Gathers t) (Scatters t)
 
-  reaches-out : (n q x : ℕ) → T (reachesIn n t q x) → Reaches t q x
-  reaches-out zero q x h = itself (eqb→eq x q h)
-  reaches-out (suc n) q x h = elim (or-split (eqb x q) (along t letterless (onto n q x)) h) [
+  rising : (p r : ℕ) → Free t p r → p < r → Quiet p r
+  rising p r e l = go (free-silent t F p r e)
+    where
+      go : Silent t p r → Quiet p r
+      go (inl k) = k
+      go (inr (k, i)) = absurd (omega (arith, falls t F k p r i))
+
+  falling : (p r : ℕ) → Free t p r → r ≤ p → Returns t p r
+  falling p r e l = go (free-silent t F p r e)
+    where
+      go : Silent t p r → Returns t p r
+      go (inl k) = absurd (omega (arith, quiet-rises t p r k))
+      go (inr k) = k
+
+  -- ---- by edges that rise: the last of them goes from p to x
+  abbrev Rises : ℕ → ℕ → Type 0
+  Rises q = Reached Quiet (λ x. x ≡ q)
+
+  abbrev onto : (n q x p r : ℕ) → Bool
+  onto n q x p r = (eqb r x && ltb p r) && risesIn n t q p
+
+  rises-out : (n q x : ℕ) → T (risesIn n t q x) → Rises q x
+  rises-out zero q x h = itself (eqb→eq x q h)
+  rises-out (suc n) q x h = elim (or-split (eqb x q) (along t letterless (onto n q x)) h) [
     | inl e ↦ itself (eqb→eq x q e)
     | inr k ↦
         let (p, r, by, m) = along-is letterless (onto n q x) .0 k in
-        let c = and-split (eqb r x) (reachesIn n t q p) m in
-        onward (reaches-out n q p (c .1)) (subst (By letterless p) (eqb→eq r x (c .0)) by)
+        let c = and-split (eqb r x && ltb p r) (risesIn n t q p) m in
+        let b = and-split (eqb r x) (ltb p r) (c .0) in
+        onward (rises-out n q p (c .1)) (subst (Quiet p) (eqb→eq r x (b .0)) (rising p r by (ltb→lt p r (b .1))))
   ]
 
-  reaches-in : (n q x : ℕ) → x ≤ n → Reaches t q x → T (reachesIn n t q x)
-  reaches-in zero q x l (itself e) = eq-test e
-  reaches-in (suc n) q x l (itself e) = or-left (eqb x q) (along t letterless (onto n q x)) (eq-test e)
-  reaches-in zero q x l (onward {q = p} h e) = absurd (omega (arith, free-rises t p x e))
-  reaches-in (suc n) q x l (onward {q = p} h e) =
-      let k = reaches-in n q p (omega (arith, free-rises t p x e)) h in
+  rises-in : (n q x : ℕ) → x ≤ n → Rises q x → T (risesIn n t q x)
+  rises-in zero q x l (itself e) = eq-test e
+  rises-in (suc n) q x l (itself e) = or-left (eqb x q) (along t letterless (onto n q x)) (eq-test e)
+  rises-in zero q x l (onward {q = p} h e) = absurd (omega (arith, quiet-rises t p x e))
+  rises-in (suc n) q x l (onward {q = p} h e) =
+      let up = quiet-rises t p x e in
+      let k = rises-in n q p (omega (arith, up)) h in
       or-right (eqb x q) (along t letterless (onto n q x))
-      (along-is letterless (onto n q x) .1 (p, x, e, and-both (eqb x x) (reachesIn n t q p) (eqb-refl x) k))
+      (along-is letterless (onto n q x) .1
+      (p, x, silent-free t F p x (inl e), and-both (eqb x x && ltb p x) (risesIn n t q p) (and-both (eqb x x) (ltb p x) (eqb-refl x) (lt→ltb p x up)) k))
+
+  rises-is : (q x : ℕ) → T (rises t q x) ↔ Rises q x
+  rises-is q x = (rises-out x q x, rises-in x q x (le-refl x))
+
+  -- ---- without a letter: by edges that rise, or with one between them that leads back
+  abbrev Once : ℕ → ℕ → Type 0
+  Once q x = Rises q x ⊎ ((p : ℕ) × (r : ℕ) × Returns t p r × Rises q p × Rises r x)
+
+  once-on : (q x y : ℕ) → Quiet x y → Once q x → Once q y
+  once-on q x y e (inl h) = inl (onward h e)
+  once-on q x y e (inr (p, r, b, h, k)) = inr (p, r, b, h, onward k e)
+
+  once-in : {q x : ℕ} → Reached Quiet (Add (Returns t) (Rises q)) x → Once q x
+  once-in (itself (inl h)) = inl h
+  once-in (itself {q = r} (inr (p, h, b))) = inr (p, r, b, h, itself refl)
+  once-in {q} (onward {q = x} {r = y} c e) = once-on q x y e (once-in c)
+
+  once-out : {q x : ℕ} → Once q x → Reached Quiet (Add (Returns t) (Rises q)) x
+  once-out (inl h) = itself (inl h)
+  once-out (inr (p, r, b, h, k)) = reached-map (λ y z e. e) (λ y s. inr (p, h, subst (Returns t p) (sym s) b)) k
+
+  once-is : (q x : ℕ) → Once q x ↔ Reaches t q x
+  once-is q x =
+      let rounds = tree-rounds t F (λ y. y ≡ q) x in (
+        λ h. reached-map (silent-free t F) (λ y k. k) (rounds .0 (once-out h)),
+        λ h. once-in (rounds .1 (reached-map (free-silent t F) (λ y k. k) h)),
+      )
+
+  abbrev over : (q x p r : ℕ) → Bool
+  over q x p r = leb r p && (rises t q p && rises t r x)
 
   reaches-is : (q x : ℕ) → T (reaches t q x) ↔ Reaches t q x
-  reaches-is q x = (reaches-out x q x, reaches-in x q x (le-refl x))
+  reaches-is q x = (λ h. once-is q x .0 (there (or-split (rises t q x) (along t letterless (over q x)) h)), λ h. back (once-is q x .1 h))
+    where
+      there : T (rises t q x) ⊎ T (along t letterless (over q x)) → Once q x
+      there (inl h) = inl (rises-is q x .0 h)
+      there (inr h) =
+          let (p, r, by, m) = along-is letterless (over q x) .0 h in
+          let c = and-split (leb r p) (rises t q p && rises t r x) m in
+          let k = and-split (rises t q p) (rises t r x) (c .1) in
+          inr (p, r, falling p r by (leb→le r p (c .0)), rises-is q p .0 (k .0), rises-is r x .0 (k .1))
+
+      back : Once q x → T (reaches t q x)
+      back (inl h) = or-left (rises t q x) (along t letterless (over q x)) (rises-is q x .1 h)
+      back (inr (p, r, (k, i), h, g)) =
+          or-right (rises t q x) (along t letterless (over q x))
+          (along-is letterless (over q x) .1 (
+            p,
+            r,
+            silent-free t F p r (inr (k, i)),
+            and-both (leb r p) (rises t q p && rises t r x) (le→leb r p (falls t F k p r i))
+                (and-both (rises t q p) (rises t r x) (rises-is q p .1 h) (rises-is r x .1 g)),
+          ))
 
   -- ---- by a byte
   steps-is : (b q : ℕ) (f : ℕ → Bool) → T (steps t b q f) ↔ ((p : ℕ) × Reaches t q p × ((r : ℕ) × Takes t b p r × T (f r)))
@@ -151,28 +230,28 @@ module _ (t : Tree) (text : List ℕ) (stop : ℕ) where
         go (inl e) = g (subst (λ (i : ℕ). Leads t (between text i stop) 0) (sym e) (spelled-leads t text j stop .0 (list, s) .2))
         go (inr x) = f j list x s
 
-    found-below : (k : ℕ) → k ≤ suc stop → NoneFrom k → Found (latestBelow k t text stop)
-    found-below zero h f = λ start list s. f start list (omega arith) s
-    found-below (suc k) h f =
+    found-below : Full t → (k : ℕ) → k ≤ suc stop → NoneFrom k → Found (latestBelow k t text stop)
+    found-below F zero h f = λ start list s. f start list (omega arith) s
+    found-below F (suc k) h f =
         let bs = between text k stop in
-        cond-cases Found (leads t bs 0) (λ y. found-at k (omega arith) (leads-is t bs 0 .0 y) f)
-        (λ n. found-below k (omega arith) (none-here k (λ l. subst T (is-false (leads t bs 0) n) (leads-is t bs 0 .1 l)) f))
+        cond-cases Found (leads t bs 0) (λ y. found-at k (omega arith) (leads-is t F bs 0 .0 y) f)
+        (λ n. found-below F k (omega arith) (none-here k (λ l. subst T (is-false (leads t bs 0) n) (leads-is t F bs 0 .1 l)) f))
 
   -- THE SEARCH FINDS IT, OR THERE IS NO SPELLING
-  pub latest-is : Found (latest t text stop)
-  latest-is = cond-cases Found (leb stop (length text))
-      (λ h. found-below (leb→le stop (length text) h) (suc stop) (le-refl (suc stop)) (λ j list l s. omega (arith, s .ordered)))
+  pub latest-is : Full t → Found (latest t text stop)
+  latest-is F = cond-cases Found (leb stop (length text))
+      (λ h. found-below (leb→le stop (length text) h) F (suc stop) (le-refl (suc stop)) (λ j list l s. omega (arith, s .ordered)))
       (λ n start list s. subst T (is-false (leb stop (length text)) n) (le→leb stop (length text) (s .inside)))
 
-  pub latest-some : (start : ℕ) → Latest t text start stop → latest t text stop ≡ some start
-  latest-some start L = go (latest t text stop) latest-is
+  pub latest-some : Full t → (start : ℕ) → Latest t text start stop → latest t text stop ≡ some start
+  latest-some F start L = go (latest t text stop) (latest-is F)
     where
       go : (o : Option ℕ) → Found o → o ≡ some start
       go none f = absurd (f start (L .some .0) (L .some .1))
       go (some i) M = λ k. some (latest-one t text i start stop M L k)
 
-  pub latest-none : NoSpelling → latest t text stop ≡ none
-  latest-none f = go (latest t text stop) latest-is
+  pub latest-none : Full t → NoSpelling → latest t text stop ≡ none
+  latest-none F f = go (latest t text stop) (latest-is F)
     where
       go : (o : Option ℕ) → Found o → o ≡ none
       go none g = refl

@@ -8,22 +8,25 @@ use lib.Dec.{T}
 use lib.ListN.{length}
 use Rattle.model.specs.Lists.{_∈_, All}
 use Rattle.model.specs.Bits.{bit}
-use Rattle.model.specs.Tree.{Alts, canLoop, canSkip, end, last, letter, Mark, more, once, option, optional, plus, Repeat, Seq, star, Tree, union, unmarked}
-use Rattle.model.specs.Edges.{accepting, altsEnd, endsOf, seqEnd, startsOf, unionEmpty, ways}
-use Rattle.model.specs.Ends.{AltsSpell, GroupSpells, LetterSpells, Spells}
+use Rattle.model.specs.Tree.{Alts, canLoop, canSkip, end, last, letter, Mark, more, once, option, optional, plus, Repeat, Seq, star, starred, Tree, union, unmarked}
+use Rattle.model.specs.Edges.{accepting, altsEnd, endsOf, seqEnd, startsOf, ways}
+use Rattle.model.specs.Ends.{again, AltsSpell, GroupSpells, LetterSpells, never, Repeated, Spells}
+use Rattle.model.specs.Grammar.{IsRule}
 use Rattle.model.specs.Live.{itself, onward}
 use Rattle.model.specs.Models.Leads.{Leads}
 use Rattle.model.specs.Spelling.{between, Reaches, Spelled}
 use Rattle.model.proofs.Definitions.Free.{free-is}
 use Rattle.model.proofs.Definitions.Takes.{takes-is}
-use Rattle.model.proofs.Language.Arcs.{altsArcs, Arc, arc, arcs, Branch, branch-parts, Byte, forkArc, Letter, letter-parts, letterArc, loopArc, propagateArc, Still}
+use Rattle.model.proofs.Image.Decided.{rule-full}
+use Rattle.model.proofs.Language.Arcs.{altsArcs, Arc, arc, arcs, backArc, Branch, branch-parts, Byte, forkArc, Letter, letter-parts, letterArc, loopArc, propagateArc, Still}
 use Rattle.model.proofs.Language.Carried.{carried, Carries}
-use Rattle.model.proofs.Language.Languages.{Language}
-use Rattle.model.proofs.Language.Stretches.{after-out, feed}
+use Rattle.model.proofs.Language.Languages.{feed, Language}
+use Rattle.model.proofs.Language.Stretches.{after-out}
 use Rattle.model.proofs.Language.Texts.{at, end-of, start-of, Texts, texts-table, to}
 use Rattle.model.proofs.Laws.Lists.{all-in, all-left, all-right, In, in-all}
 use Rattle.model.proofs.Spelling.Ends.{spelled-leads}
 use Rattle.model.proofs.Spelling.Leads.{earlier}
+use Rattle.model.proofs.Words.Full.{Full, FullA, Single}
 
 -- ---- a way along arcs from one state to another, by bytes
 data Goes (E : Arc → Type 0) : ℕ → List ℕ → ℕ → Type 0 where
@@ -66,45 +69,69 @@ module _ (E : Arc → Type 0) where
   abbrev Through : Alts → ℕ → List ℕ → Type 0
   Through a p v = (i : ℕ) × (j : ℕ) × (i ∈ startsOf (ways a p)) × (j ∈ endsOf (ways a p)) × Goes E i v j
 
-  -- a union by one of its alternatives, or over it where its mark lets it be left out
-  union-goes : (m : Mark) (a : Alts) (s : Seq) (t k : ℕ) → Branch E m a s t k → (x : List ℕ) → (AltsSpell a x → Through a t x)
-      → GroupSpells m (AltsSpell a) x → Goes E t x (suc (altsEnd a t))
-  union-goes m a s t k B x f h = go m (B .skips) h
+  -- into a union, through it and out
+  through-goes : (m : Mark) (a : Alts) (s : Seq) (t k : ℕ) → Branch E m a s t k → (x : List ℕ) → Through a t x → Goes E t x (suc (altsEnd a t))
+  through-goes m a s t k B x (i, j, h, l, g) =
+      let u = suc (altsEnd a t) in
+      let F = arc (forkArc (ways a t)) k t u in
+      subst (λ (z : List ℕ). Goes E t z u) (append-nil x) (still F (B .forks) (inl (refl, h)) (goes-on g (still F (B .forks) (inr (l, refl)) here)))
+
+  -- a group with `*`: over it; or into its body, back as often as the body is spelled again, and out
+  cycle-goes : (b s : Seq) (t k : ℕ) → Branch E starred (last b) s t k → ((x : List ℕ) → Spells b x → Goes E (suc t) x (seqEnd b (suc t)))
+      → (x : List ℕ) → Repeated (Spells b) x → Goes E t x (suc (seqEnd b (suc t)))
+  cycle-goes b s t k B f x h = go h
     where
-      u : ℕ
-      u = suc (altsEnd a t)
+      z : ℕ
+      z = seqEnd b (suc t)
 
-      inside : AltsSpell a x → Goes E t x u
-      inside h =
-          let F = arc (forkArc (ways a t)) k t u in
-          let w = f h in
-          let on = goes-on (w .4) (still F (B .forks) (inr (w .3, refl)) here) in
-          subst (λ (z : List ℕ). Goes E t z u) (append-nil x) (still F (B .forks) (inl (refl, w .2)) on)
+      F : Arc
+      F = arc (forkArc (ways (last b) t)) k t (suc z)
 
-      go : (m : Mark) → (T (unionEmpty m a) → E (arc propagateArc k t u)) → GroupSpells m (AltsSpell a) x → Goes E t x u
-      go unmarked z h = inside h
-      go optional z (inl o) = subst (λ (v : List ℕ). Goes E t v u) (sym o) (still (arc propagateArc k t u) (z tt) (refl, refl) here)
-      go optional z (inr h) = inside h
+      on : {v : List ℕ} → Repeated (Spells b) v → Goes E z v (suc z)
+      on (never e) = subst (λ (v : List ℕ). Goes E z v (suc z)) (sym e) (still F (B .forks) (inr (inl refl, refl)) here)
+      on (again {x = x} e p r) =
+          subst (λ (v : List ℕ). Goes E z v (suc z)) (sym e) (still (arc backArc k z (suc t)) (B .returns tt) (refl, refl) (goes-on (f x p) (on r)))
+
+      go : {v : List ℕ} → Repeated (Spells b) v → Goes E t v (suc z)
+      go (never e) = subst (λ (v : List ℕ). Goes E t v (suc z)) (sym e) (still (arc propagateArc k t (suc z)) (B .skips tt) (refl, refl) here)
+      go (again {x = x} e p r) = subst (λ (v : List ℕ). Goes E t v (suc z)) (sym e) (still F (B .forks) (inl (refl, inl refl)) (goes-on (f x p) (on r)))
+
+  -- a union by one of its alternatives, or over it or around where its mark lets it
+  union-goes : (m : Mark) (a : Alts) (s : Seq) (t k : ℕ) → Single m a → Branch E m a s t k → ((x : List ℕ) → AltsSpell a x → Through a t x)
+      → (x : List ℕ) → GroupSpells m (AltsSpell a) x → Goes E t x (suc (altsEnd a t))
+  union-goes unmarked a s t k S B f x h = through-goes unmarked a s t k B x (f x h)
+  union-goes optional a s t k S B f x (inl o) =
+      let u = suc (altsEnd a t) in
+      subst (λ (v : List ℕ). Goes E t v u) (sym o) (still (arc propagateArc k t u) (B .skips tt) (refl, refl) here)
+  union-goes optional a s t k S B f x (inr h) = through-goes optional a s t k B x (f x h)
+  union-goes starred (last b) s t k S B f x h = cycle-goes b s t k B (λ v p. body v (f v p)) x h
+    where
+      body : (v : List ℕ) → Through (last b) t v → Goes E (suc t) v (seqEnd b (suc t))
+      body v (i, j, inl d, inl e, g) = subst (λ (y : ℕ). Goes E (suc t) v y) e (subst (λ (y : ℕ). Goes E y v j) d g)
+      body v (i, j, inl d, inr e, g) = absurd e
+      body v (i, j, inr d, e, g) = absurd d
+  union-goes starred (more b a) s t k S B f x h = absurd S
 
   mutual
-    spells-goes : (s : Seq) (t k : ℕ) → All E (arcs s t k) → (v : List ℕ) → Spells s v → Goes E t v (seqEnd s t)
-    spells-goes end t k A v h = subst (λ (x : List ℕ). Goes E t x t) (sym h) here
-    spells-goes (letter c r s) t k A v (x, y, e, h, l) =
+    spells-goes : (s : Seq) (t k : ℕ) → Full s → All E (arcs s t k) → (v : List ℕ) → Spells s v → Goes E t v (seqEnd s t)
+    spells-goes end t k F A v h = subst (λ (x : List ℕ). Goes E t x t) (sym h) here
+    spells-goes (letter c r s) t k F A v (x, y, e, h, l) =
         let B = letter-parts E c r s t k A in
-        subst (λ (w : List ℕ). Goes E t w (seqEnd s (suc t))) (sym e) (goes-on (letter-goes c r s t k B x h) (spells-goes s (suc t) k (B .rest) y l))
-    spells-goes (union m a s) t k A v (x, y, e, h, l) =
+        subst (λ (w : List ℕ). Goes E t w (seqEnd s (suc t))) (sym e) (goes-on (letter-goes c r s t k B x h) (spells-goes s (suc t) k F (B .rest) y l))
+    spells-goes (union m a s) t k F A v (x, y, e, h, l) =
         let B = branch-parts E m a s t k A in
         let u = suc (altsEnd a t) in
-        subst (λ (z : List ℕ). Goes E t z (seqEnd s u)) (sym e) (goes-on (union-goes m a s t k B x (λ i. alts-goes a t k (B .alts) x i) h) (spells-goes s u k (B .rest) y l))
+        subst (λ (z : List ℕ). Goes E t z (seqEnd s u)) (sym e)
+        (goes-on (union-goes m a s t k (F .2) B (λ v i. alts-goes a t k (F .0) (B .alts) v i) x h) (spells-goes s u k (F .1) (B .rest) y l))
 
-    alts-goes : (a : Alts) (p k : ℕ) → All E (altsArcs a p k) → (v : List ℕ) → AltsSpell a v → Through a p v
-    alts-goes (last s) p k A v h = (suc p, seqEnd s (suc p), inl refl, inl refl, spells-goes s (suc p) (suc k) A v h)
-    alts-goes (more s a) p k A v (inl h) =
+    alts-goes : (a : Alts) (p k : ℕ) → FullA a → All E (altsArcs a p k) → (v : List ℕ) → AltsSpell a v → Through a p v
+    alts-goes (last s) p k F A v h = (suc p, seqEnd s (suc p), inl refl, inl refl, spells-goes s (suc p) (suc k) (F .1) A v h)
+    alts-goes (more s a) p k F A v (inl h) =
         let z = seqEnd s (suc p) in
-        (suc p, z, inl refl, inl refl, spells-goes s (suc p) (suc k) (all-left E (arcs s (suc p) (suc k)) (altsArcs a z k) A) v h)
-    alts-goes (more s a) p k A v (inr h) =
+        (suc p, z, inl refl, inl refl, spells-goes s (suc p) (suc k) (F .1) (all-left E (arcs s (suc p) (suc k)) (altsArcs a z k) A) v h)
+    alts-goes (more s a) p k F A v (inr h) =
         let z = seqEnd s (suc p) in
-        let w = alts-goes a z k (all-right E (arcs s (suc p) (suc k)) (altsArcs a z k) A) v h in
+        let w = alts-goes a z k (F .2) (all-right E (arcs s (suc p) (suc k)) (altsArcs a z k) A) v h in
         (w .0, w .1, inr (w .2), inr (w .3), w .4)
 
 module _ (t : Tree) where
@@ -141,8 +168,8 @@ module _ (t : Tree) where
   goes-text w (byte {b} {q} {p} e i m g) l = goes-text (b ∷ w) g (carries e i .byte b q p m w l)
 
   -- THE THEOREM: the bytes that lead from 0 to the accepting state are those that the rule spells
-  pub leads-spells : (v : List ℕ) → Leads t v 0 ↔ Spells t v
-  leads-spells v = (there, λ h. goes-leads (spells-goes (In (arcs t 0 0)) t 0 0 (in-all (arcs t 0 0)) v h) refl)
+  pub leads-spells : Full t → (v : List ℕ) → Leads t v 0 ↔ Spells t v
+  leads-spells F v = (there, λ h. goes-leads (spells-goes (In (arcs t 0 0)) t 0 0 F (in-all (arcs t 0 0)) v h) refl)
     where
       there : Leads t v 0 → Spells t v
       there h =
@@ -152,9 +179,9 @@ module _ (t : Tree) where
           subst (Spells t) (sym (sym (reverse-reverse v) ∙ ap reverse e ∙ reverse-reverse (o .1))) (o .4)
 
   -- so a spelling exists from one place to another exactly if the bytes between them are spelled
-  pub spelled-spells : (text : List ℕ) (start stop : ℕ)
+  pub spelled-spells : {rule : List ℕ} → IsRule rule t → (text : List ℕ) (start stop : ℕ)
       → ((states : List ℕ) × Spelled t text start stop states) ↔ ((stop ≤ length text) × (start ≤ stop) × Spells t (between text start stop))
-  spelled-spells text start stop = (
-    λ s. let l = spelled-leads t text start stop .0 s in (l .0, l .1, leads-spells (between text start stop) .0 (l .2)),
-    λ (l, m, h). spelled-leads t text start stop .1 (l, m, leads-spells (between text start stop) .1 h),
+  spelled-spells R text start stop = (
+    λ s. let l = spelled-leads t text start stop .0 s in (l .0, l .1, leads-spells (rule-full t R) (between text start stop) .0 (l .2)),
+    λ (l, m, h). spelled-leads t text start stop .1 (l, m, leads-spells (rule-full t R) (between text start stop) .1 h),
   )

@@ -6,6 +6,7 @@ use mathlib.Core.Bool.{Bool, true, false, cond}
 use mathlib.Core.List.{List, [], _++_}
 use mathlib.Core.Option.{Option, none, some}
 use Prim.Native.Nat.{ℕ, _+_, _≤_, _<_}
+use native.Mathlib.Nat.{le-refl}
 use native.Mathlib.Omega.{arith}
 use lib.Dec.{T, eqb, eqb→eq, eqb-refl, leb}
 use lib.ListN.{length}
@@ -16,7 +17,7 @@ use Rattle.model.specs.Edges.{accepting, depth, states}
 use Rattle.model.specs.Ends.{EndsAre}
 use Rattle.model.specs.Image.{width}
 use Rattle.model.specs.Live.{Before, LiveFrom}
-use Rattle.model.specs.Models.Run.{endsAfter, Masks, noted, passWords, runFrom}
+use Rattle.model.specs.Models.Run.{closeWords, endsAfter, Masks, noted, runFrom}
 use Rattle.model.specs.Models.Verdict.{verdict}
 use Rattle.model.specs.Models.Words.{Fit, isMask, value}
 use Rattle.model.specs.Tree.{Tree}
@@ -36,7 +37,7 @@ abbrev own : Tree → Masks
 own t = treeMasks (states t) (width (states t)) t
 
 abbrev firstOf : Tree → List ℕ
-firstOf t = passWords (own t) (depth t) (own t .startMask)
+firstOf t = closeWords (own t) (depth t) (own t .startMask)
 
 abbrev zeroOf : Tree → List ℕ
 zeroOf t = noted (bit (value (firstOf t)) (accepting t)) 0
@@ -64,7 +65,7 @@ stepAnswer words = stepOf (verdict words)
 
 -- ---- the masks of a tree hold its sets
 carry : (t : Tree) → Carry (states t) (width (states t)) t (own t)
-carry t = tree-carry (states t) (width (states t)) t (room (states t))
+carry t = tree-carry (states t) (width (states t)) t (room (states t)) (le-refl (states t))
 
 -- ---- BEGIN
 module _ (words mask : List ℕ) (place : ℕ) (ends : List ℕ) where

@@ -13,7 +13,7 @@ use Rattle.model.specs.Ends.{EndsAre}
 use Rattle.model.specs.Grammar.{IsRule}
 use Rattle.model.specs.Image.{width}
 use Rattle.model.specs.Live.{Before, LiveFrom}
-use Rattle.model.specs.Models.Run.{endsAfter, endsWith, Masks, noted, passWords, runFrom, stepWords}
+use Rattle.model.specs.Models.Run.{closeWords, endsAfter, endsWith, Masks, noted, runFrom, stepWords}
 use Rattle.model.specs.Models.Words.{Fit, value}
 use Rattle.model.specs.Tree.{Tree}
 use Rattle.model.specs.Watch.{EndsIn, In, IsMask, MaskOf}
@@ -26,16 +26,16 @@ use Rattle.model.proofs.Watch.Live.{live-as}
 use Rattle.model.proofs.Watch.Masks.{holds-mask, in-value}
 use Rattle.model.proofs.Words.Full.{Full}
 use Rattle.model.proofs.Words.Holds.{Holds}
-use Rattle.model.proofs.Words.Passes.{passed}
-use Rattle.model.proofs.Words.Run.{Bytes, Carry, passes-words, step-words}
+use Rattle.model.proofs.Words.Rounds.{closed}
+use Rattle.model.proofs.Words.Run.{Bytes, Carry, rounds-words, step-words}
 
 module _ (t : Tree) (F : Full t) (W : ℕ) (N : Masks) (C : Carry (states t) W t N) where
   -- ---- the sets of the run
   abbrev first : ℕ → Bool
-  first = passed t F (depth t) startSet
+  first = closed t F startSet
 
   abbrev next : ℕ → (ℕ → Bool) → ℕ → Bool
-  next b f = passed t F (depth t) (moved (arcs t 0 0) b f)
+  next b f = closed t F (moved (arcs t 0 0) b f)
 
   abbrev setFrom : (ℕ → Bool) → List ℕ → ℕ → Bool
   setFrom f [] = f
@@ -49,8 +49,8 @@ module _ (t : Tree) (F : Full t) (W : ℕ) (N : Masks) (C : Carry (states t) W t
       (λ h. l .0 (a .0 h), λ h. a .1 (l .1 h))
 
   -- ---- the words hold them
-  first-holds : Holds (states t) W (passWords N (depth t) (N .startMask)) first
-  first-holds = passes-words (states t) W t F N C (N .startMask) startSet (C .start)
+  first-holds : Holds (states t) W (closeWords N (depth t) (N .startMask)) first
+  first-holds = rounds-words (states t) W t F N C (N .startMask) startSet (C .start)
 
   next-holds : (b : ℕ) → b < 256 → (live : List ℕ) (f : ℕ → Bool) → Holds (states t) W live f → Holds (states t) W (stepWords N (depth t) b live) (next b f)
   next-holds = step-words (states t) W t F N C
@@ -78,21 +78,21 @@ module _ (t : Tree) (F : Full t) (W : ℕ) (N : Masks) (C : Carry (states t) W t
 
   -- ---- A BEGINNING: the live states before any byte, and place 0
   module _ (long : W ≡ width (states t)) where
-    pub first-mask : MaskOf (states t) (Before t) (passWords N (depth t) (N .startMask))
+    pub first-mask : MaskOf (states t) (Before t) (closeWords N (depth t) (N .startMask))
     first-mask = record {
       set = first;
       is = λ q l. before-is t F q;
-      laid = holds-mask (states t) (passWords N (depth t) (N .startMask)) first
-          (subst (λ (n : ℕ). Holds (states t) n (passWords N (depth t) (N .startMask)) first) long first-holds);
+      laid = holds-mask (states t) (closeWords N (depth t) (N .startMask)) first
+          (subst (λ (n : ℕ). Holds (states t) n (closeWords N (depth t) (N .startMask)) first) long first-holds);
     }
 
-  pub first-ends : {rule : List ℕ} → IsRule rule t → EndsAre t [] (noted (bit (value (passWords N (depth t) (N .startMask))) (accepting t)) 0)
-  first-ends R = ends-zero t R (bit (value (passWords N (depth t) (N .startMask))) (accepting t)) (looked-up (passWords N (depth t) (N .startMask)) first first-holds (before-is t F))
+  pub first-ends : {rule : List ℕ} → IsRule rule t → EndsAre t [] (noted (bit (value (closeWords N (depth t) (N .startMask))) (accepting t)) 0)
+  first-ends R = ends-zero t R (bit (value (closeWords N (depth t) (N .startMask))) (accepting t)) (looked-up (closeWords N (depth t) (N .startMask)) first first-holds (before-is t F))
 
   -- A WHOLE TEXT
   pub whole-ends : {rule : List ℕ} → IsRule rule t → (text : List ℕ) → Bytes text → EndsAre t text (endsWith N (depth t) (accepting t) text)
   whole-ends R text B =
-      ends-whole t R (first-ends R) (ends-as t (before-is t F) (set-ends (passWords N (depth t) (N .startMask)) first 0 text B first-holds))
+      ends-whole t R (first-ends R) (ends-as t (before-is t F) (set-ends (closeWords N (depth t) (N .startMask)) first 0 text B first-holds))
 
   -- ---- A STRETCH FROM THE STATES OF A MASK
   module _ (mask : List ℕ) (long : W ≡ width (states t)) (fits : Fit mask) (I : IsMask (states t) mask) where

@@ -9,7 +9,7 @@ use native.Mathlib.Nat.{le-refl}
 use native.Mathlib.Omega.{arith}
 use Rattle.model.specs.Tree.{Alts, Seq}
 use Rattle.model.specs.Edges.{altsEnd, seqEnd, Way}
-use Rattle.model.proofs.Language.Arcs.{Arc, arc, ArcKind, arcs, forkArc, letterArc, loopArc, propagateArc}
+use Rattle.model.proofs.Language.Arcs.{Arc, arc, ArcKind, arcs, backArc, forkArc, letterArc, loopArc, propagateArc}
 use Rattle.model.proofs.Language.Languages.{altsEnd-lt}
 use Rattle.model.proofs.Laws.Lists.{all-in, In}
 use Rattle.model.proofs.Words.Full.{Full, FullA}
@@ -38,6 +38,7 @@ propagate-out k es p h = let r = items-out Way ofPropagate noFork k es p h in go
     go e propagateArc q i l (inl x) = subst (In es) (λ n. arc (q n) (l n) (sym x n .0) (sym x n .1)) i
     go e propagateArc q i l (inr x) = absurd x
     go e (forkArc xs) q i l h = absurd h
+    go e backArc q i l h = absurd h
 
 -- ---- they stand in order
 abbrev pub Rises : Way → Type 0

@@ -11,7 +11,7 @@ use Rattle.model.specs.Lists.{All, any, within}
 use Rattle.model.specs.Tree.{Alts, Seq}
 use Rattle.model.specs.Edges.{altsEnd, endsOf, seqEnd, startsOf, Way, ways}
 use Rattle.model.specs.Image.{firstEnd, lastStart}
-use Rattle.model.proofs.Language.Arcs.{Arc, arc, ArcKind, arcs, forkArc, letterArc, loopArc, propagateArc}
+use Rattle.model.proofs.Language.Arcs.{Arc, arc, ArcKind, arcs, backArc, forkArc, letterArc, loopArc, propagateArc}
 use Rattle.model.proofs.Laws.Lists.{In}
 use Rattle.model.proofs.Words.Full.{ends-between, first-in, Full, FullA, last-in, starts-between}
 use Rattle.model.proofs.Words.InOrder.{items-in, items-out, itemsOf, keep, pick, Rows, rows, rows-none, rows-ok}
@@ -54,6 +54,7 @@ fork-out k es u h = let r = items-out Union noPropagate ofFork k es u h in go (r
     go e propagateArc p i l h = absurd h
     go e (forkArc xs) p i l (inl q) = (xs, e .from, e .to, subst (In es) (λ n. arc (p n) (l n) (e .from) (e .to)) i, q)
     go e (forkArc xs) p i l (inr q) = absurd q
+    go e backArc p i l h = absurd h
 
 -- ---- between its start and its end
 pub record Sound (u : Union) : Type 0 where

@@ -1,5 +1,5 @@
--- NO ALTERNATIVE IS EMPTY (document 01: "No sequence is empty"), so a union's last alternative ends past its start; and between which states
--- the starts and the ends of a union's alternatives lie.
+-- NO ALTERNATIVE IS EMPTY (document 01: "No sequence is empty"), so a union's last alternative ends past its start; a group with `*` has one body;
+-- and between which states the starts and the ends of a union's alternatives lie.
 use mathlib.Core.Path.{_≡_, refl}
 use mathlib.Core.Logic.{inl, inr}
 use mathlib.Core.Bool.{false}
@@ -8,20 +8,27 @@ use Prim.Native.Nat.{ℕ, suc, _≤_, _<_}
 use native.Mathlib.Nat.{le-refl}
 use native.Mathlib.Omega.{arith}
 use lib.Dec.{T, eqb, eqb→eq}
-use Rattle.model.specs.Lists.{within}
-use Rattle.model.specs.Tree.{Alts, end, last, letter, more, Seq, union}
+use Rattle.model.specs.Lists.{_∈_, within}
+use Rattle.model.specs.Tree.{Alts, end, last, letter, Mark, more, optional, Seq, starred, union, unmarked}
 use Rattle.model.specs.Edges.{altsEnd, endsOf, seqEnd, startsOf, ways}
 use Rattle.model.specs.Image.{firstEnd, lastStart}
 use Rattle.model.proofs.Language.Languages.{altsEnd-lt, seqEnd-le}
 use Rattle.model.proofs.Laws.Bool.{or-split}
 use Rattle.model.proofs.Laws.Trees.{NonEmpty}
 
+-- a group with `*` has "the one body"
+abbrev pub Single : Mark → Alts → Type 0
+Single unmarked a = Unit
+Single optional a = Unit
+Single starred (last s) = Unit
+Single starred (more s a) = ⊥
+
 -- the alternatives of every union of the tree have an item
 abbrev mutual
   pub Full : Seq → Type 0
   Full end = Unit
   Full (letter c r s) = Full s
-  Full (union m a s) = FullA a × Full s
+  Full (union m a s) = FullA a × Full s × Single m a
 
   pub FullA : Alts → Type 0
   FullA (last s) = NonEmpty s × Full s
@@ -53,6 +60,15 @@ starts-between (more s a) p x h =
       | inl e ↦ omega (arith, eqb→eq x (suc p) e, last-of a p z, last-past a z, seqEnd-le s (suc p))
       | inr e ↦ omega (arith, starts-between a z x e, last-of a p z, seqEnd-le s (suc p))
     ]
+
+-- ---- the first start and the last end are among them
+pub first-start : (a : Alts) (p : ℕ) → suc p ∈ startsOf (ways a p)
+first-start (last s) p = inl refl
+first-start (more s a) p = inl refl
+
+pub last-end : (a : Alts) (p : ℕ) → altsEnd a p ∈ endsOf (ways a p)
+last-end (last s) p = inl refl
+last-end (more s a) p = inr (last-end a (seqEnd s (suc p)))
 
 -- ---- the ends of the alternatives after state p lie past p, the first one of them lowest, the last one highest
 pub first-in : (a : Alts) (p : ℕ) → (p < firstEnd (ways a p)) × (firstEnd (ways a p) ≤ altsEnd a p)

@@ -13,17 +13,17 @@ use Rattle.model.specs.Bits.{bit}
 use Rattle.model.specs.Tree.{Seq}
 use Rattle.model.specs.Edges.{depth, seqEnd}
 use Rattle.model.specs.Image.{width}
-use Rattle.model.specs.Models.Apart.{chunk, gatherIn, lettersIn, propagateIn, repeatsIn, scatterIn, widthWord}
-use Rattle.model.specs.Models.LayOut.{blockOf, gather-block, gather-source, gather-target, scatter-block, scatter-source, scatter-target, set, sourceOf, targetOf, three}
+use Rattle.model.specs.Models.Apart.{backIn, chunk, gatherIn, lettersIn, propagateIn, repeatsIn, scatterIn, widthWord}
+use Rattle.model.specs.Models.LayOut.{back-source, back-target, blockOf, gather-block, gather-source, gather-target, scatter-block, scatter-source, scatter-target, set, sourceOf, targetOf, three, two}
 use Rattle.model.specs.Models.Run.{Masks, runWords}
 use Rattle.model.specs.Models.Words.{value}
 use Rattle.model.proofs.Ends.Run.{letterSet, loopSet, startSet}
 use Rattle.model.proofs.Ends.Stops.{StopsAt}
-use Rattle.model.proofs.Image.Rows.{room, three-0, three-1, three-2, wide}
-use Rattle.model.proofs.Image.Sections.{part-gather, part-letters, part-propagate, part-repeats, part-scatter}
+use Rattle.model.proofs.Image.Rows.{room, three-0, three-1, three-2, two-0, two-1, wide}
+use Rattle.model.proofs.Image.Sections.{part-back, part-gather, part-letters, part-propagate, part-repeats, part-scatter}
 use Rattle.model.proofs.Image.Sets.{arcImage, treeSet}
 use Rattle.model.proofs.Language.Arcs.{arcs}
-use Rattle.model.proofs.Language.Stretches.{feed}
+use Rattle.model.proofs.Language.Languages.{feed}
 use Rattle.model.proofs.Words.Full.{Full}
 use Rattle.model.proofs.Words.Holds.{Holds, set-holds}
 use Rattle.model.proofs.Words.Run.{Bytes, Carry, end-words}
@@ -44,6 +44,10 @@ propagateSets s k zero = blockOf (treeSet s) k
 propagateSets s k (suc zero) = sourceOf (treeSet s) k
 propagateSets s k (suc (suc j)) = targetOf (treeSet s) k
 
+abbrev pub backSets : Seq → ℕ → ℕ → ℕ → Bool
+backSets s k zero = treeSet s back-source k
+backSets s k (suc j) = treeSet s back-target k
+
 -- ---- the masks of the tree itself, in any number of words that has room
 abbrev pub treeMasks : ℕ → ℕ → Seq → Masks
 treeMasks m W s = record {
@@ -52,12 +56,14 @@ treeMasks m W s = record {
   scatterMask = λ k j. set m W (scatterSets s k j);
   gatherMask = λ k j. set m W (gatherSets s k j);
   propagateMask = λ k j. set m W (propagateSets s k j);
+  backMask = λ k j. set m W (backSets s k j);
   startMask = set m W startSet;
 }
 
-pub tree-carry : (m W : ℕ) (s : Seq) → m ≤ wide W → Carry m W s (treeMasks m W s)
-tree-carry m W s r = record {
+pub tree-carry : (m W : ℕ) (s : Seq) → m ≤ wide W → seqEnd s 0 < m → Carry m W s (treeMasks m W s)
+tree-carry m W s r l = record {
   room = r;
+  whole = l;
   letters = λ b l. set-holds m W (letterSet (arcs s 0 0) b) r;
   loops = λ b l. set-holds m W (loopSet (arcs s 0 0) b) r;
   scatter-block = λ k l. set-holds m W (scatterSets s k 0) r;
@@ -69,6 +75,8 @@ tree-carry m W s r = record {
   propagate-block = λ k l. set-holds m W (propagateSets s k 0) r;
   propagate-source = λ k l. set-holds m W (propagateSets s k 1) r;
   propagate-target = λ k l. set-holds m W (propagateSets s k 2) r;
+  back-source = λ k l. set-holds m W (backSets s k 0) r;
+  back-target = λ k l. set-holds m W (backSets s k 1) r;
   start = set-holds m W startSet r;
 }
 
@@ -82,6 +90,7 @@ imageMasks ws =
       scatterMask = λ k j. chunk W j (chunk (3 * W) k (scatterIn ws));
       gatherMask = λ k j. chunk W j (chunk (3 * W) k (gatherIn ws));
       propagateMask = λ k j. chunk W j (chunk (3 * W) k (propagateIn ws));
+      backMask = λ k j. chunk W j (chunk (2 * W) k (backIn ws));
       startMask = set (getD ws 1 0) W startSet;
     }
 
@@ -106,6 +115,14 @@ module _ (s : Seq) where
     third : Holds m W (chunk W 2 part) (f 2)
     third = at-set (chunk W 2 part) (f 2) (ap (chunk W 2) e ∙ three-2 m W (f 0) (f 1) (f 2))
 
+  -- of the two masks f 0 and f 1 of the back edges of one depth, each
+  module _ (f : ℕ → ℕ → Bool) (part : List ℕ) (e : part ≡ two m W (f 0) (f 1)) where
+    one : Holds m W (chunk W 0 part) (f 0)
+    one = at-set (chunk W 0 part) (f 0) (ap (chunk W 0) e ∙ two-0 m W (f 0) (f 1))
+
+    other : Holds m W (chunk W 1 part) (f 1)
+    other = at-set (chunk W 1 part) (f 1) (ap (chunk W 1) e ∙ two-1 m W (f 0) (f 1))
+
   abbrev L : ℕ → ℕ → Bool
   L = letterSet (arcs s 0 0)
 
@@ -121,10 +138,14 @@ module _ (s : Seq) where
   propagate-part : (k : ℕ) → k ≤ depth s → chunk (3 * W) k (propagateIn (arcImage s)) ≡ three m W (propagateSets s k 0) (propagateSets s k 1) (propagateSets s k 2)
   propagate-part k l = part-propagate m W (depth s) L R (treeSet s) k (omega arith)
 
+  back-part : (k : ℕ) → k < depth s → chunk (2 * W) k (backIn (arcImage s)) ≡ two m W (backSets s k 0) (backSets s k 1)
+  back-part k l = part-back m W (depth s) L R (treeSet s) k l
+
   -- THE IMAGE'S OWN WORDS HOLD THE TREE'S SETS
   pub image-carry : Carry m W s (imageMasks (arcImage s))
   image-carry = record {
     room = room m;
+    whole = le-refl m;
     letters = λ b l. at-set (chunk W b (lettersIn (arcImage s))) (L b) (part-letters m W (depth s) L R (treeSet s) b l);
     loops = λ b l. at-set (chunk W b (repeatsIn (arcImage s))) (R b) (part-repeats m W (depth s) L R (treeSet s) b l);
     scatter-block = λ k l. first (scatterSets s k) (chunk (3 * W) k (scatterIn (arcImage s))) (scatter-part k l);
@@ -136,10 +157,12 @@ module _ (s : Seq) where
     propagate-block = λ k l. first (propagateSets s k) (chunk (3 * W) k (propagateIn (arcImage s))) (propagate-part k l);
     propagate-source = λ k l. second (propagateSets s k) (chunk (3 * W) k (propagateIn (arcImage s))) (propagate-part k l);
     propagate-target = λ k l. third (propagateSets s k) (chunk (3 * W) k (propagateIn (arcImage s))) (propagate-part k l);
+    back-source = λ k l. one (backSets s k) (chunk (2 * W) k (backIn (arcImage s))) (back-part k l);
+    back-target = λ k l. other (backSets s k) (chunk (2 * W) k (backIn (arcImage s))) (back-part k l);
     start = set-holds m W startSet (room m);
   }
 
   -- THE RUN ON THE IMAGE'S WORDS gives the ends of the text
   pub image-ends : (F : Full s) (text : List ℕ) (p : ℕ) → Bytes (feed [] (take p text))
       → T (bit (value (runWords (imageMasks (arcImage s)) (depth s) (feed [] (take p text)))) (seqEnd s 0)) ↔ StopsAt s text p
-  image-ends F text p h = end-words m W s F (imageMasks (arcImage s)) image-carry (le-refl m) text p h
+  image-ends F text p h = end-words m W s F (imageMasks (arcImage s)) image-carry text p h

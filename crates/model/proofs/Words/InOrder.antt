@@ -9,9 +9,9 @@ use native.Mathlib.Nat.{le-refl}
 use native.Mathlib.Omega.{arith}
 use lib.Dec.{T, eqb, eqb→eq, eqb-refl}
 use Rattle.model.specs.Lists.{All, any}
-use Rattle.model.specs.Tree.{Alts, canLoop, canSkip, end, last, letter, more, Seq, union}
+use Rattle.model.specs.Tree.{Alts, canLoop, canReturn, canSkip, end, last, letter, more, Seq, union}
 use Rattle.model.specs.Edges.{altsEnd, seqEnd, unionEmpty, Way, ways}
-use Rattle.model.proofs.Language.Arcs.{altsArcs, Arc, arc, ArcKind, arcs, branch-whole, forkArc, letter-whole, letterArc, loopArc, propagateArc, when}
+use Rattle.model.proofs.Language.Arcs.{altsArcs, Arc, arc, ArcKind, arcs, backArc, branch-whole, forkArc, letter-whole, letterArc, loopArc, propagateArc, when}
 use Rattle.model.proofs.Laws.Bool.{is-true, unequal}
 use Rattle.model.proofs.Laws.Lists.{all-app, all-map, In, in-split, later, sooner}
 use Rattle.model.proofs.Words.Full.{Full, FullA}
@@ -21,13 +21,13 @@ abbrev deeper : ℕ → Arc → Type 0
 deeper k e = k ≤ e .level
 
 mutual
-  depths : (s : Seq) (t k : ℕ) → All (deeper k) (arcs s t k)
+  pub depths : (s : Seq) (t k : ℕ) → All (deeper k) (arcs s t k)
   depths end t k = tt
   depths (letter c r s) t k =
       letter-whole (deeper k) c r s t k (record { takes = le-refl k; loops = λ x. le-refl k; skips = λ x. le-refl k; rest = depths s (suc t) k })
   depths (union m a s) t k =
       let alts = all-map (deeper (suc k)) (deeper k) (λ e h. omega arith) (altsArcs a t k) (altsDepths a t k) in
-      branch-whole (deeper k) m a s t k (record { skips = λ x. le-refl k; forks = le-refl k; alts = alts; rest = depths s (suc (altsEnd a t)) k })
+      branch-whole (deeper k) m a s t k (record { skips = λ x. le-refl k; forks = le-refl k; returns = λ x. le-refl k; alts = alts; rest = depths s (suc (altsEnd a t)) k })
 
   altsDepths : (a : Alts) (p k : ℕ) → All (deeper (suc k)) (altsArcs a p k)
   altsDepths (last s) p k = depths s (suc p) (suc k)
@@ -83,6 +83,7 @@ module _ (X : Type 0) (pickP : ℕ → ℕ → List X) (pickF : List Way → ℕ
   pick (loopArc c) i j = []
   pick propagateArc i j = pickP i j
   pick (forkArc xs) i j = pickF xs i j
+  pick backArc i j = []
 
   abbrev pub itemsOf : ℕ → List Arc → List X
   itemsOf k [] = []
@@ -184,11 +185,18 @@ module _ (X : Type 0) (pickP : ℕ → ℕ → List X) (pickF : List Way → ℕ
           rest : List X
           rest = itemsOf k (arcs s u j)
 
+          back : List Arc → List Arc
+          back = when (canReturn m) (arc backArc j (altsEnd a t) (suc t))
+
           whole : List X
-          whole = itemsOf k (altsArcs a t j ++ arcs s u j)
+          whole = itemsOf k (back (altsArcs a t j ++ arcs s u j))
+
+          no-back : (b : Bool) (e : Arc) (l : List Arc) → pick (e .kind) (e .from) (e .to) ≡ [] → itemsOf k (when b e l) ≡ itemsOf k l
+          no-back true e l q = ap (λ (x : List X). keep (eqb (e .level) k) x ++ itemsOf k l) q ∙ keep-nil (eqb (e .level) k) (itemsOf k l)
+          no-back false e l q = refl
 
           parts : whole ≡ inner ++ rest
-          parts = items-app k (altsArcs a t j) (arcs s u j)
+          parts = no-back (canReturn m) (arc backArc j (altsEnd a t) (suc t)) (altsArcs a t j ++ arcs s u j) refl ∙ items-app k (altsArcs a t j) (arcs s u j)
 
           -- at the union's own depth its alternatives give nothing
           bare : eqb j k ≡ true → whole ≡ rest
@@ -203,7 +211,7 @@ module _ (X : Type 0) (pickP : ℕ → ℕ → List X) (pickF : List Way → ℕ
           deep A B = subst (In-order t z) (sym parts) (rows-app lo hi Ok t (altsEnd a t) z inner rest A (rows-from lo hi Ok u (altsEnd a t) z rest (omega arith) B))
 
           go : (n b : Bool) → eqb j k ≡ b → In-order t (altsEnd a t) inner → In-order u z rest
-              → In-order t z (itemsOf k (when n (arc propagateArc j t u) (arc (forkArc (ways a t)) j t u ∷ (altsArcs a t j ++ arcs s u j))))
+              → In-order t z (itemsOf k (when n (arc propagateArc j t u) (arc (forkArc (ways a t)) j t u ∷ back (altsArcs a t j ++ arcs s u j))))
           go true true e A B =
               subst (λ (b : Bool). In-order t z (keep b skips ++ (keep b forks ++ whole))) (sym e)
               (subst (λ (l : List X). In-order t z (skips ++ (forks ++ l))) (sym (bare e)) (subst (In-order t z) (append-assoc skips forks rest) (own true B)))

@@ -1,10 +1,16 @@
--- EACH PASS ON WORDS IS THE PASS ON SETS: where rows of words hold sets of states, so do scatter, gather, propagate and the move of them.
-use mathlib.Core.Bool.{Bool, not, _&&_, _||_}
+-- EACH PASS ON WORDS IS THE PASS ON SETS: where rows of words hold sets of states, so do scatter, gather,
+-- propagate, the returns and the move of them.
+use mathlib.Core.Path.{_≡_, refl, sym, ap, ap₂, _∙_, subst}
+use mathlib.Core.Bool.{Bool, true, false, not, _&&_, _||_}
 use mathlib.Core.List.{List}
-use Prim.Native.Nat.{ℕ, _≤_}
-use Rattle.model.specs.Models.Run.{gatherWords, moveWords, propagateWords, scatterWords}
-use Rattle.model.specs.Models.Words.{andWords}
+use Prim.Native.Nat.{ℕ, _≤_, _<_}
+use native.Mathlib.Omega.{arith}
+use lib.Dec.{T}
+use Rattle.model.specs.Bits.{bit}
+use Rattle.model.specs.Models.Run.{gatherWords, moveWords, propagateWords, returnWords, scatterWords}
+use Rattle.model.specs.Models.Words.{andWords, value}
 use Rattle.model.proofs.Image.Rows.{wide}
+use Rattle.model.proofs.Words.Back.{Clear, return-at, return-fit, return-long, return-off}
 use Rattle.model.proofs.Words.Bits.{odd2}
 use Rattle.model.proofs.Words.Holds.{Holds, Near}
 use Rattle.model.proofs.Words.Operations.{holds-and-l, holds-and-r, holds-or, near-add, near-and, near-not, near-or, near-shift, near-sub, near-xor, next}
@@ -30,6 +36,26 @@ module _ {m W : ℕ} (r : m ≤ wide W) {D : List ℕ} {f : ℕ → Bool} (H : H
     propagate-holds =
         let M = near-or (near-and m W D block f b (H .near) (B .near)) (G .near) in
         holds-or H (holds-and-l B (near-xor (near-not r (near-sub r M (C .near))) M))
+
+  -- the targets whose sources are live, where each target has its first source ahead of it
+  pub return-holds : {source target : List ℕ} {c t g : ℕ → Bool} → Holds m W source c → Holds m W target t
+      → ((x : ℕ) → x < m → T (t x) → (q : ℕ) × (q < m) × (x ≤ q) × T (c q) × Clear c x q × (f q ≡ g x)) → Holds m W (returnWords source target D) (λ x. t x && g x)
+  return-holds {source} {target} {c} {t} {g} C G found = record {
+    near = record {
+      len = return-long source target D (C .near .len ∙ sym (G .near .len)) (C .near .len ∙ sym (H .near .len)) ∙ C .near .len;
+      fit = return-fit source target D;
+      bits = λ x l. go x l (t x) refl;
+    };
+    none = λ x l. return-off source target D (G .near .fit) x (G .none x l);
+  }
+    where
+      go : (x : ℕ) → x < m → (b : Bool) → t x ≡ b → bit (value (returnWords source target D)) x ≡ (t x && g x)
+      go x l true e =
+          let (q, i, h, k, n, d) = found x l (subst T (sym e) tt) in
+          return-at source target D (C .near .len ∙ sym (G .near .len)) (C .near .len ∙ sym (H .near .len)) (C .near .fit) (G .near .fit) (H .near .fit) x q h
+          (subst T (sym (C .near .bits q i)) k) (λ y a b u. n y a b (subst T (C .near .bits y (omega arith)) u))
+          ∙ ap₂ _&&_ (G .near .bits x l) (H .near .bits q i ∙ d)
+      go x l false e = return-off source target D (G .near .fit) x (G .near .bits x l ∙ e) ∙ sym (ap (λ (b : Bool). b && g x) e)
 
   pub move-holds : {letters repeats start : List ℕ} {l p z : ℕ → Bool} → Holds m W letters l → Holds m W repeats p → Holds m W start z
       → Holds m W (moveWords letters repeats start D) (λ x. ((next f x && l x) || (f x && p x)) || z x)

@@ -1,5 +1,5 @@
 -- THE PASSES ON BITS: propagate k and gather k-1 for k from d down to 1, propagate 0, then scatter k-1 and propagate k for k from 1 up to d give exactly
--- what the edges without a letter reach. Each pass is the pass over edges, and those together reach everything.
+-- what the edges without a letter reach but for back edges. Each pass is the pass over edges, and those together reach everything.
 use mathlib.Core.Logic.{inl, inr, _↔_}
 use mathlib.Core.Bool.{Bool}
 use Prim.Native.Nat.{ℕ, zero, suc}
@@ -15,11 +15,11 @@ use Rattle.model.proofs.Words.PropagatePass.{propagated, propagated-is}
 use Rattle.model.proofs.Words.ScatterPass.{scattered, scattered-is}
 
 -- ---- a larger set reaches more
-reached-map : {E : ℕ → ℕ → Type 0} {D D′ : Set} → D ⊆ D′ → {q : ℕ} → Reached E D q → Reached E D′ q
+pub reached-map : {E : ℕ → ℕ → Type 0} {D D′ : Set} → D ⊆ D′ → {q : ℕ} → Reached E D q → Reached E D′ q
 reached-map f (itself h) = itself (f _ h)
 reached-map f (onward c e) = onward (reached-map f c) e
 
-add-map : (E : ℕ → ℕ → Type 0) {D D′ : Set} → D ⊆ D′ → Add E D ⊆ Add E D′
+pub add-map : (E : ℕ → ℕ → Type 0) {D D′ : Set} → D ⊆ D′ → Add E D ⊆ Add E D′
 add-map E f q (inl h) = inl (f q h)
 add-map E f q (inr h) = inr (h .0, f (h .0) (h .1), h .2)
 
@@ -68,9 +68,9 @@ module _ (s : Seq) (F : Full s) where
         λ h. fallen-is n (suc k) P q .1 (down-map n (suc k) (λ x u. propagated-is s F (suc k) S x .1 (reached-map (λ y v. scattered-is s F k D y .1 v) u)) q h),
       )
 
-  -- THE THEOREM: from any set of states the passes on bits compute what the edges without a letter reach
-  pub bits-are : (D : ℕ → Bool) (q : ℕ) → T (passed (depth s) D q) ↔ Reached (AnyEdge (Propagates s) (Gathers s) (Scatters s)) (λ x. T (D x)) q
-  bits-are D q =
+  -- THE THEOREM: from any set of states the passes on bits compute what propagate, gather and scatter edges reach
+  pub passed-is : (D : ℕ → Bool) (q : ℕ) → T (passed (depth s) D q) ↔ Reached (AnyEdge (Propagates s) (Gathers s) (Scatters s)) (λ x. T (D x)) q
+  passed-is D q =
       let d = depth s in (
         λ h. tree-passes s (λ x. T (D x)) q .0 (down-map d 0 (λ x u. risen-is d D x .0 u) q (fallen-is d 0 (risen d D) q .0 h)),
         λ h. fallen-is d 0 (risen d D) q .1 (down-map d 0 (λ x u. risen-is d D x .1 u) q (tree-passes s (λ x. T (D x)) q .1 h)),

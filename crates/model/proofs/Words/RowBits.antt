@@ -29,17 +29,26 @@ high-bit (suc k) i v r h =
     ap (bit (v * 2 ^ suc k + r)) d ∙ ap (λ (n : ℕ). bit n (k + i)) (block-half v k r)
     ∙ high-bit k i v (r / 2) (omega (arith, pow-suc 2 k))
 
+-- ---- a row's low word, and the words above it
+pub row-low : (w : ℕ) (ws : List ℕ) (i : ℕ) → i < 64 → bit (value (w ∷ ws)) i ≡ bit w i
+row-low w ws i h =
+    let e : w + 2 ^ 64 * value ws ≡ value ws * 2 ^ 64 + w = omega arith in
+    ap (λ (n : ℕ). bit n i) e ∙ low-bit 64 i (value ws) w h
+
+pub row-high : (w : ℕ) (ws : List ℕ) (i : ℕ) → w < 2 ^ 64 → bit (value (w ∷ ws)) (64 + i) ≡ bit (value ws) i
+row-high w ws i f =
+    let e : w + 2 ^ 64 * value ws ≡ value ws * 2 ^ 64 + w = omega arith in
+    ap (λ (n : ℕ). bit n (64 + i)) e ∙ high-bit 64 i (value ws) w f
+
 -- ---- BIT i OF A ROW is bit i mod 64 of word i / 64; past the row there is none
 word-bit : (ws : List ℕ) (q r : ℕ) → Fit ws → r < 64 → bit (value ws) (64 * q + r) ≡ bit (getD ws q 0) r
 word-bit [] q r f h = bit-zero (64 * q + r) ∙ sym (bit-zero r)
 word-bit (w ∷ ws) zero r f h =
-    let e : w + 2 ^ 64 * value ws ≡ value ws * 2 ^ 64 + w = omega arith in
     let d : 64 * 0 + r ≡ r = omega arith in
-    ap₂ bit e d ∙ low-bit 64 r (value ws) w h
+    ap (bit (value (w ∷ ws))) d ∙ row-low w ws r h
 word-bit (w ∷ ws) (suc q) r f h =
-    let e : w + 2 ^ 64 * value ws ≡ value ws * 2 ^ 64 + w = omega arith in
     let d : 64 * suc q + r ≡ 64 + (64 * q + r) = omega arith in
-    ap₂ bit e d ∙ high-bit 64 (64 * q + r) (value ws) w (f .0) ∙ word-bit ws q r (f .1) h
+    ap (bit (value (w ∷ ws))) d ∙ row-high w ws (64 * q + r) (f .0) ∙ word-bit ws q r (f .1) h
 
 pub row-bit : (ws : List ℕ) (i : ℕ) → Fit ws → bit (value ws) i ≡ bit (getD ws (i / 64) 0) (i % 64)
 row-bit ws i f =

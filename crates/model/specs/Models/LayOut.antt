@@ -6,7 +6,7 @@ use Prim.Native.Nat.{ℕ, zero, suc, max}
 use lib.Dec.{leb, ltb, eqb}
 use lib.ListN.{length, getD}
 use Rattle.model.specs.Bits.{bit, mask}
-use Rattle.model.specs.Tree.{canLoop, canOmit, canSkip, Mark, optional, Repeat, unmarked}
+use Rattle.model.specs.Tree.{canLoop, canOmit, canReturn, canSkip, Mark, optional, Repeat, starred, unmarked}
 use Rattle.model.specs.Image.{join, section, width, words}
 use Rattle.model.specs.Models.Tokens.{aBar, aClose, aLetter, anOpen, classOf, kept, loopClassOf, Token}
 
@@ -64,9 +64,10 @@ step aBar q = afterBar (q .position) (q .canBeEmpty) (q .stack)
 step (aClose m) q = afterClose m (q .position) (q .canBeEmpty) (q .stack)
 
 -- ---- the places that a token marks: of the mask `w` of depth k, the state x
--- the kinds of masks: letter and loop places (depth 0 alone), those of scatter and gather, and the states where propagate edges start and end
+-- the kinds of masks: letter and loop places (depth 0 alone), those of scatter and gather, the states where propagate edges start and end,
+-- and those where back edges do
 pub data Which : Type 0 where
-  letter-place loop-place scatter-block scatter-source scatter-target gather-block gather-source gather-target leaving entering : Which
+  letter-place loop-place scatter-block scatter-source scatter-target gather-block gather-source gather-target leaving entering back-source back-target : Which
 
 -- a propagate edge of depth d from i to j
 abbrev pub bridgeMarks : ℕ → ℕ → ℕ → Which → ℕ → ℕ → Bool
@@ -80,6 +81,23 @@ bridgeMarks i j d gather-source k x = false
 bridgeMarks i j d gather-target k x = false
 bridgeMarks i j d leaving k x = eqb x i && eqb d k
 bridgeMarks i j d entering k x = eqb x j && eqb d k
+bridgeMarks i j d back-source k x = false
+bridgeMarks i j d back-target k x = false
+
+-- a back edge of depth d from i to j
+abbrev pub returnMarks : ℕ → ℕ → ℕ → Which → ℕ → ℕ → Bool
+returnMarks i j d letter-place k x = false
+returnMarks i j d loop-place k x = false
+returnMarks i j d scatter-block k x = false
+returnMarks i j d scatter-source k x = false
+returnMarks i j d scatter-target k x = false
+returnMarks i j d gather-block k x = false
+returnMarks i j d gather-source k x = false
+returnMarks i j d gather-target k x = false
+returnMarks i j d leaving k x = false
+returnMarks i j d entering k x = false
+returnMarks i j d back-source k x = eqb x i && eqb d k
+returnMarks i j d back-target k x = eqb x j && eqb d k
 
 -- a letter from state t at depth d
 abbrev pub letterMarks : Repeat → ℕ → ℕ → Which → ℕ → ℕ → Bool
@@ -93,6 +111,8 @@ letterMarks r t d gather-source k x = false
 letterMarks r t d gather-target k x = false
 letterMarks r t d leaving k x = canSkip r && bridgeMarks t (suc t) d leaving k x
 letterMarks r t d entering k x = canSkip r && bridgeMarks t (suc t) d entering k x
+letterMarks r t d back-source k x = false
+letterMarks r t d back-target k x = false
 
 -- the open of a union that starts in t at depth d
 abbrev pub openMarks : ℕ → ℕ → Which → ℕ → ℕ → Bool
@@ -106,6 +126,8 @@ openMarks t d gather-source k x = false
 openMarks t d gather-target k x = false
 openMarks t d leaving k x = false
 openMarks t d entering k x = false
+openMarks t d back-source k x = false
+openMarks t d back-target k x = false
 
 -- a bar after the alternative that ends in z, of a union at depth d
 abbrev pub barMarks : ℕ → ℕ → Which → ℕ → ℕ → Bool
@@ -119,6 +141,8 @@ barMarks z d gather-source k x = eqb x z && eqb d k
 barMarks z d gather-target k x = false
 barMarks z d leaving k x = false
 barMarks z d entering k x = false
+barMarks z d back-source k x = false
+barMarks z d back-target k x = false
 
 -- a close after the alternative from a to z, of a union at depth d whose first alternative ends in f
 abbrev pub closeMarks : ℕ → ℕ → ℕ → ℕ → Which → ℕ → ℕ → Bool
@@ -132,8 +156,10 @@ closeMarks z d f a gather-source k x = eqb x z && eqb d k
 closeMarks z d f a gather-target k x = eqb x (suc z) && eqb d k
 closeMarks z d f a leaving k x = false
 closeMarks z d f a entering k x = false
+closeMarks z d f a back-source k x = false
+closeMarks z d f a back-target k x = false
 
--- by the open unions; a close also bridges its union if it shows so
+-- by the open unions; a close also bridges its union, and leads back, if it shows so
 abbrev pub barMarksIn : ℕ → List Frame → Which → ℕ → ℕ → Bool
 barMarksIn z [] w k x = false
 barMarksIn z (f ∷ st) w k x = barMarks z (length st) w k x
@@ -142,7 +168,7 @@ abbrev pub closeMarksIn : Mark → ℕ → List Frame → Which → ℕ → ℕ 
 closeMarksIn m z [] w k x = false
 closeMarksIn m z (f ∷ st) w k x =
     closeMarks z (length st) (cond (f .barred) (f .firstEnd) z) (f .alternative) w k x
-    || (canOmit m && bridgeMarks (f .start) (suc z) (length st) w k x)
+    || ((canOmit m && bridgeMarks (f .start) (suc z) (length st) w k x) || (canReturn m && returnMarks z (suc (f .start)) (length st) w k x))
 
 abbrev pub mark : Token → Scan → Which → ℕ → ℕ → Bool
 mark (aLetter c r) q w k x = letterMarks r (q .position) (length (q .stack)) w k x
@@ -165,10 +191,11 @@ inside [] = false
 inside (f ∷ st) = true
 
 -- a close may show m after several alternatives or one, of which some can be empty or none: a union that can be empty has an edge over it,
--- and a union of one alternative has one that only `?` explains
+-- a union of one alternative has one that only `?` explains, and a group with `*` has one body
 abbrev pub fitting : Mark → (several empty : Bool) → Bool
 fitting unmarked several empty = several && not empty
 fitting optional several empty = several || not empty
+fitting starred several empty = not several
 
 abbrev pub fittingIn : Mark → Bool → List Frame → Bool
 fittingIn m c [] = false
@@ -218,6 +245,10 @@ set m W f = words W (mask m f)
 abbrev pub three : ℕ → ℕ → (ℕ → Bool) → (ℕ → Bool) → (ℕ → Bool) → List ℕ
 three m W f g h = set m W f ++ (set m W g ++ set m W h)
 
+-- the two masks of the back edges of one depth
+abbrev pub two : ℕ → ℕ → (ℕ → Bool) → (ℕ → Bool) → List ℕ
+two m W f g = set m W f ++ set m W g
+
 -- propagate's masks by the states where its edges start and end
 abbrev pub blockOf : (Which → ℕ → ℕ → Bool) → ℕ → ℕ → Bool
 blockOf B k x = B leaving k x || B entering k x
@@ -228,7 +259,7 @@ sourceOf B k x = B leaving k x && not (B entering k x)
 abbrev pub targetOf : (Which → ℕ → ℕ → Bool) → ℕ → ℕ → Bool
 targetOf B k x = B entering k x && not (B leaving k x)
 
--- the six sections by the shape m, W, d, the letters' sets L, the loops' R, and the others B
+-- the seven sections by the shape m, W, d, the letters' sets L, the loops' R, and the others B
 abbrev pub assemble : ℕ → ℕ → ℕ → (ℕ → ℕ → Bool) → (ℕ → ℕ → Bool) → (Which → ℕ → ℕ → Bool) → List ℕ
 assemble m W d L R B =
     section (m ∷ W ∷ d ∷ [])
@@ -236,7 +267,8 @@ assemble m W d L R B =
     ++ (section (join 256 0 (λ b. set m W (R b)))
     ++ (section (join d 0 (λ k. three m W (B scatter-block k) (B scatter-source k) (B scatter-target k)))
     ++ (section (join d 0 (λ k. three m W (B gather-block k) (B gather-source k) (B gather-target k)))
-    ++ section (join (suc d) 0 (λ k. three m W (blockOf B k) (sourceOf B k) (targetOf B k)))))))
+    ++ (section (join (suc d) 0 (λ k. three m W (blockOf B k) (sourceOf B k) (targetOf B k)))
+    ++ section (join d 0 (λ k. two m W (B back-source k) (B back-target k))))))))
 
 -- the letters' and the loops' sets of a row of tokens: token i leads to state i + 1
 abbrev pub tokenLetters : List Token → ℕ → ℕ → Bool

@@ -10,7 +10,7 @@ use lib.Bits.{bitOr}
 use lib.ListN.{length}
 use Rattle.model.specs.Lists.{within}
 use Rattle.model.specs.Bytes.{byte, bytes, digital, hexadecimal, plain, signs}
-use Rattle.model.specs.Tree.{Alts, glue, last, Mark, more, once, option, optional, plus, Seq, star, unmarked}
+use Rattle.model.specs.Tree.{Alts, glue, last, more, once, option, plus, Repeat, Seq, star}
 use Rattle.model.specs.Grammar.{bare, bracket, every, grouped, plainly, repeated, Sign, span, times}
 
 -- what was read and the bytes after it, or the bytes from the one on that cannot be read
@@ -130,9 +130,11 @@ readSign (x ∷ xs) =
     (cond (eqb x (byte "+")) (got (plainly plus) xs)
     (cond (eqb x (byte "{")) (readBraces xs) (got (plainly once) (x ∷ xs)))))
 
--- the `?` of a group, if it has one
-abbrev pub readMark : List ℕ → Read Mark
-readMark r = case (past (byte "?") r) (λ x r′. got optional r′) (got unmarked r)
+-- the `?`, `*` or `+` of a group, if it has one
+abbrev pub readMark : List ℕ → Read Repeat
+readMark [] = got once []
+readMark (x ∷ xs) =
+    cond (eqb x (byte "?")) (got option xs) (cond (eqb x (byte "*")) (got star xs) (cond (eqb x (byte "+")) (got plus xs) (got once (x ∷ xs))))
 
 -- a letter with its repeat sign
 abbrev pub readPiece : List ℕ → Read Seq

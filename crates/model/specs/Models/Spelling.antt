@@ -3,7 +3,7 @@ use mathlib.Core.Bool.{Bool, false, _&&_, _||_, cond}
 use mathlib.Core.List.{List, [], _∷_}
 use mathlib.Core.Option.{Option, none, some}
 use Prim.Native.Nat.{ℕ, zero, suc, _-_}
-use lib.Dec.{eqb, leb}
+use lib.Dec.{eqb, leb, ltb}
 use lib.ListN.{length}
 use Rattle.model.specs.Lists.{any}
 use Rattle.model.specs.Edges.{accepting, byLetter, byLoop, EdgeKind, edges}
@@ -15,13 +15,17 @@ use Rattle.model.specs.Tree.{Tree}
 abbrev pub along : Tree → (EdgeKind → Bool) → (ℕ → ℕ → Bool) → Bool
 along t kind passes = any (λ e. kind (e .kind) && passes (e .from) (e .to)) (edges t)
 
--- q reaches x without a letter; such edges rise, so x steps are enough
-abbrev pub reachesIn : ℕ → Tree → (q x : ℕ) → Bool
-reachesIn zero t q x = eqb x q
-reachesIn (suc n) t q x = eqb x q || along t letterless (λ p r. eqb r x && reachesIn n t q p)
+-- q reaches x without a letter by edges that rise; x of them are enough
+abbrev pub risesIn : ℕ → Tree → (q x : ℕ) → Bool
+risesIn zero t q x = eqb x q
+risesIn (suc n) t q x = eqb x q || along t letterless (λ p r. (eqb r x && ltb p r) && risesIn n t q p)
 
+abbrev pub rises : Tree → (q x : ℕ) → Bool
+rises t q x = risesIn x t q x
+
+-- q reaches x without a letter; of the edges that lead back one is enough
 abbrev pub reaches : Tree → (q x : ℕ) → Bool
-reaches t q x = reachesIn x t q x
+reaches t q x = rises t q x || along t letterless (λ p r. leb r p && (rises t q p && rises t r x))
 
 -- an edge or loop taking the byte leaves a state that q reaches, and enters one that passes the test
 abbrev pub steps : Tree → (b q : ℕ) → (ℕ → Bool) → Bool

@@ -3,11 +3,12 @@ use mathlib.Core.Bool.{Bool, true, false, cond}
 use mathlib.Core.List.{List, [], _∷_}
 use mathlib.Core.Option.{Option, none, some}
 use Prim.Native.Nat.{ℕ}
-use Rattle.model.specs.Tree.{Alts, canLoop, end, last, letter, Mark, more, optional, Repeat, Seq, union, unmarked}
+use Rattle.model.specs.Tree.{Alts, canLoop, end, last, letter, Mark, more, optional, Repeat, Seq, starred, union, unmarked}
 use Rattle.model.specs.Edges.{altsEmpty}
 
 -- a letter leads from a state to the next, an open from a union's start to its first alternative's start, a bar from an alternative's end to
--- the next one's start, a close from the last alternative's end to the union's end; the mark of a close says whether an edge goes over the union
+-- the next one's start, a close from the last alternative's end to the union's end; the mark of a close says whether an edge goes over the
+-- union, and whether one goes back
 pub data Token : Type 0 where
   aLetter : ℕ → Repeat → Token
   anOpen aBar : Token
@@ -31,11 +32,13 @@ abbrev pub shown : Mark → Bool → Mark
 shown unmarked false = unmarked
 shown unmarked true = optional
 shown optional e = optional
+shown starred e = starred
 
 abbrev pub kept : Mark → Bool → Mark
 kept unmarked e = unmarked
 kept optional false = optional
 kept optional true = unmarked
+kept starred e = starred
 
 -- the tokens of a sequence, then those of `rest`; the tokens of a union after its open, whose close shows m, then those of `rest`
 abbrev mutual

@@ -148,7 +148,7 @@ module _ (q : Known) (y : Token) (R : Ready q y) where
       (subst (λ (z : Token). T (check (tokenOf z) (scanOf q))) e (R .fits)) .0)
 
   -- the places of the innermost union lie behind
-  pub ready-top : (m : token.Mark) → y ≡ Close m → (topFrame (q .frames) (q .depth) .alternative < 511) × (topFrame (q .frames) (q .depth) .start < 512)
+  pub ready-top : (m : token.Mark) → y ≡ Close m → (topFrame (q .frames) (q .depth) .alternative < 511) × (topFrame (q .frames) (q .depth) .start < 511)
   ready-top m e =
       let b = subst (Behind (q .position)) (top-is (q .frames) (q .depth) (ready-close m e)) (R .sane .behind) in
       (omega (arith, b .2, R .below), omega (arith, b .0, R .below))

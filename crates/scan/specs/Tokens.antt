@@ -2,10 +2,10 @@
 use Prim.Native.Nat.{ℕ, zero, suc}
 use Rattle.model.specs.Models.Tokens.{aBar, aClose, aLetter, anOpen}
 use Rattle.model.specs.Models.Tokens as model
-use Rattle.model.specs.Tree.{once, option, optional, plus, star, unmarked}
+use Rattle.model.specs.Tree.{once, option, optional, plus, star, starred, unmarked}
 use Rattle.model.specs.Tree as tree
 use Rattle.scan.specs.declared.token.Mark.{Mark}
-use Rattle.scan.specs.declared.token.Mark.the-variants.{Optional, Unmarked}
+use Rattle.scan.specs.declared.token.Mark.the-variants.{Optional, Starred, Unmarked}
 use Rattle.scan.specs.declared.token.Repeat.{Repeat}
 use Rattle.scan.specs.declared.token.Repeat.the-variants.{Once, Option, Plus, Star}
 use Rattle.scan.specs.declared.token.Token.{Token}
@@ -20,6 +20,7 @@ repeatOf Plus = plus
 abbrev pub markOf : Mark → tree.Mark
 markOf Unmarked = unmarked
 markOf Optional = optional
+markOf Starred = starred
 
 -- a tape has no classes: its letters have the class 0
 abbrev pub tokenOf : Token → model.Token
@@ -28,7 +29,8 @@ tokenOf Open = anOpen
 tokenOf Bar = aBar
 tokenOf (Close m) = aClose (markOf m)
 
--- 0 to 3 a letter, taken once, `?`, `*` or `+`; 4 an open, 5 a bar, 6 a close; all else is a close with an edge over its union, which is written 7
+-- 0 to 3 a letter, taken once, `?`, `*` or `+`; 4 an open, 5 a bar, 6 a close, 7 one with an edge over its union; all else is a close of a group with `*`,
+-- which is written 8
 abbrev pub readKind : ℕ → Token
 readKind zero = Letter Once
 readKind (suc zero) = Letter Option
@@ -37,4 +39,5 @@ readKind (suc (suc (suc zero))) = Letter Plus
 readKind (suc (suc (suc (suc zero)))) = Open
 readKind (suc (suc (suc (suc (suc zero))))) = Bar
 readKind (suc (suc (suc (suc (suc (suc zero)))))) = Close Unmarked
-readKind (suc (suc (suc (suc (suc (suc (suc k))))))) = Close Optional
+readKind (suc (suc (suc (suc (suc (suc (suc zero))))))) = Close Optional
+readKind (suc (suc (suc (suc (suc (suc (suc (suc k)))))))) = Close Starred

@@ -76,13 +76,14 @@ pub fn innermost(depth: usize) -> usize
 }
 
 // Whether a close may show its mark after several alternatives or one, of which some can be empty or none: a union that can be empty has an edge
-// over it, and a union of one alternative has one that only `?` explains.
+// over it, a union of one alternative has one that only `?` explains, and a group with `*` has one body.
 fn may_show(mark: Mark, several: bool, empty: bool) -> bool
     ensures { λ r. ⌜ r ≡ fitting (markOf mark) several empty ⌝ }
 {
     match mark {
         Mark::Unmarked => several & !empty,
         Mark::Optional => several | !empty,
+        Mark::Starred => !several,
     }
 }
 

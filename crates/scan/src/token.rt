@@ -1,6 +1,6 @@
 // Tokens, and the numbers that stand for them on a tape.
 ghost use mathlib.Core.Path.{_≡_};
-ghost use Rattle.model.specs.Tree.{canLoop, canOmit, canSkip};
+ghost use Rattle.model.specs.Tree.{canLoop, canOmit, canReturn, canSkip};
 ghost use Rattle.scan.specs.Tokens.{markOf, readKind, repeatOf};
 
 // How often a letter is taken: once, `?`, `*`, `+`.
@@ -11,10 +11,11 @@ pub enum Repeat {
     Plus,
 }
 
-// What a group keeps after its `)`: nothing, or `?`. A close on a tape shows by it whether an edge leads over its union.
+// What a group keeps after its `)`: nothing, `?` or `*`. A close on a tape shows by it whether an edge leads over its union, and whether one leads back.
 pub enum Mark {
     Unmarked,
     Optional,
+    Starred,
 }
 
 // A letter leads from a state to the next, an open from a union's start to its first alternative's start, a bar from an alternative's end to the
@@ -38,7 +39,8 @@ pub fn read_kind(kind: u8) -> Token
         4 => Token::Open,
         5 => Token::Bar,
         6 => Token::Close(Mark::Unmarked),
-        _ => Token::Close(Mark::Optional),
+        7 => Token::Close(Mark::Optional),
+        _ => Token::Close(Mark::Starred),
     }
 }
 
@@ -73,5 +75,17 @@ pub fn can_omit(mark: Mark) -> bool
     match mark {
         Mark::Unmarked => false,
         Mark::Optional => true,
+        Mark::Starred => true,
+    }
+}
+
+// A union that may be gone through again.
+pub fn can_return(mark: Mark) -> bool
+    ensures { λ r. ⌜ r ≡ canReturn (markOf mark) ⌝ }
+{
+    match mark {
+        Mark::Unmarked => false,
+        Mark::Optional => false,
+        Mark::Starred => true,
     }
 }

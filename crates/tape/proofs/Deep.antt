@@ -7,12 +7,12 @@ use Prim.Native.Nat.{ℕ, suc, _≤_, _<_, max}
 use native.Mathlib.Omega.{arith}
 use lib.Dec.{T, eqb, eqb→eq, leb, ltb}
 use lib.ListN.{length}
-use Rattle.model.specs.Tree.{canLoop, canOmit, canSkip, Repeat}
-use Rattle.model.specs.Models.LayOut.{barMarks, barMarksIn, bridgeMarks, closeMarks, closeMarksIn, entering, Frame, gather-block, gather-source, gather-target, layOut, leaving, letter-place, letterMarks, loop-place, openMarks, reach, Scan, scatter-block, scatter-source, scatter-target, step, Which}
+use Rattle.model.specs.Tree.{canLoop, canOmit, canReturn, canSkip, Repeat}
+use Rattle.model.specs.Models.LayOut.{back-source, back-target, barMarks, barMarksIn, bridgeMarks, closeMarks, closeMarksIn, entering, Frame, gather-block, gather-source, gather-target, layOut, leaving, letter-place, letterMarks, loop-place, openMarks, reach, returnMarks, Scan, scatter-block, scatter-source, scatter-target, step, Which}
 use Rattle.model.specs.Models.Tokens.{aBar, aClose, aLetter, anOpen, Token}
 use Rattle.model.proofs.Laws.Bool.{and-split, or-split}
 
--- the masks of unions, which are scatter's and gather's
+-- the masks of unions, which are scatter's, gather's and the back edges'
 abbrev pub ofUnion : Which → Bool
 ofUnion letter-place = false
 ofUnion loop-place = false
@@ -24,6 +24,8 @@ ofUnion gather-source = true
 ofUnion gather-target = true
 ofUnion leaving = false
 ofUnion entering = false
+ofUnion back-source = true
+ofUnion back-target = true
 
 at-depth : (b : Bool) (d k : ℕ) → T (b && eqb d k) → k ≡ d
 at-depth b d k t = sym (eqb→eq d k (and-split b (eqb d k) t .1))
@@ -41,6 +43,22 @@ module _ (k x : ℕ) where
   bridge-depth i j d gather-target t = absurd t
   bridge-depth i j d leaving t = at-depth (eqb x i) d k t
   bridge-depth i j d entering t = at-depth (eqb x j) d k t
+  bridge-depth i j d back-source t = absurd t
+  bridge-depth i j d back-target t = absurd t
+
+  return-depth : (i j d : ℕ) (w : Which) → T (returnMarks i j d w k x) → k ≡ d
+  return-depth i j d letter-place t = absurd t
+  return-depth i j d loop-place t = absurd t
+  return-depth i j d scatter-block t = absurd t
+  return-depth i j d scatter-source t = absurd t
+  return-depth i j d scatter-target t = absurd t
+  return-depth i j d gather-block t = absurd t
+  return-depth i j d gather-source t = absurd t
+  return-depth i j d gather-target t = absurd t
+  return-depth i j d leaving t = absurd t
+  return-depth i j d entering t = absurd t
+  return-depth i j d back-source t = at-depth (eqb x i) d k t
+  return-depth i j d back-target t = at-depth (eqb x j) d k t
 
   letter-depth : (r : Repeat) (t d : ℕ) (w : Which) → T (letterMarks r t d w k x) → (k ≤ d) × (T (ofUnion w) → ⊥)
   letter-depth r t d letter-place m = (omega (arith, at-depth (eqb x (suc t)) 0 k m), λ u. u)
@@ -53,6 +71,8 @@ module _ (k x : ℕ) where
   letter-depth r t d gather-target m = absurd m
   letter-depth r t d leaving m = (omega (arith, at-depth (eqb x t) d k (and-split (canSkip r) (eqb x t && eqb d k) m .1)), λ u. u)
   letter-depth r t d entering m = (omega (arith, at-depth (eqb x (suc t)) d k (and-split (canSkip r) (eqb x (suc t) && eqb d k) m .1)), λ u. u)
+  letter-depth r t d back-source m = absurd m
+  letter-depth r t d back-target m = absurd m
 
   open-depth : (t d : ℕ) (w : Which) → T (openMarks t d w k x) → k ≡ d
   open-depth t d letter-place m = absurd m
@@ -65,6 +85,8 @@ module _ (k x : ℕ) where
   open-depth t d gather-target m = absurd m
   open-depth t d leaving m = absurd m
   open-depth t d entering m = absurd m
+  open-depth t d back-source m = absurd m
+  open-depth t d back-target m = absurd m
 
   bar-depth : (z d : ℕ) (w : Which) → T (barMarks z d w k x) → k ≡ d
   bar-depth z d letter-place m = absurd m
@@ -77,6 +99,8 @@ module _ (k x : ℕ) where
   bar-depth z d gather-target m = absurd m
   bar-depth z d leaving m = absurd m
   bar-depth z d entering m = absurd m
+  bar-depth z d back-source m = absurd m
+  bar-depth z d back-target m = absurd m
 
   close-depth : (z d f a : ℕ) (w : Which) → T (closeMarks z d f a w k x) → k ≡ d
   close-depth z d f a letter-place m = absurd m
@@ -89,6 +113,8 @@ module _ (k x : ℕ) where
   close-depth z d f a gather-target m = at-depth (eqb x (suc z)) d k m
   close-depth z d f a leaving m = absurd m
   close-depth z d f a entering m = absurd m
+  close-depth z d f a back-source m = absurd m
+  close-depth z d f a back-target m = absurd m
 
   -- ---- of all tokens
   -- k is at most n, and less for a mask of unions
@@ -167,13 +193,23 @@ module _ (k x : ℕ) where
           first : ℕ
           first = cond (f .barred) (f .firstEnd) z
 
-          here : T (closeMarks z d first (f .alternative) w k x) ⊎ T (canOmit o && bridgeMarks (f .start) (suc z) d w k x) → k ≡ d
+          over : Bool
+          over = canOmit o && bridgeMarks (f .start) (suc z) d w k x
+
+          back : Bool
+          back = canReturn o && returnMarks z (suc (f .start)) d w k x
+
+          edge : T over ⊎ T back → k ≡ d
+          edge (inl m) = bridge-depth (f .start) (suc z) d w (and-split (canOmit o) (bridgeMarks (f .start) (suc z) d w k x) m .1)
+          edge (inr m) = return-depth z (suc (f .start)) d w (and-split (canReturn o) (returnMarks z (suc (f .start)) d w k x) m .1)
+
+          here : T (closeMarks z d first (f .alternative) w k x) ⊎ T (over || back) → k ≡ d
           here (inl m) = close-depth z d first (f .alternative) w m
-          here (inr m) = bridge-depth (f .start) (suc z) d w (and-split (canOmit o) (bridgeMarks (f .start) (suc z) d w k x) m .1)
+          here (inr m) = edge (or-split over back m)
 
           go : T (closeMarksIn o z (f ∷ st) w k x) ⊎ T (layOut ys after w k x)
               → Below w (reached (aClose o ∷ ys) (record { position = z; noItem = e; canBeEmpty = c; stack = f ∷ st }))
           go (inl m) =
               less w (max (suc d) (reach ys after))
-              (omega (arith, here (or-split (closeMarks z d first (f .alternative) w k x) (canOmit o && bridgeMarks (f .start) (suc z) d w k x) m)))
+              (omega (arith, here (or-split (closeMarks z d first (f .alternative) w k x) (over || back) m)))
           go (inr m) = raise w (max d (reach ys after)) (max (suc d) (reach ys after)) (omega arith) (ih m)

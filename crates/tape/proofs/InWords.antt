@@ -11,7 +11,7 @@ use lib.Bits.{bitOr}
 use lib.Dec.{eqb}
 use lib.ListN.{drop, getD, length, length-drop, length-replicate, length-set, replicate}
 use lib.Seq.{ext-getD, getD-drop, getD-set-other, getD-set-same, getD-take, length-take-le}
-use Rattle.model.specs.Models.LayOut.{entering, gather-block, gather-source, gather-target, leaving, letter-place, loop-place, scatter-block, scatter-source, scatter-target, Which}
+use Rattle.model.specs.Models.LayOut.{back-source, back-target, entering, gather-block, gather-source, gather-target, leaving, letter-place, loop-place, scatter-block, scatter-source, scatter-target, Which}
 use Rattle.model.specs.Models.Words.{putBit}
 use Rattle.tape.specs.Masks.{Blank, heldIn, markRow, Painted, paintThree, placesIn, rowIn, rowsFrom, runRow, Sized, strokeIn, tableIn}
 use Rattle.tape.specs.Strokes.{noStroke, Stroke}
@@ -227,20 +227,21 @@ module _ (ms : List ℕ) (long : length ms ≡ 16) (i : ℕ) (hi : i < 2) (s : S
       ∙ place-else i hi (s .to - s .from) ms (s .from) long (λ y a b. omega (arith, W .1)) v hv d
 
 -- ---- ALL KINDS
-module _ {p s g r p′ s′ g′ r′ : List ℕ} {f : Which → Stroke} (P : Painted p s g r p′ s′ g′ r′ f) (Z : Sized p s g r) (W : (w : Which) → Within (f w))
+module _ {p s g r b p′ s′ g′ r′ b′ : List ℕ} {f : Which → Stroke} (P : Painted p s g r b p′ s′ g′ r′ b′ f) (Z : Sized p s g r b) (W : (w : Which) → Within (f w))
     (letter-flat : f letter-place .row ≡ 0) (loop-flat : f loop-place .row ≡ 0) where
   first-long : length (strokeIn p 0 (f letter-place)) ≡ 16
   first-long = stroke-long p 0 (f letter-place) ∙ Z .places
 
-  pub sized-after : Sized p′ s′ g′ r′
+  pub sized-after : Sized p′ s′ g′ r′ b′
   sized-after = record {
     places = ap length (P .places) ∙ stroke-long (strokeIn p 0 (f letter-place)) 1 (f loop-place) ∙ first-long;
     scatter = ap length (P .scatter) ∙ three-long s (Z .scatter) _ _ _ (W scatter-block) (W scatter-source) (W scatter-target);
     gather = ap length (P .gather) ∙ three-long g (Z .gather) _ _ _ (W gather-block) (W gather-source) (W gather-target);
     propagate = ap length (P .propagate) ∙ three-long r (Z .propagate) noStroke (f leaving) (f entering) none-within (W leaving) (W entering);
+    back = ap length (P .back) ∙ three-long b (Z .back) noStroke (f back-source) (f back-target) none-within (W back-source) (W back-target);
   }
 
-  pub held-after : (w : Which) → heldIn p′ s′ g′ r′ w ≡ paintStroke (heldIn p s g r w) (f w)
+  pub held-after : (w : Which) → heldIn p′ s′ g′ r′ b′ w ≡ paintStroke (heldIn p s g r b w) (f w)
   held-after letter-place =
       ap (λ (z : List ℕ). placesIn z 0) (P .places)
       ∙ place-other (strokeIn p 0 (f letter-place)) first-long 1 (omega arith) (f loop-place) (W loop-place) loop-flat 0 (omega arith) (λ q. omega arith)
@@ -264,25 +265,28 @@ module _ {p s g r p′ s′ g′ r′ : List ℕ} {f : Which → Stroke} (P : Pa
       ap (λ (z : List ℕ). tableIn z 2) (P .gather) ∙ three-2 g (Z .gather) _ _ _ (W gather-block) (W gather-source) (W gather-target)
   held-after leaving = ap (λ (z : List ℕ). tableIn z 1) (P .propagate) ∙ three-1 r (Z .propagate) noStroke (f leaving) (f entering) none-within (W leaving) (W entering)
   held-after entering = ap (λ (z : List ℕ). tableIn z 2) (P .propagate) ∙ three-2 r (Z .propagate) noStroke (f leaving) (f entering) none-within (W leaving) (W entering)
+  held-after back-source = ap (λ (z : List ℕ). tableIn z 1) (P .back) ∙ three-1 b (Z .back) noStroke (f back-source) (f back-target) none-within (W back-source) (W back-target)
+  held-after back-target = ap (λ (z : List ℕ). tableIn z 2) (P .back) ∙ three-2 b (Z .back) noStroke (f back-source) (f back-target) none-within (W back-source) (W back-target)
 
 -- ---- no state
-pub blank-held : {p s g r p′ s′ g′ r′ : List ℕ} → Sized p s g r → p′ ≡ replicate (length p) 0 → s′ ≡ replicate (length s) 0
-    → g′ ≡ replicate (length g) 0 → r′ ≡ replicate (length r) 0 → Blank p′ s′ g′ r′
+pub blank-held : {p s g r b p′ s′ g′ r′ b′ : List ℕ} → Sized p s g r b → p′ ≡ replicate (length p) 0 → s′ ≡ replicate (length s) 0
+    → g′ ≡ replicate (length g) 0 → r′ ≡ replicate (length r) 0 → b′ ≡ replicate (length b) 0 → Blank p′ s′ g′ r′ b′
 unfolding tableIn placesIn
-blank-held Z ep es eg er = record {
+blank-held Z ep es eg er eb = record {
   sized = record {
     places = ap length ep ∙ length-replicate _ 0 ∙ Z .places;
     scatter = ap length es ∙ length-replicate _ 0 ∙ Z .scatter;
     gather = ap length eg ∙ length-replicate _ 0 ∙ Z .gather;
     propagate = ap length er ∙ length-replicate _ 0 ∙ Z .propagate;
+    back = ap length eb ∙ length-replicate _ 0 ∙ Z .back;
   };
-  none = λ w. (λ i. heldIn ((ep ∙ ap none-of (Z .places)) i) ((es ∙ ap none-of (Z .scatter)) i) ((eg ∙ ap none-of (Z .gather)) i) ((er ∙ ap none-of (Z .propagate)) i) w) ∙ all w;
+  none = λ w. (λ i. heldIn ((ep ∙ ap none-of (Z .places)) i) ((es ∙ ap none-of (Z .scatter)) i) ((eg ∙ ap none-of (Z .gather)) i) ((er ∙ ap none-of (Z .propagate)) i) ((eb ∙ ap none-of (Z .back)) i) w) ∙ all w;
 }
   where
     none-of : ℕ → List ℕ
     none-of n = replicate n 0
 
-    all : (w : Which) → heldIn (replicate 16 0) (replicate 216 0) (replicate 216 0) (replicate 216 0) w ≡ blank
+    all : (w : Which) → heldIn (replicate 16 0) (replicate 216 0) (replicate 216 0) (replicate 216 0) (replicate 216 0) w ≡ blank
     all letter-place = refl
     all loop-place = refl
     all scatter-block = refl
@@ -293,3 +297,5 @@ blank-held Z ep es eg er = record {
     all gather-target = refl
     all leaving = refl
     all entering = refl
+    all back-source = refl
+    all back-target = refl

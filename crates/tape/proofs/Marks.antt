@@ -1,5 +1,5 @@
 -- The places that a token's stroke covers are those that lay out marks for it.
-use mathlib.Core.Path.{_≡_, sym, ap, _∙_, subst}
+use mathlib.Core.Path.{_≡_, sym, ap, ap₂, _∙_, subst}
 use mathlib.Core.Bool.{Bool, true, false, cond, _&&_, _||_, and-false, or-false}
 use mathlib.Core.List.{List, [], _∷_}
 use Prim.Native.Nat.{ℕ, suc, _+_}
@@ -7,8 +7,8 @@ use native.Mathlib.Numerals.{add-one}
 use native.Mathlib.Omega.{arith}
 use lib.Dec.{T, eqb, eqb-refl, eqb→eq, le→leb, leb, leb→le, lt→ltb, ltb, ltb→lt}
 use lib.ListN.{length}
-use Rattle.model.specs.Tree.{canLoop, canOmit, canSkip, Repeat}
-use Rattle.model.specs.Models.LayOut.{barMarks, barMarksIn, bridgeMarks, closeMarks, closeMarksIn, entering, Frame, gather-block, gather-source, gather-target, leaving, letter-place, letterMarks, loop-place, mark, openMarks, Scan, scatter-block, scatter-source, scatter-target, Which}
+use Rattle.model.specs.Tree.{canLoop, canOmit, canReturn, canSkip, Mark, Repeat}
+use Rattle.model.specs.Models.LayOut.{back-source, back-target, barMarks, barMarksIn, bridgeMarks, closeMarks, closeMarksIn, entering, Frame, gather-block, gather-source, gather-target, leaving, letter-place, letterMarks, loop-place, mark, openMarks, returnMarks, Scan, scatter-block, scatter-source, scatter-target, Which}
 use Rattle.model.specs.Models.Tokens.{aBar, aClose, aLetter, anOpen, Token}
 use Rattle.model.proofs.Laws.Bool.{and-both, and-split, is-not, same-truth}
 use Rattle.tape.specs.Strokes.{barStroke, barStrokeIn, closeStroke, closeStrokeIn, letterStroke, noStroke, oneState, openStroke, strokeOf}
@@ -52,6 +52,8 @@ module _ (k x : ℕ) where
   letter-covers r t d gather-target = none-covers
   letter-covers r t d leaving = if-covers (canSkip r) d t
   letter-covers r t d entering = next-if-covers (canSkip r) d t
+  letter-covers r t d back-source = none-covers
+  letter-covers r t d back-target = none-covers
 
   open-covers : (t d : ℕ) (w : Which) → covers (openStroke t d w) k x ≡ openMarks t d w k x
   open-covers t d letter-place = none-covers
@@ -64,6 +66,8 @@ module _ (k x : ℕ) where
   open-covers t d gather-target = none-covers
   open-covers t d leaving = none-covers
   open-covers t d entering = none-covers
+  open-covers t d back-source = none-covers
+  open-covers t d back-target = none-covers
 
   bar-covers : (z d : ℕ) (w : Which) → covers (barStroke z d w) k x ≡ barMarks z d w k x
   bar-covers z d letter-place = none-covers
@@ -76,25 +80,36 @@ module _ (k x : ℕ) where
   bar-covers z d gather-target = none-covers
   bar-covers z d leaving = none-covers
   bar-covers z d entering = none-covers
+  bar-covers z d back-source = none-covers
+  bar-covers z d back-target = none-covers
 
-  -- a close that bridges nothing
-  plain : (e v u : Bool) → v ≡ u → v ≡ (u || (e && false))
-  plain e v u h = h ∙ sym (or-false u) ∙ ap (λ (b : Bool). u || b) (sym (and-false e))
+  -- where a close has no edge over its union and none back, that of the one, and that of the other
+  plain : (e c v u : Bool) → v ≡ u → v ≡ (u || ((e && false) || (c && false)))
+  plain e c v u h = h ∙ sym (or-false u) ∙ ap (λ (b : Bool). u || b) (sym (ap₂ _||_ (and-false e) (and-false c)))
 
-  close-covers : (f : Frame) (z d : ℕ) (o : Bool) (w : Which)
-      → covers (closeStroke f z d o w) k x
-      ≡ (closeMarks z d (cond (f .barred) (f .firstEnd) z) (f .alternative) w k x || (o && bridgeMarks (f .start) (suc z) d w k x))
-  close-covers f z d o letter-place = plain o _ false none-covers
-  close-covers f z d o loop-place = plain o _ false none-covers
-  close-covers f z d o scatter-block = plain o _ _ (next-covers d (f .alternative))
-  close-covers f z d o scatter-source = plain o _ false none-covers
-  close-covers f z d o scatter-target = plain o _ false none-covers
-  close-covers f z d o gather-block =
-      plain o _ _ (ap (λ (n : ℕ). (leb (cond (f .barred) (f .firstEnd) z) x && ltb x n) && eqb d k) (add-one z))
-  close-covers f z d o gather-source = plain o _ _ (one-covers d z)
-  close-covers f z d o gather-target = plain o _ _ (next-covers d z)
-  close-covers f z d o leaving = if-covers o d (f .start)
-  close-covers f z d o entering = next-if-covers o d z
+  over : (c v u : Bool) → v ≡ u → v ≡ (u || (c && false))
+  over c v u h = h ∙ sym (or-false u) ∙ ap (λ (b : Bool). u || b) (sym (and-false c))
+
+  back : (e v u : Bool) → v ≡ u → v ≡ ((e && false) || u)
+  back e v u h = h ∙ ap (λ (b : Bool). b || u) (sym (and-false e))
+
+  close-covers : (f : Frame) (z d : ℕ) (m : Mark) (w : Which)
+      → covers (closeStroke f z d m w) k x
+      ≡ (closeMarks z d (cond (f .barred) (f .firstEnd) z) (f .alternative) w k x
+      || ((canOmit m && bridgeMarks (f .start) (suc z) d w k x) || (canReturn m && returnMarks z (suc (f .start)) d w k x)))
+  close-covers f z d m letter-place = plain (canOmit m) (canReturn m) _ false none-covers
+  close-covers f z d m loop-place = plain (canOmit m) (canReturn m) _ false none-covers
+  close-covers f z d m scatter-block = plain (canOmit m) (canReturn m) _ _ (next-covers d (f .alternative))
+  close-covers f z d m scatter-source = plain (canOmit m) (canReturn m) _ false none-covers
+  close-covers f z d m scatter-target = plain (canOmit m) (canReturn m) _ false none-covers
+  close-covers f z d m gather-block =
+      plain (canOmit m) (canReturn m) _ _ (ap (λ (n : ℕ). (leb (cond (f .barred) (f .firstEnd) z) x && ltb x n) && eqb d k) (add-one z))
+  close-covers f z d m gather-source = plain (canOmit m) (canReturn m) _ _ (one-covers d z)
+  close-covers f z d m gather-target = plain (canOmit m) (canReturn m) _ _ (next-covers d z)
+  close-covers f z d m leaving = over (canReturn m) _ _ (if-covers (canOmit m) d (f .start))
+  close-covers f z d m entering = over (canReturn m) _ _ (next-if-covers (canOmit m) d z)
+  close-covers f z d m back-source = back (canOmit m) _ _ (if-covers (canReturn m) d z)
+  close-covers f z d m back-target = back (canOmit m) _ _ (next-if-covers (canReturn m) d (f .start))
 
   -- THE STROKE'S PLACES ARE THE TOKEN'S
   pub stroke-marks : (y : Token) (q : Scan) (w : Which) → covers (strokeOf y q w) k x ≡ mark y q w k x
@@ -109,4 +124,4 @@ module _ (k x : ℕ) where
     where
       go : (st : List Frame) → covers (closeStrokeIn m (q .position) st w) k x ≡ closeMarksIn m (q .position) st w k x
       go [] = none-covers
-      go (f ∷ st) = close-covers f (q .position) (length st) (canOmit m) w
+      go (f ∷ st) = close-covers f (q .position) (length st) m w

@@ -9,9 +9,9 @@ use lib.Dec.{T, le→leb, leb}
 use lib.ListN.{getD, length, replicate}
 use Rattle.model.specs.Bits.{bit, digit, mask}
 use Rattle.model.specs.Edges.{depth, states}
-use Rattle.model.specs.Image.{gatherBlock, gatherSource, gatherTarget, letters, propagateBlock, propagateSource, propagateTarget, repeats, scatterBlock, scatterSource, scatterTarget, words}
+use Rattle.model.specs.Image.{backSource, backTarget, gatherBlock, gatherSource, gatherTarget, letters, propagateBlock, propagateSource, propagateTarget, repeats, scatterBlock, scatterSource, scatterTarget, words}
 use Rattle.model.specs.Models.Apart.{anyBelow}
-use Rattle.model.specs.Models.LayOut.{begin, blockOf, entering, gather-block, gather-source, gather-target, layOut, leaving, letter-place, loop-place, reach, scatter-block, scatter-source, scatter-target, set, sourceOf, targetOf, tokenLetters, valid, Which}
+use Rattle.model.specs.Models.LayOut.{back-source, back-target, begin, blockOf, entering, gather-block, gather-source, gather-target, layOut, leaving, letter-place, loop-place, reach, scatter-block, scatter-source, scatter-target, set, sourceOf, targetOf, tokenLetters, valid, Which}
 use Rattle.model.specs.Models.Tokens.{Token, tokens}
 use Rattle.model.specs.Models.Words.{value}
 use Rattle.model.specs.Tree as tree
@@ -91,7 +91,7 @@ module _ (s : tree.Tree) (t : Tape) (O : TreeOnTape s t) where
   row-as : (w : Which) (k : ℕ) (f : ℕ → Bool) → k < 9 → ((x : ℕ) → x < states s → laid w k x ≡ f x) → getD (tableOf t w) k [] ≡ words 8 (mask (states s) f)
   row-as w k f h e = laid-row w k h ∙ set-same (states s) 8 (laid w k) f e
 
-  -- ---- SCATTER AND GATHER
+  -- ---- SCATTER AND GATHER, AND BACK EDGES
   module _ (k : ℕ) (h : k < depth s) where
     nine : k < 9
     nine = omega (arith, O .shallow)
@@ -113,6 +113,12 @@ module _ (s : tree.Tree) (t : Tape) (O : TreeOnTape s t) where
 
     pub gather-target-row : getD (tableOf t gather-target) k [] ≡ words 8 (mask (states s) (gatherTarget s k))
     gather-target-row = row-as gather-target k (gatherTarget s k) nine (λ x l. is-set gather-target k x)
+
+    pub back-source-row : getD (tableOf t back-source) k [] ≡ words 8 (mask (states s) (backSource s k))
+    back-source-row = row-as back-source k (backSource s k) nine (λ x l. is-set back-source k x)
+
+    pub back-target-row : getD (tableOf t back-target) k [] ≡ words 8 (mask (states s) (backTarget s k))
+    back-target-row = row-as back-target k (backTarget s k) nine (λ x l. is-set back-target k x)
 
   -- ---- PROPAGATE
   module _ (k : ℕ) (h : k < suc (depth s)) where
@@ -207,6 +213,12 @@ gather-source-says t s O = record { row = gather-source-row s t O; past = λ k p
 pub gather-target-says : (t : Tape) → UnionsSay gatherTarget t (tableOf t gather-target)
 gather-target-says t s O = record { row = gather-target-row s t O; past = λ k p h. union-row-past s t O k h gather-target tt p }
 
+pub back-source-says : (t : Tape) → UnionsSay backSource t (tableOf t back-source)
+back-source-says t s O = record { row = back-source-row s t O; past = λ k p h. union-row-past s t O k h back-source tt p }
+
+pub back-target-says : (t : Tape) → UnionsSay backTarget t (tableOf t back-target)
+back-target-says t s O = record { row = back-target-row s t O; past = λ k p h. union-row-past s t O k h back-target tt p }
+
 pub propagate-block-says : (t : Tape) → PropagateSays propagateBlock t (propagateBlockTable t)
 propagate-block-says t s O = record { row = propagate-block-row s t O; past = λ k p h. propagate-block-past s t O k h p }
 
@@ -223,7 +235,7 @@ pub loops-say : (t : Tape) → LoopsSay t (getD (tableOf t loop-place) 0 [])
 loops-say t s O = loops-row s t O
 
 -- LAY OUT: the words hold what is laid out, and that is what document 01 puts there
-pub laid-of : {t : Tape} {p s g r r′ : List ℕ} → Kinds t p s g r → Joined r r′ → Laid t p s g r′
+pub laid-of : {t : Tape} {p s g r b r′ : List ℕ} → Kinds t p s g r b → Joined r r′ → Laid t p s g r′ b
 unfolding placesIn
 laid-of K J = record {
   letter-places = ap (λ (a : Table). getD a 0 []) (K .held letter-place);
@@ -237,9 +249,11 @@ laid-of K J = record {
   propagate-blocks = J .block ∙ ap₂ (joinTables Either) (K .held leaving) (K .held entering);
   propagate-sources = J .source ∙ ap₂ (joinTables Only) (K .held leaving) (K .held entering);
   propagate-targets = J .target ∙ ap₂ (joinTables Only) (K .held entering) (K .held leaving);
+  back-sources = K .held back-source;
+  back-targets = K .held back-target;
 }
 
-pub masks-say : {t : Tape} {p s g r : List ℕ} → Laid t p s g r → MasksSay t p s g r
+pub masks-say : {t : Tape} {p s g r b : List ℕ} → Laid t p s g r b → MasksSay t p s g r b
 masks-say {t} L = record {
   letter-places = subst (LettersSay t) (sym (L .letter-places)) (letters-say t);
   loop-places = subst (LoopsSay t) (sym (L .loop-places)) (loops-say t);
@@ -252,4 +266,6 @@ masks-say {t} L = record {
   propagate-blocks = subst (PropagateSays propagateBlock t) (sym (L .propagate-blocks)) (propagate-block-says t);
   propagate-sources = subst (PropagateSays propagateSource t) (sym (L .propagate-sources)) (propagate-source-says t);
   propagate-targets = subst (PropagateSays propagateTarget t) (sym (L .propagate-targets)) (propagate-target-says t);
+  back-sources = subst (UnionsSay backSource t) (sym (L .back-sources)) (back-source-says t);
+  back-targets = subst (UnionsSay backTarget t) (sym (L .back-targets)) (back-target-says t);
 }

@@ -4,7 +4,7 @@ use mathlib.Core.List.{List, [], _∷_}
 use Prim.Native.Nat.{ℕ, suc}
 use lib.ListN.{length}
 use Rattle.model.specs.Models.Tokens.{aBar, aClose, aLetter, anOpen, Token}
-use Rattle.model.specs.Tree.{Mark, once, option, optional, plus, Repeat, star, unmarked}
+use Rattle.model.specs.Tree.{Mark, once, option, optional, plus, Repeat, star, starred, unmarked}
 use Rattle.scan.specs.Tokens.{readKind, tokenOf}
 use Rattle.tape.specs.Rows.{kindOf}
 use Rattle.tape.specs.Tapes.{bare, readKinds}
@@ -22,6 +22,7 @@ read-letter plus = refl
 read-close : (m : Mark) → tokenOf (readKind (kindOf (aClose m))) ≡ aClose m
 read-close unmarked = refl
 read-close optional = refl
+read-close starred = refl
 
 pub read-kind : (y : Token) → tokenOf (readKind (kindOf y)) ≡ bare y
 read-kind (aLetter c r) = read-letter r

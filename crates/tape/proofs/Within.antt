@@ -4,8 +4,8 @@ use mathlib.Core.List.{List, [], _∷_}
 use Prim.Native.Nat.{ℕ, _+_, _≤_, _<_}
 use native.Mathlib.Omega.{arith}
 use lib.ListN.{length}
-use Rattle.model.specs.Tree.{canLoop, canOmit, canSkip, Repeat}
-use Rattle.model.specs.Models.LayOut.{entering, Frame, gather-block, gather-source, gather-target, leaving, letter-place, loop-place, Scan, scatter-block, scatter-source, scatter-target, Which}
+use Rattle.model.specs.Tree.{canLoop, canOmit, canReturn, canSkip, Mark, Repeat}
+use Rattle.model.specs.Models.LayOut.{back-source, back-target, entering, Frame, gather-block, gather-source, gather-target, leaving, letter-place, loop-place, Scan, scatter-block, scatter-source, scatter-target, Which}
 use Rattle.model.specs.Models.Tokens.{aBar, aClose, aLetter, anOpen, Token}
 use Rattle.scan.specs.Scans.{Behind, Sane}
 use Rattle.tape.specs.Strokes.{barStroke, barStrokeIn, closeStroke, closeStrokeIn, letterStroke, noStroke, oneState, openStroke, Stroke, strokeOf}
@@ -36,6 +36,8 @@ module _ (t d : ℕ) (ht : t < 511) (hd : d < 9) where
   letter-within r gather-target = none-within
   letter-within r leaving = if-within (canSkip r) d t hd (omega arith)
   letter-within r entering = if-within (canSkip r) d (t + 1) hd (omega arith)
+  letter-within r back-source = none-within
+  letter-within r back-target = none-within
 
   open-within : (w : Which) → Within (openStroke t d w)
   open-within letter-place = none-within
@@ -48,6 +50,8 @@ module _ (t d : ℕ) (ht : t < 511) (hd : d < 9) where
   open-within gather-target = none-within
   open-within leaving = none-within
   open-within entering = none-within
+  open-within back-source = none-within
+  open-within back-target = none-within
 
   bar-within : (w : Which) → Within (barStroke t d w)
   bar-within letter-place = none-within
@@ -60,18 +64,22 @@ module _ (t d : ℕ) (ht : t < 511) (hd : d < 9) where
   bar-within gather-target = none-within
   bar-within leaving = none-within
   bar-within entering = none-within
+  bar-within back-source = none-within
+  bar-within back-target = none-within
 
-  close-within : (f : Frame) (o : Bool) → f .start ≤ t → f .alternative ≤ t → (w : Which) → Within (closeStroke f t d o w)
-  close-within f o hs ha letter-place = none-within
-  close-within f o hs ha loop-place = none-within
-  close-within f o hs ha scatter-block = one-within d (f .alternative + 1) hd (omega arith)
-  close-within f o hs ha scatter-source = none-within
-  close-within f o hs ha scatter-target = none-within
-  close-within f o hs ha gather-block = (hd, omega arith)
-  close-within f o hs ha gather-source = one-within d t hd (omega arith)
-  close-within f o hs ha gather-target = one-within d (t + 1) hd (omega arith)
-  close-within f o hs ha leaving = if-within o d (f .start) hd (omega arith)
-  close-within f o hs ha entering = if-within o d (t + 1) hd (omega arith)
+  close-within : (f : Frame) (m : Mark) → f .start ≤ t → f .alternative ≤ t → (w : Which) → Within (closeStroke f t d m w)
+  close-within f m hs ha letter-place = none-within
+  close-within f m hs ha loop-place = none-within
+  close-within f m hs ha scatter-block = one-within d (f .alternative + 1) hd (omega arith)
+  close-within f m hs ha scatter-source = none-within
+  close-within f m hs ha scatter-target = none-within
+  close-within f m hs ha gather-block = (hd, omega arith)
+  close-within f m hs ha gather-source = one-within d t hd (omega arith)
+  close-within f m hs ha gather-target = one-within d (t + 1) hd (omega arith)
+  close-within f m hs ha leaving = if-within (canOmit m) d (f .start) hd (omega arith)
+  close-within f m hs ha entering = if-within (canOmit m) d (t + 1) hd (omega arith)
+  close-within f m hs ha back-source = if-within (canReturn m) d t hd (omega arith)
+  close-within f m hs ha back-target = if-within (canReturn m) d (f .start + 1) hd (omega arith)
 
 -- EVERY TOKEN'S STROKE LIES WITHIN
 pub stroke-within : (y : Token) (q : Scan) (w : Which) → Sane q → q .position < 511 → Within (strokeOf y q w)
@@ -86,4 +94,4 @@ stroke-within (aClose m) q w S h = go (q .stack) (S .behind) (S .shallow)
   where
     go : (st : List Frame) → Behind (q .position) st → length st ≤ 8 → Within (closeStrokeIn m (q .position) st w)
     go [] B l = none-within
-    go (f ∷ st) B l = close-within (q .position) (length st) h (omega arith) f (canOmit m) (B .0) (B .2) w
+    go (f ∷ st) B l = close-within (q .position) (length st) h (omega arith) f m (B .0) (B .2) w

@@ -1,11 +1,11 @@
 -- MASKS IN A ROW OF WORDS: rows of eight words. Letter and loop places are two rows; the masks of scatter, of gather and of propagate are three rows
--- for each of nine depths: block, source, target.
+-- for each of nine depths: block, source, target. So are those of the back edges, which have no block.
 use mathlib.Core.Path.{_≡_}
 use mathlib.Core.List.{List, [], _∷_}
 use Prim.Native.Nat.{ℕ, zero, suc, _+_, _-_, _*_, _/_, _%_, _^_, _≤_, _<_}
 use lib.Bits.{bitOr}
 use lib.ListN.{drop, getD, length, replicate, set, take}
-use Rattle.model.specs.Models.LayOut.{entering, gather-block, gather-source, gather-target, leaving, letter-place, loop-place, scatter-block, scatter-source, scatter-target, Which}
+use Rattle.model.specs.Models.LayOut.{back-source, back-target, entering, gather-block, gather-source, gather-target, leaving, letter-place, loop-place, scatter-block, scatter-source, scatter-target, Which}
 use Rattle.tape.specs.Joins.{Either, joinTables, Only}
 use Rattle.scan.specs.Scans.{Innermost, scanOf, withFrames}
 use Rattle.tape.specs.Strokes.{noStroke, Stroke, strokeOf}
@@ -50,39 +50,43 @@ abbrev pub paintThree : List ℕ → Stroke → Stroke → Stroke → List ℕ
 paintThree ms a b c = strokeIn (strokeIn (strokeIn ms 0 a) 1 b) 2 c
 
 -- the table of each kind of masks; until propagate's are joined, its sources are the states that edges leave, its targets those that they enter
-abbrev pub heldIn : (places scatter gather propagate : List ℕ) → Which → Table
-heldIn p s g r letter-place = placesIn p 0
-heldIn p s g r loop-place = placesIn p 1
-heldIn p s g r scatter-block = tableIn s 0
-heldIn p s g r scatter-source = tableIn s 1
-heldIn p s g r scatter-target = tableIn s 2
-heldIn p s g r gather-block = tableIn g 0
-heldIn p s g r gather-source = tableIn g 1
-heldIn p s g r gather-target = tableIn g 2
-heldIn p s g r leaving = tableIn r 1
-heldIn p s g r entering = tableIn r 2
+abbrev pub heldIn : (places scatter gather propagate back : List ℕ) → Which → Table
+heldIn p s g r b letter-place = placesIn p 0
+heldIn p s g r b loop-place = placesIn p 1
+heldIn p s g r b scatter-block = tableIn s 0
+heldIn p s g r b scatter-source = tableIn s 1
+heldIn p s g r b scatter-target = tableIn s 2
+heldIn p s g r b gather-block = tableIn g 0
+heldIn p s g r b gather-source = tableIn g 1
+heldIn p s g r b gather-target = tableIn g 2
+heldIn p s g r b leaving = tableIn r 1
+heldIn p s g r b entering = tableIn r 2
+heldIn p s g r b back-source = tableIn b 1
+heldIn p s g r b back-target = tableIn b 2
 
 -- the words that there are; no mask has a state
-pub record Sized (p s g r : List ℕ) : Type 0 where
+pub record Sized (p s g r b : List ℕ) : Type 0 where
   pub places : length p ≡ 16
   pub scatter : length s ≡ 216
   pub gather : length g ≡ 216
   pub propagate : length r ≡ 216
+  pub back : length b ≡ 216
 
-pub record Blank (p s g r : List ℕ) : Type 0 where
-  pub sized : Sized p s g r
-  pub none : (w : Which) → heldIn p s g r w ≡ blank
+pub record Blank (p s g r b : List ℕ) : Type 0 where
+  pub sized : Sized p s g r b
+  pub none : (w : Which) → heldIn p s g r b w ≡ blank
 
 -- what a token marks: of each kind w the stroke f w
-pub record Painted (p s g r p′ s′ g′ r′ : List ℕ) (f : Which → Stroke) : Type 0 where
+pub record Painted (p s g r b p′ s′ g′ r′ b′ : List ℕ) (f : Which → Stroke) : Type 0 where
   pub places : p′ ≡ paintTwo p (f letter-place) (f loop-place)
   pub scatter : s′ ≡ paintThree s (f scatter-block) (f scatter-source) (f scatter-target)
   pub gather : g′ ≡ paintThree g (f gather-block) (f gather-source) (f gather-target)
   pub propagate : r′ ≡ paintThree r noStroke (f leaving) (f entering)
+  pub back : b′ ≡ paintThree b noStroke (f back-source) (f back-target)
 
-abbrev pub MarkSays : Scan → Frame → Token → (p s g r p′ s′ g′ r′ : List ℕ) → Type 0
-MarkSays q f y p s g r p′ s′ g′ r′ =
-    (fs : List Frame) → Innermost q f fs → Painted p s g r p′ s′ g′ r′ (strokeOf (tokenOf y) (scanOf (withFrames q fs)))
+abbrev pub MarkSays : Scan → Frame → Token → (p s g r b p′ s′ g′ r′ b′ : List ℕ) → Type 0
+MarkSays q f y p s g r b p′ s′ g′ r′ b′ =
+    (fs : List Frame) → Innermost q f fs → Painted p s g r b p′ s′ g′ r′ b′ (strokeOf (tokenOf y) (scanOf (withFrames q fs)))
 
 -- propagate's block, source and target from the states that edges leave and those that they enter
 pub record Joined (r r′ : List ℕ) : Type 0 where

@@ -7,9 +7,9 @@ use lib.ListN.{getD, replicate}
 use Rattle.model.specs.Bits.{bit, mask}
 use Rattle.model.specs.Edges.{depth, states}
 use Rattle.model.specs.Grammar.{IsRule}
-use Rattle.model.specs.Image.{gatherBlock, gatherSource, gatherTarget, letters, propagateBlock, propagateSource, propagateTarget, repeats, scatterBlock, scatterSource, scatterTarget, words}
+use Rattle.model.specs.Image.{backSource, backTarget, gatherBlock, gatherSource, gatherTarget, letters, propagateBlock, propagateSource, propagateTarget, repeats, scatterBlock, scatterSource, scatterTarget, words}
 use Rattle.model.specs.Models.Apart.{anyBelow}
-use Rattle.model.specs.Models.LayOut.{gather-block, gather-source, gather-target, letter-place, loop-place, scatter-block, scatter-source, scatter-target}
+use Rattle.model.specs.Models.LayOut.{back-source, back-target, gather-block, gather-source, gather-target, letter-place, loop-place, scatter-block, scatter-source, scatter-target}
 use Rattle.model.specs.Models.Words.{value}
 use Rattle.model.specs.Tree as tree
 use Rattle.tape.specs.Masks.{rowIn, tableIn}
@@ -37,7 +37,7 @@ pub record RowsAre (s : tree.Tree) (table : Table) (rows : ℕ) (sets : ℕ → 
   pub row : (k : ℕ) → k < rows → getD table k [] ≡ words 8 (mask (states s) (sets k))
   pub past : (k : ℕ) → rows ≤ k → k < 9 → getD table k [] ≡ replicate 8 0
 
--- "For each union depth 0 to d-1": scatter and gather
+-- "For each union depth 0 to d-1": scatter and gather, and back edges "for k from 0 to d-1"
 abbrev pub UnionsSay : (tree.Tree → ℕ → ℕ → Bool) → Tape → Table → Type 0
 UnionsSay sets t table = (s : tree.Tree) → TreeOnTape s t → RowsAre s table (depth s) (sets s)
 
@@ -53,8 +53,8 @@ LettersSay t row = (s : tree.Tree) → TreeOnTape s t → row ≡ words 8 (mask 
 abbrev pub LoopsSay : Tape → List ℕ → Type 0
 LoopsSay t row = (s : tree.Tree) → TreeOnTape s t → (b x : ℕ) → x < states s → (letters s b x && bit (value row) x) ≡ repeats s b x
 
--- LAY OUT SAYS, of the words of letter and loop places, of scatter's, gather's and propagate's masks: what it computes
-pub record Laid (t : Tape) (p s g r : List ℕ) : Type 0 where
+-- LAY OUT SAYS, of the words of letter and loop places, of scatter's, gather's, propagate's and the back edges' masks: what it computes
+pub record Laid (t : Tape) (p s g r b : List ℕ) : Type 0 where
   pub letter-places : rowIn p 0 ≡ getD (tableOf t letter-place) 0 []
   pub loop-places : rowIn p 1 ≡ getD (tableOf t loop-place) 0 []
   pub scatter-blocks : tableIn s 0 ≡ tableOf t scatter-block
@@ -66,9 +66,11 @@ pub record Laid (t : Tape) (p s g r : List ℕ) : Type 0 where
   pub propagate-blocks : tableIn r 0 ≡ propagateBlockTable t
   pub propagate-sources : tableIn r 1 ≡ propagateSourceTable t
   pub propagate-targets : tableIn r 2 ≡ propagateTargetTable t
+  pub back-sources : tableIn b 1 ≡ tableOf t back-source
+  pub back-targets : tableIn b 2 ≡ tableOf t back-target
 
--- and, of the tape of a rule's tree, that it is what document 01 puts there
-pub record MasksSay (t : Tape) (p s g r : List ℕ) : Type 0 where
+-- and, of the tape of a rule's tree, that it is what documents 01 and 02 put there
+pub record MasksSay (t : Tape) (p s g r b : List ℕ) : Type 0 where
   pub letter-places : LettersSay t (rowIn p 0)
   pub loop-places : LoopsSay t (rowIn p 1)
   pub scatter-blocks : UnionsSay scatterBlock t (tableIn s 0)
@@ -80,3 +82,5 @@ pub record MasksSay (t : Tape) (p s g r : List ℕ) : Type 0 where
   pub propagate-blocks : PropagateSays propagateBlock t (tableIn r 0)
   pub propagate-sources : PropagateSays propagateSource t (tableIn r 1)
   pub propagate-targets : PropagateSays propagateTarget t (tableIn r 2)
+  pub back-sources : UnionsSay backSource t (tableIn b 1)
+  pub back-targets : UnionsSay backTarget t (tableIn b 2)

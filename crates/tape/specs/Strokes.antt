@@ -1,10 +1,10 @@
 -- STROKES: the places that one token marks in the masks of one kind are a run of states at one depth. `Models.LayOut` has the same places as sets.
-use mathlib.Core.Bool.{Bool, cond}
+use mathlib.Core.Bool.{cond}
 use mathlib.Core.List.{List, [], _∷_}
 use Prim.Native.Nat.{ℕ, _+_}
 use lib.ListN.{length}
-use Rattle.model.specs.Tree.{canLoop, canOmit, canSkip, Mark, Repeat}
-use Rattle.model.specs.Models.LayOut.{entering, Frame, gather-block, gather-source, gather-target, leaving, letter-place, loop-place, Scan, scatter-block, scatter-source, scatter-target}
+use Rattle.model.specs.Tree.{canLoop, canOmit, canReturn, canSkip, Mark, Repeat}
+use Rattle.model.specs.Models.LayOut.{back-source, back-target, entering, Frame, gather-block, gather-source, gather-target, leaving, letter-place, loop-place, Scan, scatter-block, scatter-source, scatter-target}
 use Rattle.model.specs.Models.LayOut as model
 use Rattle.model.specs.Models.Tokens.{aBar, aClose, aLetter, anOpen, Token}
 
@@ -35,6 +35,8 @@ letterStroke r t d gather-source = noStroke
 letterStroke r t d gather-target = noStroke
 letterStroke r t d leaving = cond (canSkip r) (oneState d t) noStroke
 letterStroke r t d entering = cond (canSkip r) (oneState d (t + 1)) noStroke
+letterStroke r t d back-source = noStroke
+letterStroke r t d back-target = noStroke
 
 -- the open of a union that starts in t at depth d
 abbrev pub openStroke : ℕ → ℕ → model.Which → Stroke
@@ -48,6 +50,8 @@ openStroke t d gather-source = noStroke
 openStroke t d gather-target = noStroke
 openStroke t d leaving = noStroke
 openStroke t d entering = noStroke
+openStroke t d back-source = noStroke
+openStroke t d back-target = noStroke
 
 -- a bar after the alternative that ends in z, of a union at depth d
 abbrev pub barStroke : ℕ → ℕ → model.Which → Stroke
@@ -61,19 +65,23 @@ barStroke z d gather-source = oneState d z
 barStroke z d gather-target = noStroke
 barStroke z d leaving = noStroke
 barStroke z d entering = noStroke
+barStroke z d back-source = noStroke
+barStroke z d back-target = noStroke
 
--- the close of the union f at depth d after the alternative that ends in z, where o says whether an edge leads over the union
-abbrev pub closeStroke : Frame → ℕ → ℕ → Bool → model.Which → Stroke
-closeStroke f z d o letter-place = noStroke
-closeStroke f z d o loop-place = noStroke
-closeStroke f z d o scatter-block = oneState d (f .alternative + 1)
-closeStroke f z d o scatter-source = noStroke
-closeStroke f z d o scatter-target = noStroke
-closeStroke f z d o gather-block = stroke d (cond (f .barred) (f .firstEnd) z) (z + 1)
-closeStroke f z d o gather-source = oneState d z
-closeStroke f z d o gather-target = oneState d (z + 1)
-closeStroke f z d o leaving = cond o (oneState d (f .start)) noStroke
-closeStroke f z d o entering = cond o (oneState d (z + 1)) noStroke
+-- the close of the union f at depth d after the alternative that ends in z, where m is what it shows
+abbrev pub closeStroke : Frame → ℕ → ℕ → Mark → model.Which → Stroke
+closeStroke f z d m letter-place = noStroke
+closeStroke f z d m loop-place = noStroke
+closeStroke f z d m scatter-block = oneState d (f .alternative + 1)
+closeStroke f z d m scatter-source = noStroke
+closeStroke f z d m scatter-target = noStroke
+closeStroke f z d m gather-block = stroke d (cond (f .barred) (f .firstEnd) z) (z + 1)
+closeStroke f z d m gather-source = oneState d z
+closeStroke f z d m gather-target = oneState d (z + 1)
+closeStroke f z d m leaving = cond (canOmit m) (oneState d (f .start)) noStroke
+closeStroke f z d m entering = cond (canOmit m) (oneState d (z + 1)) noStroke
+closeStroke f z d m back-source = cond (canReturn m) (oneState d z) noStroke
+closeStroke f z d m back-target = cond (canReturn m) (oneState d (f .start + 1)) noStroke
 
 -- by the open unions
 abbrev pub barStrokeIn : ℕ → List Frame → model.Which → Stroke
@@ -82,7 +90,7 @@ barStrokeIn z (f ∷ st) w = barStroke z (length st) w
 
 abbrev pub closeStrokeIn : Mark → ℕ → List Frame → model.Which → Stroke
 closeStrokeIn m z [] w = noStroke
-closeStrokeIn m z (f ∷ st) w = closeStroke f z (length st) (canOmit m) w
+closeStrokeIn m z (f ∷ st) w = closeStroke f z (length st) m w
 
 -- WHAT A TOKEN MARKS
 abbrev pub strokeOf : Token → Scan → model.Which → Stroke

@@ -70,10 +70,10 @@ abbrev pub propagateTargetTable : Tape → Table
 propagateTargetTable t = joinTables Only (tableOf t entering) (tableOf t leaving)
 
 -- the words hold what is laid out, before propagate's masks are joined; if the tape is a tree's, whatever else it is
-pub record Kinds (t : Tape) (p s g r : List ℕ) : Type 0 where
-  pub sized : Sized p s g r
-  pub held : (w : Which) → heldIn p s g r w ≡ tableOf t w
+pub record Kinds (t : Tape) (p s g r b : List ℕ) : Type 0 where
+  pub sized : Sized p s g r b
+  pub held : (w : Which) → heldIn p s g r b w ≡ tableOf t w
 
-pub record ScanLays (t : Tape) (p s g r : List ℕ) : Type 0 where
-  pub sized : Sized p s g r
-  pub held : T (isTree t) → (w : Which) → heldIn p s g r w ≡ tableOf t w
+pub record ScanLays (t : Tape) (p s g r b : List ℕ) : Type 0 where
+  pub sized : Sized p s g r b
+  pub held : T (isTree t) → (w : Which) → heldIn p s g r b w ≡ tableOf t w

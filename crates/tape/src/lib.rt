@@ -1,4 +1,4 @@
-// A tree as its tape, and lay out: from the tape to the masks of scatter, gather and propagate for each depth.
+// A tree as its tape, and lay out: from the tape to the masks of scatter, gather, propagate and back edges for each depth.
 //
 // A tree with m states is a row of m - 1 tokens, one between each two neighbouring states. One scan over them, from left to right, knows all that
 // the masks need: the crate `scan` has the tokens and what is known before each, `stroke` the places that one token marks, `masks` the masks.
@@ -25,7 +25,7 @@ ghost use Rattle.tape.specs.Tapes.{deeperBy, Kinds, ScanLays, shapeOf};
 ghost use Rattle.scan.specs.Tokens.{tokenOf};
 
 // The first `length` of the kinds are a tree's tokens: 0 to 3 a letter, taken once, `?`, `*` or `+`; 4 an open, 5 a bar,
-// 6 a close, 7 a close with an edge over its union.
+// 6 a close, 7 one with an edge over its union, 8 one of a group with `*`.
 pub struct Tape {
     pub kinds: [u8; 512],
     pub length: usize,
@@ -63,10 +63,11 @@ fn scan_tape(
     scatter: &mut [u64],
     gather: &mut [u64],
     propagate: &mut [u64],
+    back: &mut [u64],
 ) -> Shape
-    requires { ⌜ Blank (now places) (now scatter) (now gather) (now propagate) ⌝ }
+    requires { ⌜ Blank (now places) (now scatter) (now gather) (now propagate) (now back) ⌝ }
     ensures shape { λ r. ⌜ r ≡ shapeOf tape ⌝ }
-    ensures masks { λ r. ⌜ ScanLays tape (now (places .exit)) (now (scatter .exit)) (now (gather .exit)) (now (propagate .exit)) ⌝ }
+    ensures masks { λ r. ⌜ ScanLays tape (now (places .exit)) (now (scatter .exit)) (now (gather .exit)) (now (propagate .exit)) (now (back .exit)) ⌝ }
 {
     let kinds = tape.kinds;
     let length = tape.length;
@@ -85,7 +86,7 @@ fn scan_tape(
         if !fits(scan, frame, token) {
             return Shape::Other;
         }
-        mark_token(places, scatter, gather, propagate, scan, frame, token);
+        mark_token(places, scatter, gather, propagate, back, scan, frame, token);
         let d = deeper(deepest, scan.depth, token);
         deepest = d;
         let next = step_over(scan, frame, token);
@@ -110,33 +111,36 @@ fn lay_kinds(
     scatter: &mut [u64],
     gather: &mut [u64],
     propagate: &mut [u64],
+    back: &mut [u64],
 ) -> Shape
-    requires { ⌜ Sized (now places) (now scatter) (now gather) (now propagate) ⌝ }
+    requires { ⌜ Sized (now places) (now scatter) (now gather) (now propagate) (now back) ⌝ }
     ensures shape { λ r. ⌜ r ≡ shapeOf tape ⌝ }
-    ensures kinds { λ r. ⌜ Kinds tape (now (places .exit)) (now (scatter .exit)) (now (gather .exit)) (now (propagate .exit)) ⌝ }
+    ensures kinds { λ r. ⌜ Kinds tape (now (places .exit)) (now (scatter .exit)) (now (gather .exit)) (now (propagate .exit)) (now (back .exit)) ⌝ }
 {
-    blank_all(places, scatter, gather, propagate);
-    let shape = scan_tape(tape, places, scatter, gather, propagate);
+    blank_all(places, scatter, gather, propagate, back);
+    let shape = scan_tape(tape, places, scatter, gather, propagate, back);
     if let Shape::Other = shape {
-        blank_all(places, scatter, gather, propagate);
+        blank_all(places, scatter, gather, propagate, back);
     }
     shape
 }
 
-// Lay out: whether the tape is the tokens of a tree, and how deep that is; letter places and loop places; and block, source and target of each depth.
+// Lay out: whether the tape is the tokens of a tree, and how deep that is; letter places and loop places; block, source and target of each depth; and
+// source and target of its back edges.
 pub fn lay_out(
     tape: Tape,
     places: &mut [u64; 16],
     scatter: &mut [u64; 216],
     gather: &mut [u64; 216],
     propagate: &mut [u64; 216],
+    back: &mut [u64; 216],
 ) -> Shape
     ensures computed { λ r. ⌜ r ≡ shapeOf tape ⌝ }
     ensures shape { λ r. ⌜ ShapeSays tape r ⌝ }
-    ensures laid { λ r. ⌜ Laid tape (now (places .exit)) (now (scatter .exit)) (now (gather .exit)) (now (propagate .exit)) ⌝ }
-    ensures masks { λ r. ⌜ MasksSay tape (now (places .exit)) (now (scatter .exit)) (now (gather .exit)) (now (propagate .exit)) ⌝ }
+    ensures laid { λ r. ⌜ Laid tape (now (places .exit)) (now (scatter .exit)) (now (gather .exit)) (now (propagate .exit)) (now (back .exit)) ⌝ }
+    ensures masks { λ r. ⌜ MasksSay tape (now (places .exit)) (now (scatter .exit)) (now (gather .exit)) (now (propagate .exit)) (now (back .exit)) ⌝ }
 {
-    let shape = lay_kinds(tape, places, scatter, gather, propagate);
+    let shape = lay_kinds(tape, places, scatter, gather, propagate, back);
     join_propagate(propagate);
     shape
 }

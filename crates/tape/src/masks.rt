@@ -1,5 +1,6 @@
 // Masks in a row of words, eight for each: state i is bit i mod 64 of word i/64. Letter and loop places are two masks. The masks of scatter, of
-// gather and of propagate are three for each of nine depths: block, source, target, which are the kinds 0, 1 and 2.
+// gather and of propagate are three for each of nine depths: block, source, target, which are the kinds 0, 1 and 2. So are those of the back edges,
+// of which there is no block.
 ghost use mathlib.Core.Path.{_≡_};
 ghost use mathlib.Core.Bool.{cond};
 ghost use Prim.Native.Nat.{_+_, _*_, _≤_, _<_};
@@ -18,14 +19,21 @@ fn blank(masks: &mut [u64])
     }
 }
 
-pub fn blank_all(places: &mut [u64], scatter: &mut [u64], gather: &mut [u64], propagate: &mut [u64])
-    requires { ⌜ Sized (now places) (now scatter) (now gather) (now propagate) ⌝ }
-    ensures { λ r. ⌜ Blank (now (places .exit)) (now (scatter .exit)) (now (gather .exit)) (now (propagate .exit)) ⌝ }
+pub fn blank_all(
+    places: &mut [u64],
+    scatter: &mut [u64],
+    gather: &mut [u64],
+    propagate: &mut [u64],
+    back: &mut [u64],
+)
+    requires { ⌜ Sized (now places) (now scatter) (now gather) (now propagate) (now back) ⌝ }
+    ensures { λ r. ⌜ Blank (now (places .exit)) (now (scatter .exit)) (now (gather .exit)) (now (propagate .exit)) (now (back .exit)) ⌝ }
 {
     blank(places);
     blank(scatter);
     blank(gather);
     blank(propagate);
+    blank(back);
 }
 
 // One more state in the mask of a depth.
@@ -59,13 +67,13 @@ pub fn mark_run(masks: &mut [u64], kind: usize, depth: usize, from: usize, to: u
     }
 }
 
-// If the test passes, a propagate edge: the state that it leaves, in place of the sources, and the one that it enters, in place of the targets.
-pub fn bridge(propagate: &mut [u64], test: bool, depth: usize, from: usize, to: usize)
-    requires { ⌜ (from < 512) × (to < 512) × (depth < 9) × (length (now propagate) ≡ 216) ⌝ }
-    ensures { λ r. ⌜ now (propagate .exit) ≡ paintThree (now (propagate .entry)) noStroke (cond test (oneState depth from) noStroke) (cond test (oneState depth to) noStroke) ⌝ }
+// If the test passes, an edge: the state that it leaves, in place of the sources, and the one that it enters, in place of the targets.
+pub fn bridge(masks: &mut [u64], test: bool, depth: usize, from: usize, to: usize)
+    requires { ⌜ (from < 512) × (to < 512) × (depth < 9) × (length (now masks) ≡ 216) ⌝ }
+    ensures { λ r. ⌜ now (masks .exit) ≡ paintThree (now (masks .entry)) noStroke (cond test (oneState depth from) noStroke) (cond test (oneState depth to) noStroke) ⌝ }
 {
-    mark_if(propagate, 1, test, depth, from);
-    mark_if(propagate, 2, test, depth, to);
+    mark_if(masks, 1, test, depth, from);
+    mark_if(masks, 2, test, depth, to);
 }
 
 // Propagate: block, the states that an edge leaves or enters; source, the smallest of each chain, which no edge enters; target, the largest, which

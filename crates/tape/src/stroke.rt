@@ -6,19 +6,21 @@ use crate::masks::mark_run;
 use scan::Frame;
 use scan::Scan;
 use scan::first_end_of;
+use scan::token::Mark;
 use scan::token::Repeat;
 use scan::token::Token;
 use scan::token::can_loop;
 use scan::token::can_omit;
+use scan::token::can_return;
 use scan::token::can_skip;
 ghost use mathlib.Core.Path.{_≡_};
 ghost use Prim.Native.Nat.{_<_};
 ghost use lib.ListN.{length};
-ghost use Rattle.model.specs.Models.LayOut.{entering, gather-block, gather-source, gather-target, leaving, letter-place, loop-place, scatter-block, scatter-source, scatter-target};
+ghost use Rattle.model.specs.Models.LayOut.{back-source, back-target, entering, gather-block, gather-source, gather-target, leaving, letter-place, loop-place, scatter-block, scatter-source, scatter-target};
 ghost use Rattle.tape.specs.Masks.{MarkSays, paintThree, paintTwo, Sized};
 ghost use Rattle.scan.specs.Scans.{frameOf, ReadyAt};
 ghost use Rattle.tape.specs.Strokes.{barStroke, closeStroke, letterStroke, noStroke, openStroke};
-ghost use Rattle.scan.specs.Tokens.{repeatOf};
+ghost use Rattle.scan.specs.Tokens.{markOf, repeatOf};
 
 // A letter from `position` at `depth`: `*` and `+` have a loop, `?` and `*` a propagate edge over it.
 fn mark_letter(
@@ -56,28 +58,31 @@ fn mark_bar(scatter: &mut [u64], gather: &mut [u64], position: usize, depth: usi
     mark(gather, 1, depth, position);
 }
 
-// The close after the alternative that ends in `position`, of a union at `depth`, which ends in the next state; `over` says whether a propagate edge
-// leads over the union.
+// The close after the alternative that ends in `position`, of a union at `depth`, which ends in the next state; its mark shows whether an
+// edge leads over the union, and whether one leads back from its body's end to its body's start.
 fn mark_close(
     scatter: &mut [u64],
     gather: &mut [u64],
     propagate: &mut [u64],
+    back: &mut [u64],
     frame: Frame,
     position: usize,
     depth: usize,
-    over: bool,
+    shown: Mark,
 )
-    requires { ⌜ (position < 511) × (depth < 9) × (frame .alternative < 511) × (frame .start < 512) × (length (now scatter) ≡ 216) × (length (now gather) ≡ 216) × (length (now propagate) ≡ 216) ⌝ }
-    ensures scatter { λ r. ⌜ now (scatter .exit) ≡ paintThree (now (scatter .entry)) (closeStroke (frameOf frame) position depth over scatter-block) (closeStroke (frameOf frame) position depth over scatter-source) (closeStroke (frameOf frame) position depth over scatter-target) ⌝ }
-    ensures gather { λ r. ⌜ now (gather .exit) ≡ paintThree (now (gather .entry)) (closeStroke (frameOf frame) position depth over gather-block) (closeStroke (frameOf frame) position depth over gather-source) (closeStroke (frameOf frame) position depth over gather-target) ⌝ }
-    ensures propagate { λ r. ⌜ now (propagate .exit) ≡ paintThree (now (propagate .entry)) noStroke (closeStroke (frameOf frame) position depth over leaving) (closeStroke (frameOf frame) position depth over entering) ⌝ }
+    requires { ⌜ (position < 511) × (depth < 9) × (frame .alternative < 511) × (frame .start < 511) × (length (now scatter) ≡ 216) × (length (now gather) ≡ 216) × (length (now propagate) ≡ 216) × (length (now back) ≡ 216) ⌝ }
+    ensures scatter { λ r. ⌜ now (scatter .exit) ≡ paintThree (now (scatter .entry)) (closeStroke (frameOf frame) position depth (markOf shown) scatter-block) (closeStroke (frameOf frame) position depth (markOf shown) scatter-source) (closeStroke (frameOf frame) position depth (markOf shown) scatter-target) ⌝ }
+    ensures gather { λ r. ⌜ now (gather .exit) ≡ paintThree (now (gather .entry)) (closeStroke (frameOf frame) position depth (markOf shown) gather-block) (closeStroke (frameOf frame) position depth (markOf shown) gather-source) (closeStroke (frameOf frame) position depth (markOf shown) gather-target) ⌝ }
+    ensures propagate { λ r. ⌜ now (propagate .exit) ≡ paintThree (now (propagate .entry)) noStroke (closeStroke (frameOf frame) position depth (markOf shown) leaving) (closeStroke (frameOf frame) position depth (markOf shown) entering) ⌝ }
+    ensures back { λ r. ⌜ now (back .exit) ≡ paintThree (now (back .entry)) noStroke (closeStroke (frameOf frame) position depth (markOf shown) back-source) (closeStroke (frameOf frame) position depth (markOf shown) back-target) ⌝ }
 {
     mark(scatter, 0, depth, frame.alternative + 1);
     let first_end = first_end_of(frame, position);
     mark_run(gather, 0, depth, first_end, position + 1);
     mark(gather, 1, depth, position);
     mark(gather, 2, depth, position + 1);
-    bridge(propagate, over, depth, frame.start, position + 1);
+    bridge(propagate, can_omit(shown), depth, frame.start, position + 1);
+    bridge(back, can_return(shown), depth, position, frame.start + 1);
 }
 
 // What a token that fits marks.
@@ -86,13 +91,14 @@ pub fn mark_token(
     scatter: &mut [u64],
     gather: &mut [u64],
     propagate: &mut [u64],
+    back: &mut [u64],
     scan: Scan,
     frame: Frame,
     token: Token,
 )
     requires ready { ⌜ ReadyAt scan frame token ⌝ }
-    requires sized { ⌜ Sized (now places) (now scatter) (now gather) (now propagate) ⌝ }
-    ensures { λ r. ⌜ MarkSays scan frame token (now (places .entry)) (now (scatter .entry)) (now (gather .entry)) (now (propagate .entry)) (now (places .exit)) (now (scatter .exit)) (now (gather .exit)) (now (propagate .exit)) ⌝ }
+    requires sized { ⌜ Sized (now places) (now scatter) (now gather) (now propagate) (now back) ⌝ }
+    ensures { λ r. ⌜ MarkSays scan frame token (now (places .entry)) (now (scatter .entry)) (now (gather .entry)) (now (propagate .entry)) (now (back .entry)) (now (places .exit)) (now (scatter .exit)) (now (gather .exit)) (now (propagate .exit)) (now (back .exit)) ⌝ }
 {
     let position = scan.position;
     let depth = scan.depth;
@@ -104,10 +110,11 @@ pub fn mark_token(
             scatter,
             gather,
             propagate,
+            back,
             frame,
             position,
             depth - 1,
-            can_omit(shown),
+            shown,
         ),
     }
 }

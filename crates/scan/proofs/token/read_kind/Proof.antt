@@ -1,4 +1,4 @@
--- `token::read_kind` is a table: each of the first seven numbers has its arm, and what is past them is a close with an edge over its union.
+-- `token::read_kind` is a table: each of the first eight numbers has its arm, and what is past them is the close of a group with `*`.
 use mathlib.Core.Path.{sym, ap}
 use borrow.Author.Needs.{needs}
 use Rattle.scan.proofs.Tokens.{read-close}
@@ -28,10 +28,13 @@ returns-7 : tie.Need-returns-7
 returns-7 c = sym (ap readKind (c .match .keys7))
 
 returns-8 : tie.Need-returns-8
-returns-8 c =
+returns-8 c = sym (ap readKind (c .match .keys8))
+
+returns-9 : tie.Need-returns-9
+returns-9 c =
     let r = c .match .rest in
-    read-close (c .before .args .kind) (r .0 .0 .0 .0 .0 .0 .1) (r .0 .0 .0 .0 .0 .1) (r .0 .0 .0 .0 .1) (r .0 .0 .0 .1) (r .0 .0 .1) (r .0 .1) (r .1)
+    read-close (c .before .args .kind) (r .0 .0 .0 .0 .0 .0 .0 .1) (r .0 .0 .0 .0 .0 .0 .1) (r .0 .0 .0 .0 .0 .1) (r .0 .0 .0 .0 .1) (r .0 .0 .0 .1) (r .0 .0 .1) (r .0 .1) (r .1)
 
 pub read-kind-spec : {M : Type 1} → statement M
 read-kind-spec =
-    tie.close (tie.spec returns returns-2 returns-3 returns-4 returns-5 returns-6 returns-7 returns-8)
+    tie.close (tie.spec returns returns-2 returns-3 returns-4 returns-5 returns-6 returns-7 returns-8 returns-9)

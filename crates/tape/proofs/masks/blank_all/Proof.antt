@@ -16,6 +16,9 @@ blank-requires-3 c κs = search needs
 blank-requires-4 : tie.Need-blank-requires-4
 blank-requires-4 c κs = search needs
 
+blank-requires-5 : tie.Need-blank-requires-5
+blank-requires-5 c κs = search needs
+
 same-length : tie.Need-same-length
 same-length c = search needs
 
@@ -28,9 +31,12 @@ same-length-3 c = search needs
 same-length-4 : tie.Need-same-length-4
 same-length-4 c = search needs
 
+same-length-5 : tie.Need-same-length-5
+same-length-5 c = search needs
+
 returns : tie.Need-returns
 returns c =
-    blank-held (c .before .before .before .before .before .before .before .before .before .before .before .before .before .before .before .before .before .before .before .before .pre) (c .before .before .before .before .before .before .before .before .before .before .before .before .before .before .blank .ensures) (c .before .before .before .before .before .before .before .before .before .before .blank2 .ensures) (c .before .before .before .before .before .before .blank3 .ensures) (c .before .before .blank4 .ensures)
+    blank-held (c .before .before .before .before .before .before .before .before .before .before .before .before .before .before .before .before .before .before .before .before .before .before .before .before .before .pre) (c .before .before .before .before .before .before .before .before .before .before .before .before .before .before .before .before .before .before .blank .ensures) (c .before .before .before .before .before .before .before .before .before .before .before .before .before .before .blank2 .ensures) (c .before .before .before .before .before .before .before .before .before .before .blank3 .ensures) (c .before .before .before .before .before .before .blank4 .ensures) (c .before .before .blank5 .ensures)
 
 pub blank-all-spec : {M : Type 1} → statement M
 blank-all-spec =
@@ -40,8 +46,10 @@ blank-all-spec =
     blank-requires-2
     blank-requires-3
     blank-requires-4
+    blank-requires-5
     same-length
     same-length-2
     same-length-3
     same-length-4
+    same-length-5
     returns)

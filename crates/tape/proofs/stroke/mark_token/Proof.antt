@@ -15,7 +15,7 @@ enum-known-token c = search needs
 
 mark-letter-requires : tie.Need-mark-letter-requires
 mark-letter-requires c κs =
-    let s = c .before .before .before .before .before .before .before .before .before in
+    let s = c .before .before .before .before .before .before .before .before .before .before in
     let q = withFrames (s .args .scan) (s .pre .0 .frames) in
     let R = s .pre .0 .ready in
     let Z = s .pre .1 in
@@ -26,7 +26,7 @@ enum-told c = search needs
 
 mark-open-requires : tie.Need-mark-open-requires
 mark-open-requires c κs =
-    let s = c .before .before .before .before .before .before .before in
+    let s = c .before .before .before .before .before .before .before .before in
     let q = withFrames (s .args .scan) (s .pre .0 .frames) in
     let R = s .pre .0 .ready in
     let Z = s .pre .1 in
@@ -37,7 +37,7 @@ enum-told-2 c = search needs
 
 sub-mark-bar : tie.Need-sub-mark-bar
 sub-mark-bar c =
-    let s = c .before .before .before .before .before .before .before .before in
+    let s = c .before .before .before .before .before .before .before .before .before in
     let q = withFrames (s .args .scan) (s .pre .0 .frames) in
     let R = s .pre .0 .ready in
     let Z = s .pre .1 in
@@ -45,7 +45,7 @@ sub-mark-bar c =
 
 mark-bar-requires : tie.Need-mark-bar-requires
 mark-bar-requires c κs =
-    let s = c .before .before .before .before .before .before .before .before in
+    let s = c .before .before .before .before .before .before .before .before .before in
     let q = withFrames (s .args .scan) (s .pre .0 .frames) in
     let R = s .pre .0 .ready in
     let Z = s .pre .1 in
@@ -56,24 +56,21 @@ enum-known-token-2 c = search needs
 
 sub-mark-close : tie.Need-sub-mark-close
 sub-mark-close c =
-    let s = c .before .before .before .before .before .before .before .before .before .before in
+    let s = c .before .before .before .before .before .before .before .before .before .before .before .before in
     let q = withFrames (s .args .scan) (s .pre .0 .frames) in
-    let t = c .before .before .before .before .token2 .given in
+    let t = c .before .before .before .before .before .token2 .given in
     ready-close q (s .args .token) (s .pre .0 .ready) (t .0 .0) (t .1)
-
-can-omit-requires : tie.Need-can-omit-requires
-can-omit-requires c κs = search needs
 
 mark-close-requires : tie.Need-mark-close-requires
 mark-close-requires c κs =
-    let s = c .before .before .before .before .before .before .before .before .before .before .before in
+    let s = c .before .before .before .before .before .before .before .before .before .before .before .before in
     let q = withFrames (s .args .scan) (s .pre .0 .frames) in
     let R = s .pre .0 .ready in
     let Z = s .pre .1 in
     let t = c .before .before .before .before .before .token2 .given in
     let inner = ready-close q (s .args .token) R (t .0 .0) (t .1) in
-    let top = subst (λ (f : Frame). (f .alternative < 511) × (f .start < 512)) (s .pre .0 .top inner) (ready-top q (s .args .token) R (t .0 .0) (t .1)) in
-    (R .below, omega (arith, ready-depth q (s .args .token) R), top .0, top .1, Z .scatter, Z .gather, Z .propagate)
+    let top = subst (λ (f : Frame). (f .alternative < 511) × (f .start < 511)) (s .pre .0 .top inner) (ready-top q (s .args .token) R (t .0 .0) (t .1)) in
+    (R .below, omega (arith, ready-depth q (s .args .token) R), top .0, top .1, Z .scatter, Z .gather, Z .propagate, Z .back)
 
 same-length : tie.Need-same-length
 same-length c = search needs
@@ -84,13 +81,13 @@ same-length-2 c = search needs
 returns : tie.Need-returns
 returns c = λ fs I.
     let m = c .before .before .before .before .mark-letter .ensures in
-    letter-painted (c .before .before .before .before .before .before .before .before .before .before .before .before .before .before .args .scan) fs _ (c .before .before .before .before .before .before .before .before .token .given .1) (m .0) (m .1)
+    letter-painted (c .before .before .before .before .before .before .before .before .before .before .before .before .before .before .before .args .scan) fs _ (c .before .before .before .before .before .before .before .before .token .given .1) (m .0) (m .1)
 
 same-length-3 : tie.Need-same-length-3
 same-length-3 c = search needs
 
 returns-2 : tie.Need-returns-2
-returns-2 c = λ fs I. open-painted (c .before .before .before .before .before .before .before .before .before .before .args .scan) fs (c .before .before .before .before .enum-told .given .1) (c .before .before .mark-open .ensures)
+returns-2 c = λ fs I. open-painted (c .before .before .before .before .before .before .before .before .before .before .before .args .scan) fs (c .before .before .before .before .enum-told .given .1) (c .before .before .mark-open .ensures)
 
 same-length-4 : tie.Need-same-length-4
 same-length-4 c = search needs
@@ -100,7 +97,7 @@ same-length-5 c = search needs
 
 returns-3 : tie.Need-returns-3
 returns-3 c = λ fs I.
-    let s = c .before .before .before .before .before .before .before .before .before .before .before .before .before in
+    let s = c .before .before .before .before .before .before .before .before .before .before .before .before .before .before in
     let q = withFrames (s .args .scan) (s .pre .0 .frames) in
     let R = s .pre .0 .ready in
     let Z = s .pre .1 in
@@ -117,15 +114,17 @@ same-length-7 c = search needs
 same-length-8 : tie.Need-same-length-8
 same-length-8 c = search needs
 
+same-length-9 : tie.Need-same-length-9
+same-length-9 c = search needs
+
 returns-4 : tie.Need-returns-4
 returns-4 c = λ fs I.
-    let s = c .before .before .before .before .before .before .before .before .before .before .before .before .before .before .before .before .before .before in
+    let s = c .before .before .before .before .before .before .before .before .before .before .before .before .before .before .before .before .before .before .before .before .before in
     let q = withFrames (s .args .scan) (s .pre .0 .frames) in
-    let t = c .before .before .before .before .before .before .before .before .before .before .before .before .token2 .given in
-    let o = c .before .before .before .before .before .before .before .can-omit in
-    let m = c .before .before .before .before .before .before .mark-close .ensures in
+    let t = c .before .before .before .before .before .before .before .before .before .before .before .before .before .before .token2 .given in
+    let m = c .before .before .before .before .before .before .before .before .mark-close .ensures in
     let inner = ready-close q (s .args .token) (s .pre .0 .ready) (t .0 .0) (t .1) in
-    close-painted (s .args .scan) fs inner (s .args .frame) I (t .0 .0) (t .1) (o .result) (o .ensures) (m .0) (m .1 .0) (m .1 .1)
+    close-painted (s .args .scan) fs inner (s .args .frame) I (t .0 .0) (t .1) (m .0) (m .1 .0) (m .1 .1 .0) (m .1 .1 .1)
 
 pub mark-token-spec : {M : Type 1} → statement M
 mark-token-spec =
@@ -140,7 +139,6 @@ mark-token-spec =
     mark-bar-requires
     enum-known-token-2
     sub-mark-close
-    can-omit-requires
     mark-close-requires
     same-length
     same-length-2
@@ -153,4 +151,5 @@ mark-token-spec =
     same-length-6
     same-length-7
     same-length-8
+    same-length-9
     returns-4)

@@ -1,5 +1,5 @@
 -- What the proofs of the functions cite, and callers.
--- Classes says what four words make. Escapes and Letters say what the models make of a list by its first byte; Progress that the place moves on;
+-- Classes says what four words make. Escapes and Letters say what the models make of a list by its first byte; Progress that each member takes a byte;
 -- Members is the loop over a class.
 pub mod Classes
 pub mod Escapes

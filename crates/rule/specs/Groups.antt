@@ -1,65 +1,44 @@
 -- ALTERNATIVES MADE ONE ITEM: what `group` and its callers read and write.
-use mathlib.Core.Bool.{Bool, true, not, _&&_, _||_, cond}
+use mathlib.Core.Path.{_≡_}
+use mathlib.Core.Bool.{Bool, true}
 use mathlib.Core.List.{List}
-use Prim.Native.Nat.{ℕ, _+_, _*_, _^_, _≤_, _<_}
-use lib.ListN.{drop, length}
+use Prim.Native.Nat.{ℕ}
 use Rattle.model.specs.Bytes.{byte}
-use Rattle.model.specs.Grammar.{grouped}
+use Rattle.model.specs.Edges.{altsEmpty}
+use Rattle.model.specs.Grammar.{bracket, grouped}
 use Rattle.model.specs.Models.Reader.{bind, got, past, Read, readMark}
-use Rattle.model.specs.Tree.{Alts, canOmit, Mark, Seq, unmarked}
-use Rattle.kinds.specs.Places.{Took}
-use Rattle.scan.specs.Tokens.{markOf}
-use Rattle.rule.specs.Parts.{AlternativesSay, PartSays}
-use Rattle.rule.specs.Tokens.{enclosed}
+use Rattle.model.specs.Tree.{Alts, Repeat, Seq}
+use Rattle.model.proofs.Reading.WellFormed.{several}
+use Rattle.kinds.specs.Places.{Stopped, Took}
+use Rattle.rule.specs.Parts.{AlternativesSay, PartSays, seqTokens}
+use Rattle.rule.specs.Tokens.{between, Numbered, Stands}
 use Rattle.rule.specs.declared.Alternatives.{Alternatives}
 use Rattle.rule.specs.declared.Alternatives.the-variants.{Bad as noAlternatives, Got as someAlternatives}
 use Rattle.rule.specs.declared.Part.{Part}
 use Rattle.rule.specs.declared.Part.the-variants.{Bad as noPart, Got as aPart}
-use Rattle.rule.specs.declared.groups.Item.{Item}
-use Rattle.rule.specs.declared.groups.GroupMark.{GroupMark}
 
--- ---- the mark after a `)`
-pub record MarkSays (rule : List ℕ) (at : ℕ) (r : GroupMark) : Type 0 where
-  pub took : Took rule (readMark (drop at rule)) (markOf (r .mark)) (r .place)
-  pub on : at ≤ r .place
+-- ---- a group of alternatives, of which v says whether they are several, and e whether one can be empty
+-- whatever alternatives stand from token n up to `next`, those of the group with the sign k then stand there
+abbrev pub Groups : (n next : ℕ) (v e : Bool) → Repeat → (now after : List ℕ) → ℕ → Type 0
+Groups n next v e k now after r =
+    (a : Alts) (before : List ℕ) → v ≡ several a → e ≡ altsEmpty a → Stands before now n next (between a) → Stands before after n r (seqTokens (grouped a k))
 
--- ---- a group of one alternative or several, of which some can be empty or none, with the mark m
--- it is a union; it can be empty
-abbrev pub isUnion : (several empty : Bool) → Mark → Bool
-isUnion v e m = v || (canOmit m && not e)
+-- ---- alternatives that were read
+-- they stand from token n on
+abbrev pub Counted : ℕ → Alternatives → Type 0
+Counted n (someAlternatives p next v e) = Numbered n next
+Counted n (noAlternatives p) = Unit {0}
 
-abbrev pub isEmpty : Bool → Mark → Bool
-isEmpty e m = canOmit m || e
+-- a whole rule's, as one item
+abbrev pub WholeSays : List ℕ → Read Alts → List ℕ → List ℕ → Part → Type 0
+WholeSays rule m before after (aPart p next e) = (a : Alts) × Took rule m a p × Stands before after 0 next (seqTokens (bracket a))
+WholeSays rule m before after (noPart p) = Stopped rule m p
 
-abbrev pub groupedItem : ℕ → (several empty : Bool) → Mark → Item
-groupedItem next v e m = record { next = cond (isUnion v e m) (next + 2) next; empty = isEmpty e m }
+abbrev pub Wholes : Alternatives → List ℕ → List ℕ → Part → Type 0
+Wholes alternatives now after r =
+    (rule : List ℕ) (m : Read Alts) (before : List ℕ) → AlternativesSay rule 0 m before now alternatives → WholeSays rule m before after r
 
-abbrev pub groupedWords : List ℕ → ℕ → ℕ → (several empty : Bool) → Mark → List ℕ
-groupedWords l n next v e m = cond (isUnion v e m) (enclosed l n next (isEmpty e m)) l
-
--- ---- a whole rule's alternatives
--- a count from which two more are still counted
-abbrev pub Countable : Alternatives → Type 0
-Countable (someAlternatives p next v e) = next < 2 ^ 31
-Countable (noAlternatives p) = Unit {0}
-
-abbrev pub asPart : ℕ → Item → Part
-asPart p i = aPart p (i .next) (i .empty)
-
-abbrev pub bracketed : Alternatives → Part
-bracketed (someAlternatives p next v e) = asPart p (groupedItem next v e unmarked)
-bracketed (noAlternatives p) = noPart p
-
-abbrev pub bracketWords : List ℕ → Alternatives → List ℕ
-bracketWords l (someAlternatives p next v e) = groupedWords l 0 next v e unmarked
-bracketWords l (noAlternatives p) = l
-
--- ---- bracketed alternatives, before their `)`
--- an answer whose place and count are sane
-abbrev pub Sane : List ℕ → ℕ → Alternatives → Type 0
-Sane rule n (someAlternatives p next v e) = (p ≤ length rule) × (n ≤ next) × (next ≤ 999 * p)
-Sane rule n (noAlternatives p) = Unit {0}
-
+-- bracketed ones, before their `)`
 abbrev pub closed : Read Alts → Read Seq
 closed m = bind m (λ a r. bind (past (byte ")") r) (λ y r′. bind (readMark r′) (λ k r″. got (grouped a k) r″)))
 

@@ -2,9 +2,8 @@
 use mathlib.Core.Path.{_≡_}
 use mathlib.Core.Bool.{Bool, true, _&&_, _||_}
 use mathlib.Core.List.{List, []}
-use Prim.Native.Nat.{ℕ, _+_, _*_, _≤_}
+use Prim.Native.Nat.{ℕ, _≤_}
 use lib.ListN.{length}
-use lib.Seq.{sets}
 use Rattle.model.specs.Edges.{altsEmpty, seqEmpty}
 use Rattle.model.specs.Grammar.{repeated}
 use Rattle.model.specs.Models.Reader.{bind, got, Read, readSign}
@@ -12,26 +11,24 @@ use Rattle.model.specs.Models.Tokens.{Token, tokens}
 use Rattle.model.specs.Tree.{Alts, Seq}
 use Rattle.model.proofs.Reading.WellFormed.{several}
 use Rattle.kinds.specs.Places.{Stopped, Took}
-use Rattle.tape.specs.Rows.{rowWords}
-use Rattle.rule.specs.Tokens.{between}
+use Rattle.rule.specs.Tokens.{between, Stands}
 use Rattle.rule.specs.declared.Alternatives.{Alternatives}
 use Rattle.rule.specs.declared.Alternatives.the-variants.{Bad as noAlternatives, Got as someAlternatives}
 use Rattle.rule.specs.declared.Part.{Part}
 use Rattle.rule.specs.declared.Part.the-variants.{Bad as noPart, Got as aPart}
 
--- where a reader may begin: at a place of a rule that is not too long, with at most 999 tokens for each byte before
-pub record Ready (rule : List ℕ) (at n : ℕ) : Type 0 where
+-- where a reader may begin: at a place of a rule that is not too long, with room for the tokens, of which one that is counted comes next
+pub record Ready (rule : List ℕ) (at : ℕ) (tokens : List ℕ) (n : ℕ) : Type 0 where
   pub inside : at ≤ length rule
   pub short : length rule ≤ 1024
-  pub few : n ≤ 999 * at
+  pub room : length tokens ≡ 2555
+  pub few : n ≤ 512
 
 -- the model read a up to p; its tokens stand in the buffer from token n on, up to `next`; and e says whether it can be empty
 module _ {A : Type 0} (row : A → List Token) (empty : A → Bool) (rule : List ℕ) (n : ℕ) (m : Read A) (before after : List ℕ) where
   pub record Wrote (a : A) (p next : ℕ) (e : Bool) : Type 0 where
     pub took : Took rule m a p
-    pub count : next ≡ n + length (row a)
-    pub written : after ≡ sets before (5 * n) (rowWords (row a))
-    pub few : next ≤ 999 * p
+    pub stands : Stands before after n next (row a)
     pub empties : e ≡ empty a
 
 abbrev pub seqTokens : Seq → List Token

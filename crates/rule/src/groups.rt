@@ -1,82 +1,124 @@
 // Groups: alternatives made one item. "A bracketed group may take `?`. The tree keeps it as a union .. But a `?` on a group that can already be empty
-// is dropped" (document 02, Wish 3).
+// is dropped" (document 02, Wish 3). "A bracketed group may take `*` .. `+` on a group is the group and then its `*`" (Wish 12).
 use crate::Alternatives;
 use crate::Part;
+use crate::tokens::double;
 use crate::tokens::enclose;
 use kinds::byte_at;
 use scan::token::Mark;
-use scan::token::can_omit;
+use scan::token::Repeat;
+use scan::token::can_skip;
 ghost use mathlib.Core.Path.{_≡_};
-ghost use Prim.Native.Nat.{_^_, _≤_, _<_};
-ghost use lib.ListN.{length};
-ghost use Rattle.scan.specs.Tokens.{markOf};
-ghost use Rattle.rule.specs.Groups.{bracketed, bracketWords, Closes, Countable, groupedItem, groupedWords, MarkSays, Sane};
+ghost use Prim.Native.Nat.{_≤_};
+ghost use lib.ListN.{drop, length};
+ghost use Rattle.kinds.specs.Places.{Took};
+ghost use Rattle.model.specs.Models.Reader.{readMark};
+ghost use Rattle.model.specs.Models.Tokens.{shown as shownOf};
+ghost use Rattle.model.specs.Tree.{once, unmarked};
+ghost use Rattle.scan.specs.Tokens.{markOf, repeatOf};
+ghost use Rattle.rule.specs.Groups.{Closes, Counted, Groups, Wholes};
+ghost use Rattle.rule.specs.Tokens.{Numbered};
 
-// What a group keeps after its `)`, and the place after that.
-struct GroupMark {
-    mark: Mark,
+// The sign of a group, and the place after it.
+struct GroupSign {
+    repeat: Repeat,
     place: usize,
 }
 
-// The number of the token after an item, and whether the item can be empty.
-struct Item {
-    next: usize,
-    empty: bool,
-}
-
-// The sign of a group, if it has one that a group may keep; any other byte is left to those who read on.
-fn read_mark(rule: &[u8], at: usize) -> GroupMark
+// The sign of a group, if it has one that a group may take; any other byte is left to those who read on.
+fn read_mark(rule: &[u8], at: usize) -> GroupSign
     requires { ⌜ (at ≤ length (now rule)) × (length (now rule) ≤ 1024) ⌝ }
-    ensures { λ r. ⌜ MarkSays (now (rule .entry)) at r ⌝ }
+    ensures { λ r. ⌜ Took (now (rule .entry)) (readMark (drop at (now (rule .entry)))) (repeatOf (r .repeat)) (r .place) ⌝ }
 {
-    if byte_at(rule, at) == b'?' {
-        return GroupMark {
-            mark: Mark::Optional,
+    let x = byte_at(rule, at);
+    if x == b'?' {
+        return GroupSign {
+            repeat: Repeat::Option,
             place: at + 1,
         };
     }
-    GroupMark {
-        mark: Mark::Unmarked,
+    if x == b'*' {
+        return GroupSign {
+            repeat: Repeat::Star,
+            place: at + 1,
+        };
+    }
+    if x == b'+' {
+        return GroupSign {
+            repeat: Repeat::Plus,
+            place: at + 1,
+        };
+    }
+    GroupSign {
+        repeat: Repeat::Once,
         place: at,
     }
 }
 
-// The tokens n to `next` less 1 are those of one alternative or of several, of which some can be empty or none. Several are a union, and so is one with
-// a `?` that it needs; else brackets vanish.
+// What the close of a union without a mark of its own shows: whether an alternative can be empty.
+fn shown(empty: bool) -> Mark
+    ensures { λ r. ⌜ markOf r ≡ shownOf unmarked empty ⌝ }
+{
+    if empty {
+        Mark::Optional
+    } else {
+        Mark::Unmarked
+    }
+}
+
+// The tokens n to `next` less 1 are those of one alternative or of several, of which some can be empty or none: several are a union, and of one the
+// brackets vanish. The number of the token after them.
+fn unite(tokens: &mut [u64; 2555], n: usize, next: usize, several: bool, empty: bool) -> usize
+    requires { ⌜ Numbered n next ⌝ }
+    ensures count { λ r. ⌜ Numbered n r ⌝ }
+    ensures stands { λ r. ⌜ Groups n next several empty once (now (tokens .entry)) (now (tokens .exit)) r ⌝ }
+{
+    if several {
+        return enclose(tokens, n, next, shown(empty));
+    }
+    next
+}
+
+// The same with the sign of a group.
 fn group(
     tokens: &mut [u64; 2555],
     n: usize,
     next: usize,
     several: bool,
     empty: bool,
-    mark: Mark,
-) -> Item
-    requires { ⌜ (n ≤ next) × (next < 2 ^ 31) ⌝ }
-    ensures item { λ r. ⌜ r ≡ groupedItem next several empty (markOf mark) ⌝ }
-    ensures written { λ r. ⌜ now (tokens .exit) ≡ groupedWords (now (tokens .entry)) n next several empty (markOf mark) ⌝ }
+    repeat: Repeat,
+) -> usize
+    requires { ⌜ Numbered n next ⌝ }
+    ensures { λ r. ⌜ Groups n next several empty (repeatOf repeat) (now (tokens .entry)) (now (tokens .exit)) r ⌝ }
 {
-    let omits = can_omit(mark);
-    let over = omits | empty;
-    if several | (omits & !empty) {
-        enclose(tokens, n, next, over);
-        return Item {
-            next: next + 2,
-            empty: over,
-        };
+    match repeat {
+        Repeat::Once => unite(tokens, n, next, several, empty),
+        Repeat::Option => {
+            if empty {
+                return unite(tokens, n, next, several, empty);
+            }
+            enclose(tokens, n, next, Mark::Optional)
+        }
+        Repeat::Star => {
+            let body = unite(tokens, n, next, several, empty);
+            enclose(tokens, n, body, Mark::Starred)
+        }
+        Repeat::Plus => {
+            let end = unite(tokens, n, next, several, empty);
+            let twice = double(tokens, n, end);
+            enclose(tokens, end, twice, Mark::Starred)
+        }
     }
-    Item { next, empty: over }
 }
 
 // The alternatives of a whole rule as one item.
 pub fn bracket(tokens: &mut [u64; 2555], alternatives: Alternatives) -> Part
-    requires { ⌜ Countable alternatives ⌝ }
-    ensures answer { λ r. ⌜ r ≡ bracketed alternatives ⌝ }
-    ensures written { λ r. ⌜ now (tokens .exit) ≡ bracketWords (now (tokens .entry)) alternatives ⌝ }
+    requires { ⌜ Counted 0 alternatives ⌝ }
+    ensures { λ r. ⌜ Wholes alternatives (now (tokens .entry)) (now (tokens .exit)) r ⌝ }
 {
     match alternatives {
         Alternatives::Got(p, next, several, empty) => {
-            let item = group(tokens, 0, next, several, empty, Mark::Unmarked);
-            Part::Got(p, item.next, item.empty)
+            Part::Got(p, unite(tokens, 0, next, several, empty), empty)
         }
         Alternatives::Bad(p) => Part::Bad(p),
     }
@@ -89,7 +131,7 @@ pub fn close_item(
     n: usize,
     alternatives: Alternatives,
 ) -> Part
-    requires { ⌜ (length (now rule) ≤ 1024) × Sane (now rule) n alternatives ⌝ }
+    requires { ⌜ (length (now rule) ≤ 1024) × Counted n alternatives ⌝ }
     ensures { λ r. ⌜ Closes (now (rule .entry)) n alternatives (now (tokens .entry)) (now (tokens .exit)) r ⌝ }
 {
     match alternatives {
@@ -97,10 +139,10 @@ pub fn close_item(
             if byte_at(rule, p) != b')' {
                 return Part::Bad(p);
             }
-            let marked = read_mark(rule, p + 1);
-            let mark = marked.mark;
-            let item = group(tokens, n, next, several, empty, mark);
-            Part::Got(marked.place, item.next, item.empty)
+            let sign = read_mark(rule, p + 1);
+            let repeat = sign.repeat;
+            let end = group(tokens, n, next, several, empty, repeat);
+            Part::Got(sign.place, end, can_skip(repeat) | empty)
         }
         Alternatives::Bad(p) => Part::Bad(p),
     }

@@ -15,7 +15,7 @@ use signs::Sign;
 use signs::read_sign;
 ghost use mathlib.Core.Bool.{true};
 ghost use mathlib.Core.Path.{_≡_};
-ghost use Prim.Native.Nat.{ℕ, _+_};
+ghost use Prim.Native.Nat.{ℕ};
 ghost use lib.ListN.{drop};
 ghost use Rattle.model.specs.Edges.{seqEmpty};
 ghost use Rattle.model.specs.Grammar.{repeated};
@@ -40,7 +40,7 @@ fn can_be_left_out(repeat: Repeat) -> bool
 
 // The repeat sign of a letter.
 fn read_repeated(rule: &[u8], at: usize, class: Class, tokens: &mut [u64; 2555], n: usize) -> Part
-    requires { ⌜ Ready (now rule) at (n + 999) ⌝ }
+    requires { ⌜ Ready (now rule) at (now tokens) n ⌝ }
     ensures { λ r. ⌜ PartSays true (now (rule .entry)) n (afterLetter (bytesOf class) (drop at (now (rule .entry)))) (now (tokens .entry)) (now (tokens .exit)) r ⌝ }
 {
     let sign = read_sign(rule, at);
@@ -55,7 +55,7 @@ fn read_repeated(rule: &[u8], at: usize, class: Class, tokens: &mut [u64; 2555],
 
 // A letter with at most one repeat sign.
 fn read_piece(rule: &[u8], at: usize, tokens: &mut [u64; 2555], n: usize) -> Part
-    requires { ⌜ Ready (now rule) at n ⌝ }
+    requires { ⌜ Ready (now rule) at (now tokens) n ⌝ }
     ensures { λ r. ⌜ PartSays true (now (rule .entry)) n (readPiece (drop at (now (rule .entry)))) (now (tokens .entry)) (now (tokens .exit)) r ⌝ }
 {
     let letter = read_letter(rule, at);
@@ -86,9 +86,9 @@ fn several(empty: bool, rest: Alternatives) -> Alternatives
     }
 }
 
-// A letter with at most one repeat sign, or bracketed alternatives, with `?` or without.
+// A letter with at most one repeat sign, or bracketed alternatives, with `?`, `*` or `+` or without.
 fn read_item(rule: &[u8], at: usize, tokens: &mut [u64; 2555], n: usize) -> Part
-    requires { ⌜ Ready (now rule) at n ⌝ }
+    requires { ⌜ Ready (now rule) at (now tokens) n ⌝ }
     ensures { λ r. ⌜ PartSays true (now (rule .entry)) n (itemOf (drop at (now (rule .entry)))) (now (tokens .entry)) (now (tokens .exit)) r ⌝ }
 {
     if byte_at(rule, at) != b'(' {
@@ -100,7 +100,7 @@ fn read_item(rule: &[u8], at: usize, tokens: &mut [u64; 2555], n: usize) -> Part
 
 // One or more items. "An item that isn't read ends the whole reading at once."
 fn read_sequence(rule: &[u8], at: usize, tokens: &mut [u64; 2555], n: usize) -> Part
-    requires { ⌜ Ready (now rule) at n ⌝ }
+    requires { ⌜ Ready (now rule) at (now tokens) n ⌝ }
     ensures { λ r. ⌜ PartSays true (now (rule .entry)) n (seq (drop at (now (rule .entry)))) (now (tokens .entry)) (now (tokens .exit)) r ⌝ }
 {
     let mut place = at;
@@ -122,7 +122,7 @@ fn read_sequence(rule: &[u8], at: usize, tokens: &mut [u64; 2555], n: usize) -> 
 
 // One or more sequences, with `|` between them.
 pub fn read_alternatives(rule: &[u8], at: usize, tokens: &mut [u64; 2555], n: usize) -> Alternatives
-    requires { ⌜ Ready (now rule) at n ⌝ }
+    requires { ⌜ Ready (now rule) at (now tokens) n ⌝ }
     ensures { λ r. ⌜ AlternativesSay (now (rule .entry)) n (alts (drop at (now (rule .entry)))) (now (tokens .entry)) (now (tokens .exit)) r ⌝ }
 {
     let sequence = read_sequence(rule, at, tokens, n);
@@ -131,8 +131,8 @@ pub fn read_alternatives(rule: &[u8], at: usize, tokens: &mut [u64; 2555], n: us
             if byte_at(rule, p) != b'|' {
                 return Alternatives::Got(p, next, false, empty);
             }
-            put_union(tokens, next, BAR);
-            let rest = read_alternatives(rule, p + 1, tokens, next + 1);
+            let after = put_union(tokens, next, BAR);
+            let rest = read_alternatives(rule, p + 1, tokens, after);
             several(empty, rest)
         }
         Part::Bad(p) => Alternatives::Bad(p),

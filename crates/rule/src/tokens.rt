@@ -1,24 +1,26 @@
 // Tokens, written down as they are read: five words for each, its kind and its class. There is room for the 511 tokens between 512 states; what
-// lies past them is counted by the readers, and not written.
+// lies past them is not written, and the number of a token stops at 512: a group with `+` doubles its tokens, so there may be more than can be counted.
 use letters::Class;
 use letters::none;
+use scan::token::Mark;
 use signs::Repeat;
 ghost use mathlib.Core.Path.{_≡_};
 ghost use mathlib.Core.List.{[], _∷_};
-ghost use Prim.Native.Nat.{_+_, _-_, _*_, _^_, _≤_, _<_};
-ghost use lib.ListN.{drop, length, take};
+ghost use Prim.Native.Nat.{_+_, _-_, _*_, _≤_};
+ghost use lib.ListN.{length};
 ghost use lib.Seq.{sets};
 ghost use Rattle.model.specs.Grammar.{repeated};
 ghost use Rattle.model.specs.Image.{words};
-ghost use Rattle.model.specs.Models.Apart.{markOf};
 ghost use Rattle.model.specs.Models.Tokens.{anOpen, tokens as tokensOf};
 ghost use Rattle.signs.specs.Answers.{signOf};
 ghost use Rattle.letters.specs.Classes.{bytesOf, wordsOf};
+ghost use Rattle.scan.specs.Tokens.{markOf};
 ghost use Rattle.signs.specs.Repeats.{Bounded};
-ghost use Rattle.tape.specs.Rows.{markKind, rowWords, tokenWords};
-ghost use Rattle.rule.specs.Tokens.{enclosed, opened, timesWords};
+ghost use Rattle.tape.specs.Rows.{markKind, tokenWords};
+ghost use Rattle.rule.specs.Tokens.{copied, cut, enclosed, Numbered, opened, Stands, timesWords};
 
-// The kinds of tokens: a letter taken once, `?`, `*` or `+`; a union's open, bar and close, and a close with an edge over its union.
+// The kinds of tokens: a letter taken once, `?`, `*` or `+`; a union's open, bar and close, a close with an edge over its union, and one with an edge back
+// besides.
 pub const ONCE: u64 = 0;
 
 pub const OPTION: u64 = 1;
@@ -35,6 +37,8 @@ pub const CLOSE: u64 = 6;
 
 pub const CLOSE_OVER: u64 = 7;
 
+pub const CLOSE_BACK: u64 = 8;
+
 // How many words there is room for: behind a reference to an array only the slice of all of it tells its length.
 fn room(tokens: &[u64]) -> usize
     ensures { λ r. do ⌜ r ≡ (← ⟦tokens.len()⟧ .entry) ⌝ }
@@ -42,12 +46,13 @@ fn room(tokens: &[u64]) -> usize
     tokens.len()
 }
 
-// Token n.
-pub fn put(tokens: &mut [u64; 2555], n: usize, kind: u64, class: Class)
-    ensures { λ r. ⌜ now (tokens .exit) ≡ sets (now (tokens .entry)) (5 * n) (kind ∷ wordsOf class) ⌝ }
+// Token n, and the number of the token after it.
+pub fn put(tokens: &mut [u64; 2555], n: usize, kind: u64, class: Class) -> usize
+    ensures count { λ r. ⌜ r ≡ cut (n + 1) ⌝ }
+    ensures written { λ r. ⌜ now (tokens .exit) ≡ sets (now (tokens .entry)) (5 * n) (kind ∷ wordsOf class) ⌝ }
 {
     if n >= room(tokens) / 5 {
-        return;
+        return 512;
     }
     let at = 5 * n;
     tokens[at] = kind;
@@ -55,93 +60,101 @@ pub fn put(tokens: &mut [u64; 2555], n: usize, kind: u64, class: Class)
     tokens[at + 2] = class.word1;
     tokens[at + 3] = class.word2;
     tokens[at + 4] = class.word3;
+    n + 1
 }
 
 // Token n, a union's open, bar or close: one that has no class.
-pub fn put_union(tokens: &mut [u64; 2555], n: usize, kind: u64)
-    ensures { λ r. ⌜ now (tokens .exit) ≡ sets (now (tokens .entry)) (5 * n) (kind ∷ words 4 0) ⌝ }
+pub fn put_union(tokens: &mut [u64; 2555], n: usize, kind: u64) -> usize
+    ensures count { λ r. ⌜ r ≡ cut (n + 1) ⌝ }
+    ensures written { λ r. ⌜ now (tokens .exit) ≡ sets (now (tokens .entry)) (5 * n) (kind ∷ words 4 0) ⌝ }
 {
-    put(tokens, n, kind, none());
+    put(tokens, n, kind, none())
 }
 
-// The token n and those after it up to n + count - 1, all alike.
-pub fn put_many(tokens: &mut [u64; 2555], n: usize, count: usize, kind: u64, class: Class)
-    requires { ⌜ n + count < 2 ^ 32 ⌝ }
-    ensures { λ r. ⌜ now (tokens .exit) ≡ sets (now (tokens .entry)) (5 * n) (timesWords count (kind ∷ wordsOf class)) ⌝ }
+// The token n and those after it up to n + count - 1, all alike, and the number of the token after them.
+fn put_many(tokens: &mut [u64; 2555], n: usize, count: usize, kind: u64, class: Class) -> usize
+    requires { ⌜ (length (now tokens) ≡ 2555) × (n ≤ 512) ⌝ }
+    ensures count { λ r. ⌜ r ≡ cut (n + count) ⌝ }
+    ensures written { λ r. ⌜ now (tokens .exit) ≡ sets (now (tokens .entry)) (5 * n) (timesWords count (kind ∷ wordsOf class)) ⌝ }
 {
+    let mut next = n;
     let mut i: usize = 0;
     while i < count {
-        put(tokens, n + i, kind, class);
+        next = put(tokens, next, kind, class);
         i += 1;
     }
+    next
 }
 
-// Tokens `from` to `to` less 1 each one further.
-fn shift(tokens: &mut [u64; 2555], from: usize, to: usize)
-    requires { ⌜ (from ≤ to) × (to < 2 ^ 32) ⌝ }
-    ensures { λ r. ⌜ now (tokens .exit) ≡ sets (now (tokens .entry)) (5 * from + 5) (take (5 * (to - from)) (drop (5 * from) (now (tokens .entry)))) ⌝ }
+// Tokens `from` to `to` less 1 each written `by` further on.
+fn shift(tokens: &mut [u64; 2555], from: usize, to: usize, by: usize)
+    requires { ⌜ Numbered from to × (by ≤ 512) ⌝ }
+    ensures { λ r. ⌜ now (tokens .exit) ≡ copied (now (tokens .entry)) from (to - from) by ⌝ }
 {
     let all = room(tokens);
-    let mut i = if to < all / 5 { 5 * to + 5 } else { all };
-    let stop = 5 * from + 5;
+    let gap = 5 * by;
+    let mut i = if to + by < all / 5 { 5 * to + gap } else { all };
+    let stop = 5 * from + gap;
     while i > stop {
         i -= 1;
-        tokens[i] = tokens[i - 5];
+        tokens[i] = tokens[i - gap];
     }
 }
 
 // An open before the tokens `from` to `to` less 1.
 fn insert_open(tokens: &mut [u64; 2555], from: usize, to: usize)
-    requires { ⌜ (from ≤ to) × (to < 2 ^ 32) ⌝ }
+    requires { ⌜ Numbered from to ⌝ }
     ensures { λ r. ⌜ now (tokens .exit) ≡ opened (now (tokens .entry)) from (to - from) (tokenWords anOpen) ⌝ }
 {
-    shift(tokens, from, to);
+    shift(tokens, from, to, 1);
     put_union(tokens, from, OPEN);
 }
 
-// A close's kind: without an edge over its union, or with one.
-fn close_kind(over: bool) -> u64
-    ensures { λ r. ⌜ r ≡ markKind (markOf over) ⌝ }
+// The kind of a close that shows this mark.
+fn close_kind(mark: Mark) -> u64
+    ensures { λ r. ⌜ r ≡ markKind (markOf mark) ⌝ }
 {
-    if over { CLOSE_OVER } else { CLOSE }
+    match mark {
+        Mark::Unmarked => CLOSE,
+        Mark::Optional => CLOSE_OVER,
+        Mark::Starred => CLOSE_BACK,
+    }
 }
 
-// A union's open before the tokens `from` to `to` less 1, and its close after them; `over` says whether an edge leads over the union.
-pub fn enclose(tokens: &mut [u64; 2555], from: usize, to: usize, over: bool)
-    requires { ⌜ (from ≤ to) × (to < 2 ^ 31) ⌝ }
-    ensures { λ r. ⌜ now (tokens .exit) ≡ enclosed (now (tokens .entry)) from to over ⌝ }
+// A union's open before the tokens `from` to `to` less 1, and after them its close, which shows this mark; the number of the token after it.
+pub fn enclose(tokens: &mut [u64; 2555], from: usize, to: usize, mark: Mark) -> usize
+    requires { ⌜ Numbered from to ⌝ }
+    ensures count { λ r. ⌜ r ≡ cut (to + 2) ⌝ }
+    ensures written { λ r. ⌜ now (tokens .exit) ≡ enclosed (now (tokens .entry)) from to (markOf mark) ⌝ }
 {
     insert_open(tokens, from, to);
-    put_union(tokens, to + 1, close_kind(over));
+    put_union(tokens, to + 1, close_kind(mark))
 }
 
-// A letter with its repeat sign, from token n on; and the number of the token after it.
+// The tokens `from` to `to` less 1 once more, after them; the number of the token after those.
+pub fn double(tokens: &mut [u64; 2555], from: usize, to: usize) -> usize
+    requires { ⌜ Numbered from to ⌝ }
+    ensures count { λ r. ⌜ r ≡ cut (to + (to - from)) ⌝ }
+    ensures written { λ r. ⌜ now (tokens .exit) ≡ copied (now (tokens .entry)) from (to - from) (to - from) ⌝ }
+{
+    let count = to - from;
+    shift(tokens, from, to, count);
+    if to + count > 512 { 512 } else { to + count }
+}
+
+// A letter with its repeat sign, from token n on, and the number of the token after it.
 pub fn put_letter(tokens: &mut [u64; 2555], n: usize, class: Class, repeat: Repeat) -> usize
-    requires { ⌜ (n < 2 ^ 31) × Bounded (signOf repeat) ⌝ }
-    ensures count { λ r. ⌜ r ≡ n + length (tokensOf (repeated (bytesOf class) (signOf repeat)) []) ⌝ }
-    ensures written { λ r. ⌜ now (tokens .exit) ≡ sets (now (tokens .entry)) (5 * n) (rowWords (tokensOf (repeated (bytesOf class) (signOf repeat)) [])) ⌝ }
+    requires { ⌜ (length (now tokens) ≡ 2555) × (n ≤ 512) × Bounded (signOf repeat) ⌝ }
+    ensures { λ r. ⌜ Stands (now (tokens .entry)) (now (tokens .exit)) n r (tokensOf (repeated (bytesOf class) (signOf repeat)) []) ⌝ }
 {
     match repeat {
-        Repeat::Once => {
-            put(tokens, n, ONCE, class);
-            n + 1
-        }
-        Repeat::Option => {
-            put(tokens, n, OPTION, class);
-            n + 1
-        }
-        Repeat::Star => {
-            put(tokens, n, STAR, class);
-            n + 1
-        }
-        Repeat::Plus => {
-            put(tokens, n, PLUS, class);
-            n + 1
-        }
+        Repeat::Once => put(tokens, n, ONCE, class),
+        Repeat::Option => put(tokens, n, OPTION, class),
+        Repeat::Star => put(tokens, n, STAR, class),
+        Repeat::Plus => put(tokens, n, PLUS, class),
         Repeat::Times(x, y) => {
-            put_many(tokens, n, y - x, OPTION, class);
-            put_many(tokens, n + (y - x), x, ONCE, class);
-            n + y
+            let next = put_many(tokens, n, y - x, OPTION, class);
+            put_many(tokens, next, x, ONCE, class)
         }
     }
 }

@@ -1,4 +1,4 @@
 -- What the proofs of the functions cite, and callers.
--- Repeats says what the models make of a list by its first byte; Progress that the place does not move back, and how far numbers go.
+-- Repeats says what the models make of a list by its first byte; Progress how far numbers go.
 pub mod Repeats
 pub mod Progress

@@ -1,19 +1,17 @@
--- EVERY LETTER TAKES A BYTE, so the bytes that are left fall and the place moves on.
+-- EVERY MEMBER OF A CLASS TAKES A BYTE, so the bytes that are left fall.
 use mathlib.Core.Path.{ap}
 use mathlib.Core.List.{List, [], _∷_}
 use Prim.Native.Nat.{ℕ, _≤_, _<_}
 use native.Mathlib.Omega.{arith}
 use lib.Dec.{eqb, leb}
-use lib.ListN.{drop, length, length-append}
+use lib.ListN.{length, length-append}
 use Rattle.model.specs.Bytes.{byte, IsEscape}
-use Rattle.model.specs.Grammar.{bare, class, dot, escape, IsLetter, plain-byte, span}
-use Rattle.model.specs.Models.Reader.{bad, bind, case, got, Read, readEscape, readLetter, readMember, readSingle}
+use Rattle.model.specs.Grammar.{bare, span}
+use Rattle.model.specs.Models.Reader.{bad, bind, case, got, Read, readEscape, readMember, readSingle}
 use Rattle.model.proofs.Laws.Bool.{cond-cases}
 use Rattle.model.proofs.Reading.Answers.{Holds, past-cases, sound-holds}
 use Rattle.model.proofs.Reading.Escapes.{escape-tail, sound-escape}
-use Rattle.model.proofs.Reading.Letters.{sound-letter}
-use Rattle.kinds.specs.Places.{Took}
-use Rattle.kinds.proofs.Laws.Progress.{Falls, further}
+use Rattle.kinds.proofs.Laws.Progress.{Falls}
 use Rattle.letters.specs.Classes.{afterLower, afterMinus}
 
 holds-bind : {A B : Type 0} (P : A → List ℕ → Type 0) (Q : B → List ℕ → Type 0) (m : Read A) (f : A → List ℕ → Read B) → Holds P m
@@ -45,17 +43,3 @@ pub member-falls : (l : List ℕ) → Falls l (readMember l)
 member-falls l =
     holds-bind (λ b r. length r < length l) (λ c r. length r < length l) (readSingle 0 l) afterLower
     (single-falls 0 l) (λ b r h. lower-falls b l r h)
-
--- ---- letters
-letter-long : {u : List ℕ} {c : ℕ} → IsLetter u c → 1 ≤ length u
-letter-long (plain-byte p q h) = omega (arith, ap length p)
-letter-long (escape q d) = escape-long d
-letter-long (dot p q) = omega (arith, ap length p)
-letter-long (class p d) = omega (arith, ap length p)
-
-letter-falls : (l : List ℕ) → Falls l (readLetter l)
-letter-falls l =
-    sound-holds (λ c r. length r < length l) (sound-letter l) (λ u c r e d. omega (arith, ap length e, length-append u r, letter-long d))
-
-pub letter-on : (rule : List ℕ) (at : ℕ) {p c : ℕ} → Took rule (readLetter (drop at rule)) c p → at < p
-letter-on rule at t = further rule t at (letter-falls (drop at rule))

@@ -1,26 +1,25 @@
 -- THE THREE READERS, EACH WAY OUT: what the model does by what its callee read and by the byte that follows, and the tokens written on the way.
 use mathlib.Core.Path.{_≡_, refl, sym, ap, ap₂, _∙_, subst}
 use mathlib.Core.Bool.{Bool, true, false, _&&_, _||_, and-assoc, cond}
-use mathlib.Core.List.{List, [], _∷_, _++_}
-use Prim.Native.Nat.{ℕ, _+_, _-_, _*_, _≤_, _<_}
+use mathlib.Core.List.{List}
+use Prim.Native.Nat.{ℕ, _+_, _*_, _≤_, _<_}
 use native.Mathlib.Omega.{arith}
 use lib.Dec.{eqb, eqb-refl}
-use lib.ListN.{drop, getD, length, length-append}
+use lib.ListN.{drop, getD, length}
 use lib.Seq.{sets}
 use Rattle.model.specs.Bytes.{byte}
 use Rattle.model.specs.Edges.{altsEmpty, seqEmpty}
-use Rattle.model.specs.Grammar.{copies, plainly, repeated, Sign, times}
 use Rattle.model.specs.Models.Reader.{bad, bind, case, got, over, past, Read, readPiece}
 use Rattle.model.specs.Models.Tokens.{aBar, Token}
-use Rattle.model.specs.Tree.{Alts, end, glue, last, more, once, option, Seq}
+use Rattle.model.specs.Tree.{Alts, glue, last, more, Seq}
+use Rattle.model.proofs.Image.Groups.{empty-glue}
 use Rattle.model.proofs.Laws.Bool.{is-true, unequal}
 use Rattle.model.proofs.Reading.Cycle.{alts, alts-is, item, item-falls, item-is, seq, seq-falls, seq-is}
 use Rattle.kinds.specs.Places.{Stopped}
 use Rattle.rule.specs.Groups.{closed}
 use Rattle.rule.specs.Parts.{AlternativesSay, PartSays, seqTokens, severalOf, Wrote}
-use Rattle.signs.specs.Repeats.{Bounded}
-use Rattle.tape.specs.Rows.{rowWords, tokenWords}
-use Rattle.rule.specs.Tokens.{between}
+use Rattle.tape.specs.Rows.{tokenWords}
+use Rattle.rule.specs.Tokens.{between, cut}
 use Rattle.rule.specs.declared.Alternatives.{Alternatives}
 use Rattle.rule.specs.declared.Alternatives.the-variants.{Bad as noAlternatives, Got as someAlternatives}
 use Rattle.rule.specs.declared.Part.{Part}
@@ -28,9 +27,8 @@ use Rattle.rule.specs.declared.Part.the-variants.{Bad as noPart, Got as 
 use Rattle.kinds.proofs.Laws.Binds.{bind-stops}
 use Rattle.kinds.proofs.Laws.Places.{here, inside, stays}
 use Rattle.kinds.proofs.Laws.Progress.{further}
-use Rattle.rule.proofs.Laws.Empty.{glue-empty}
 use Rattle.rule.proofs.Laws.Rows.{glue-tokens}
-use Rattle.rule.proofs.Laws.Written.{copies-length, sets-row-append}
+use Rattle.rule.proofs.Laws.Stands.{room-after, stands-append, stands-one}
 
 -- ---- the byte x, and no other
 module _ (rule : List ℕ) (p : ℕ) {y : ℕ} (e : y ≡ getD rule p 0) (x : ℕ) where
@@ -47,16 +45,9 @@ module _ {A B : Type 0} {row : A → List Token} {row′ : B → List Token} {em
       → Wrote row empty rule n m before after a p next e → Wrote row′ empty′ rule n m′ before after b p next e′
   same-row {a} {b} {p} {next} g r o w = record {
     took = record { reads = g; inside = w .took .inside };
-    count = rw r (w .count);
-    written = rw r (w .written);
-    few = w .few;
+    stands = rw r (w .stands);
     empties = o;
   }
-
--- ---- a letter is written down at most 999 times
-pub repeated-few : (c : ℕ) (q : Sign) → Bounded q → length (seqTokens (repeated c q)) ≤ 999
-repeated-few c (plainly r) h = omega arith
-repeated-few c (times x y) h = omega (arith, copies-length (y - x) c option (copies x c once end), copies-length x c once end)
 
 -- ---- a callee that stops
 module _ (rule : List ℕ) (at : ℕ) {p : ℕ} where
@@ -88,14 +79,10 @@ module _ (rule : List ℕ) (at n : ℕ) {before : List ℕ} where
       glue h t,
       record {
         took = record { reads = after-item ∙ rw (o, v .took .reads); inside = v .took .inside };
-        count = rw (glue-tokens h t) (omega (arith, v .count, w .count, length-append (seqTokens h) (seqTokens t)));
-        written =
-            v .written
-            ∙ rw (w .written, w .count, glue-tokens h t) (sym (sets-row-append before n (seqTokens h) (seqTokens t)));
-        few = v .few;
+        stands = rw (glue-tokens h t) (stands-append (w .stands) (v .stands));
         empties =
             v .empties ∙ ap (λ (b : Bool). (c && b) && seqEmpty t) (w .empties)
-            ∙ and-assoc c (seqEmpty h) (seqEmpty t) ∙ ap (λ (b : Bool). c && b) (sym (glue-empty h t));
+            ∙ and-assoc c (seqEmpty h) (seqEmpty t) ∙ ap (λ (b : Bool). c && b) (sym (empty-glue h t));
       },
     )
     sequence-goes c o final (noPart q) v = record { reads = after-item ∙ rw (o, v .reads); inside = v .inside }
@@ -124,26 +111,16 @@ module _ (rule : List ℕ) (at n : ℕ) {before : List ℕ} where
       after-bar = after-sequence ∙ rw (past-one rule p e (byte "|") bar-inside o)
 
       one-more : {final : List ℕ} {a : Alts} {q k : ℕ} {f : Bool}
-          → Wrote between altsEmpty rule (next + 1) (alts (drop (p + 1) rule)) (sets after (5 * next) (tokenWords aBar)) final a q k f
+          → Wrote between altsEmpty rule (cut (next + 1)) (alts (drop (p + 1) rule)) (sets after (5 * next) (tokenWords aBar)) final a q k f
           → Wrote between altsEmpty rule n (alts (drop at rule)) before final (more s a) q k (c || f)
-      one-more {a = a} v = record {
+      one-more v = record {
         took = record { reads = after-bar ∙ rw (v .took .reads); inside = v .took .inside };
-        count = omega (arith, v .count, w .count, length-append (seqTokens s) (aBar ∷ between a));
-        written =
-            v .written
-            ∙ rw (w .written, w .count) (bar-written (seqTokens s) (between a));
-        few = v .few;
+        stands = stands-append (w .stands) (stands-append (stands-one after next aBar (room-after (w .stands))) (v .stands));
         empties = ap₂ _||_ (w .empties) (v .empties);
       }
-        where
-          bar-written : (u v : List Token)
-              → sets (sets (sets before (5 * n) (rowWords u)) (5 * (n + length u)) (tokenWords aBar)) (5 * (n + length u + 1)) (rowWords v)
-              ≡ sets before (5 * n) (rowWords (u ++ (aBar ∷ v)))
-          bar-written u v =
-              sym (sets-row-append before n u (aBar ∷ v) ∙ sets-row-append (sets before (5 * n) (rowWords u)) (n + length u) (aBar ∷ []) v)
 
       pub alternatives-go : (final : List ℕ) (rest : Alternatives)
-          → AlternativesSay rule (next + 1) (alts (drop (p + 1) rule)) (sets after (5 * next) (tokenWords aBar)) final rest
+          → AlternativesSay rule (cut (next + 1)) (alts (drop (p + 1) rule)) (sets after (5 * next) (tokenWords aBar)) final rest
           → AlternativesSay rule n (alts (drop at rule)) before final (severalOf c rest)
       alternatives-go final (someAlternatives q k v f) (a, u, o) = (more s a, one-more u, refl)
       alternatives-go final (noAlternatives q) v = record { reads = after-bar ∙ rw (v .reads); inside = v .inside }

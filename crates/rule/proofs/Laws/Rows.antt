@@ -4,6 +4,7 @@ use mathlib.Core.List.{List, [], _∷_, _++_, append-assoc}
 use Rattle.model.specs.Edges.{altsEmpty}
 use Rattle.model.specs.Models.Tokens.{aBar, aClose, aLetter, altsTokens, anOpen, shown, Token, tokens}
 use Rattle.model.specs.Tree.{Alts, end, glue, last, letter, Mark, more, Seq, union}
+use Rattle.model.proofs.Image.Groups.{tokens-glue}
 use Rattle.rule.specs.Parts.{seqTokens}
 use Rattle.rule.specs.Tokens.{between}
 
@@ -27,13 +28,5 @@ mutual
       ∙ ap (λ (l : List Token). seqTokens s ++ (aBar ∷ l)) (alts-onto a m rest)
       ∙ sym (append-assoc (seqTokens s) (aBar ∷ between a) (aClose m ∷ rest))
 
-glue-rest : (h t : Seq) (rest : List Token) → tokens (glue h t) rest ≡ tokens h (tokens t rest)
-glue-rest end t rest = refl
-glue-rest (letter c r s) t rest = ap (λ (l : List Token). aLetter c r ∷ l) (glue-rest s t rest)
-glue-rest (union m a s) t rest = ap (λ (l : List Token). anOpen ∷ altsTokens a (shown m (altsEmpty a)) l) (glue-rest s t rest)
-
 pub glue-tokens : (h t : Seq) → seqTokens (glue h t) ≡ seqTokens h ++ seqTokens t
-glue-tokens h t = glue-rest h t [] ∙ tokens-onto h (seqTokens t)
-
-pub union-tokens : (m : Mark) (a : Alts) → seqTokens (union m a end) ≡ anOpen ∷ (between a ++ (aClose (shown m (altsEmpty a)) ∷ []))
-union-tokens m a = ap (λ (l : List Token). anOpen ∷ l) (alts-onto a (shown m (altsEmpty a)) [])
+glue-tokens h t = tokens-glue h t [] ∙ tokens-onto h (seqTokens t)

@@ -18,15 +18,17 @@ use Rattle.model.proofs.Image.Tokens.{length-tokens}
 use Rattle.model.proofs.Laws.Bool.{le-false, le-or-lt, le-true}
 use Rattle.model.proofs.Reading.Cycle.{alts}
 use Rattle.model.proofs.Reading.Decides.{reads}
+use Rattle.kinds.specs.Places.{Took}
+use Rattle.rule.specs.Groups.{WholeSays}
+use Rattle.rule.specs.Parts.{seqTokens}
 use Rattle.rule.specs.Says.{not-a-rule, outcomeOf, read, reading, ReadSays, too-many-states}
-use Rattle.rule.specs.Tokens.{noTokens}
+use Rattle.rule.specs.Tokens.{noTokens, Stands}
 use Rattle.rule.specs.declared.Outcome.{Outcome}
 use Rattle.rule.specs.declared.Outcome.the-variants.{NotARule, TooLong, TooManyStates, Tree}
 use Rattle.rule.specs.declared.Part.{Part}
 use Rattle.rule.specs.declared.Part.the-variants.{Bad as noPart, Got as aPart}
 use Rattle.rule.specs.declared.Reading.{Reading}
 use Rattle.rule.proofs.Outcome.{the-type}
-use Rattle.rule.proofs.Laws.Groups.{Grouped, ItemSays}
 
 -- the tokens are given with a tree, and with nothing else
 abbrev pub answered : Outcome → List ℕ → Reading
@@ -49,34 +51,32 @@ module _ (rule row : List ℕ) (short : length rule ≤ 1024) where
       no-tree : none ≡ some t → ⊥
       no-tree p = let z : _≡_ {A = ℕ} 0 1 = cc in omega arith
 
-  module _ {a : tree.Alts} {p next : ℕ} {e : Bool} (g : Grouped rule 0 (alts rule) noTokens row a tree.unmarked p next e) where
+  module _ {a : tree.Alts} {p next : ℕ} (e : Bool) (t : Took rule (alts rule) a p) (s : Stands noTokens row 0 next (seqTokens (bracket a))) where
     -- bytes are left
     left-over : p < length rule → ReadSays rule (answered (outcomeOf (aPart p next e) (length rule)) row)
-    left-over h = rw (le-true (suc p) (length rule) h) (not-a-rule short (unread (ap whole (g .took .reads) ∙ rw (drop-cons rule p 0 h))) refl)
+    left-over h = rw (le-true (suc p) (length rule) h) (not-a-rule short (unread (ap whole (t .reads) ∙ rw (drop-cons rule p 0 h))) refl)
 
     -- all bytes are read
     module _ (h : length rule ≤ p) where
       is-rule : IsRule rule (bracket a)
-      is-rule = reads rule (bracket a) .1 (ap whole (g .took .reads) ∙ rw (drop-of-length-le rule h))
-
-      size : states (bracket a) ≡ next + 1
-      size = omega (arith, length-tokens (bracket a), g .count)
+      is-rule = reads rule (bracket a) .1 (ap whole (t .reads) ∙ rw (drop-of-length-le rule h))
 
       all-read : ReadSays rule (answered (outcomeOf (aPart p next e) (length rule)) row)
       all-read = go (le-or-lt next 511)
         where
           go : (next ≤ 511) ⊎ (511 < next) → ReadSays rule (answered (outcomeOf (aPart p next e) (length rule)) row)
           go (inl few) =
+              let size : next + 1 ≡ states (bracket a) = omega (arith, length-tokens (bracket a), s .count) in
               rw (le-false (suc p) (length rule) (omega arith), le-false 512 next (omega arith))
-              (read (bracket a) short is-rule (omega (arith, size)) (λ i. reading (Tree (sym size i)) (g .written i)))
+              (read (bracket a) short is-rule (omega arith) (λ i. reading (Tree (size i)) (s .written i)))
           go (inr many) =
               rw (le-false (suc p) (length rule) (omega arith), le-true 512 next (omega arith))
-              (too-many-states (bracket a) short is-rule (omega (arith, size)) refl)
+              (too-many-states (bracket a) short is-rule (omega (arith, length-tokens (bracket a), s .count)) refl)
 
-  pub whole-says : (item : Part) → ItemSays rule 0 (alts rule) noTokens row item → ReadSays rule (answered (outcomeOf item (length rule)) row)
+  pub whole-says : (item : Part) → WholeSays rule (alts rule) noTokens row item → ReadSays rule (answered (outcomeOf item (length rule)) row)
   whole-says (noPart p) s = not-a-rule short (unread (ap whole (s .reads))) refl
-  whole-says (aPart p next e) (a, g) = go (le-or-lt (length rule) p)
+  whole-says (aPart p next e) (a, t, s) = go (le-or-lt (length rule) p)
     where
       go : (length rule ≤ p) ⊎ (p < length rule) → ReadSays rule (answered (outcomeOf (aPart p next e) (length rule)) row)
-      go (inl h) = all-read g h
-      go (inr h) = left-over g h
+      go (inl h) = all-read e t s h
+      go (inr h) = left-over e t s h

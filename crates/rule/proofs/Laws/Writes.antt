@@ -2,12 +2,12 @@
 -- end cuts the run off.
 use mathlib.Core.Path.{_≡_, refl, sym, ap, ap₂, _∙_}
 use mathlib.Core.Logic.{_⊎_, inl, inr}
-use mathlib.Core.List.{List, [], _∷_, _++_}
+use mathlib.Core.List.{List, [], _∷_, _++_, append-assoc}
 use Prim.Native.Nat.{ℕ, zero, suc, _+_, _-_, _≤_, _<_, min}
 use native.Mathlib.Nat.{add-zero}
 use native.Mathlib.Omega.{arith}
 use lib.ListN.{length, getD, set, take, drop}
-use lib.Seq.{append-snoc, drop-cons, getD-set-other, set-comm, set-out, sets}
+use lib.Seq.{append-snoc, drop-at, drop-cons, getD-set-other, length-take-le, set-comm, set-out, sets, sets-eq, take-append-seam}
 use Rattle.model.proofs.Laws.Bool.{le-or-lt}
 use Rattle.model.proofs.Laws.Stores.{sets-cons, sets-nil}
 
@@ -36,6 +36,13 @@ module _ {A : Type 0} where
   sets-take l zero = refl
   sets-take [] (suc n) = refl
   sets-take (x ∷ xs) (suc n) = sets-cons x xs 0 (take n xs) ∙ ap (λ (r : List A). x ∷ r) (sets-take xs n)
+
+  -- what was written can be read where the list's end does not cut it off
+  pub take-written : (l : List A) (i : ℕ) (vs : List A) → i + length vs ≤ length l → take (length vs) (drop i (sets l i vs)) ≡ vs
+  take-written l i vs h =
+      ap (λ (k : List A). take (length vs) (drop i k)) (sets-eq vs l i h ∙ append-assoc (take i l) vs (drop (i + length vs) l))
+      ∙ ap (take (length vs)) (drop-at (take i l) (vs ++ drop (i + length vs) l) i (length-take-le i l (omega arith)))
+      ∙ take-append-seam vs (drop (i + length vs) l)
 
   -- ---- a run moved on, and others put before it: as if it had been written there at first
   opened-nil : (i : ℕ) (vs ws : List A) → sets (sets [] i vs) i (ws ++ take (length vs) (drop i (sets [] i vs))) ≡ sets [] i (ws ++ vs)
@@ -89,9 +96,9 @@ module _ {A : Type 0} where
     moved-none i (inl h) = let z : e - i ≡ 0 = omega arith in ap (λ (n : ℕ). sets l i (take n (drop (i - k) l))) (sym z)
     moved-none i (inr h) = sym (sets-past l i (take (e - i) (drop (i - k) l)) h)
 
-    pub moved-one : (i : ℕ) (t : List A) (d : A) → 1 ≤ k → k < i → i ≤ e → i ≤ length l → Moved l k e i t
+    pub moved-one : (i : ℕ) (t : List A) (d : A) → k < i → i ≤ e → i ≤ length l → Moved l k e i t
         → Moved l k e (i - 1) (set t (i - 1) (getD t (i - 1 - k) d))
-    moved-one i t d p q r b h =
+    moved-one i t d q r b h =
         let ei : i ≡ suc (i - 1) = omega arith in
         let ej : i - k ≡ suc (i - 1 - k) = omega arith in
         let en : suc (e - i) ≡ e - (i - 1) = omega arith in

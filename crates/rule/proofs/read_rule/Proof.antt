@@ -2,28 +2,25 @@
 use mathlib.Core.Path.{_≡_, sym, _∙_}
 use mathlib.Core.List.{List}
 use Prim.Native.Nat.{ℕ, _≤_}
-use lib.ListN.{length}
+use native.Mathlib.Omega.{arith}
+use lib.ListN.{length, length-replicate}
 use borrow.Author.Needs.{needs}
 use Rattle.model.proofs.Reading.Cycle.{alts}
-use Rattle.rule.specs.Groups.{bracketed, bracketWords}
-use Rattle.rule.specs.Parts.{AlternativesSay}
+use Rattle.rule.specs.Groups.{WholeSays}
 use Rattle.rule.specs.Says.{outcomeOf, ReadSays, too-long}
 use Rattle.rule.specs.Tokens.{noTokens}
-use Rattle.rule.specs.declared.Alternatives.{Alternatives}
 use Rattle.rule.specs.declared.Outcome.{Outcome}
 use Rattle.rule.specs.declared.Outcome.the-variants.{Tree}
 use Rattle.rule.specs.declared.Part.{Part}
-use Rattle.rule.proofs.Laws.Groups.{bracket-says, countable, says-sane}
+use Rattle.rule.proofs.Laws.Groups.{says-counted}
 use Rattle.rule.proofs.Laws.Whole.{answered, refused, whole-says}
 use Rattle.rule.proofs.read_rule.Statement.{statement}
 use Rattle.rule.proofs.read_rule.Tie as tie
 
 -- what the parts have answered, put together
-says : (rule now row : List ℕ) (alternatives : Alternatives) (item : Part) (o : Outcome) → length rule ≤ 1024
-    → AlternativesSay rule 0 (alts rule) noTokens now alternatives → item ≡ bracketed alternatives → row ≡ bracketWords now alternatives
+says : (rule row : List ℕ) (item : Part) (o : Outcome) → length rule ≤ 1024 → WholeSays rule (alts rule) noTokens row item
     → o ≡ outcomeOf item (length rule) → ReadSays rule (answered o row)
-says rule now row alternatives item o short s e w q =
-    rw (q, e, w) (whole-says rule (bracketWords now alternatives) short (bracketed alternatives) (bracket-says rule (alts rule) noTokens now alternatives s))
+says rule row item o short s q = rw q (whole-says rule row short item s)
 
 refuse-requires : tie.Need-refuse-requires
 refuse-requires c = search needs
@@ -32,14 +29,13 @@ returns : tie.Need-returns
 returns c = too-long (c .before .if1 .taken) (c .refuse .ensures)
 
 read-alternatives-requires : tie.Need-read-alternatives-requires
-read-alternatives-requires c κs = search needs
+read-alternatives-requires c κs = record { inside = omega arith; short = c .before .if1 .left; room = length-replicate {A = ℕ} 2555 0; few = omega arith }
 
 bracket-requires : tie.Need-bracket-requires
 bracket-requires c κs =
-    let s = c .before .before .before .before .before in
+    let rule = c .before .before .before .before .before .args .rule .now in
     let r = c .before .read-alternatives in
-    let rule = s .args .rule .now in
-    countable rule (r .result) (c .before .before .before .if1 .left) (says-sane rule 0 (alts rule) noTokens (r .last .1 .1 .0) (r .result) (r .ensures))
+    says-counted rule 0 (alts rule) noTokens (r .last .1 .1 .0) (r .result) (omega arith) (r .ensures)
 
 outcome-of-requires : tie.Need-outcome-of-requires
 outcome-of-requires c = search needs
@@ -52,25 +48,24 @@ refuse-requires-2 c = search needs
 
 returns-2 : tie.Need-returns-2
 returns-2 c =
-    let a = c .before .before .before .before .before .before .before .before .before .args in
-    let r = c .before .before .before .before .before .read-alternatives in
-    let k = c .before .before .before .bracket in
-    let o = c .before .before .outcome-of in
-    let row = k .last .0 in
-    rw (c .refuse2 .ensures, ← refused (o .result) row (c .before .match .keys2))
-    (says (a .rule .now) (r .last .1 .1 .0) row (r .result) (k .result) (o .result) (c .before .before .before .before .before .before .before .if1 .left) (r .ensures) (k .ensures .0) (k .ensures .1) (o .ensures))
+    let o = c .before .before in
+    let k = o .before in
+    let r = k .before .before in
+    let rule = r .before .before .before .before .args .rule .now in
+    let row = k .bracket .last .0 in
+    rw (c .refuse2 .ensures, ← refused (o .outcome-of .result) row (c .before .match .keys2))
+    (says rule row (k .bracket .result) (o .outcome-of .result) (r .before .before .if1 .left) (k .bracket .ensures rule (alts rule) noTokens (r .read-alternatives .ensures)) (o .outcome-of .ensures))
 
 returns-3 : tie.Need-returns-3
 returns-3 c =
-    let a = c .before .before .before .before .before .before .before .before .before .args in
-    let r = c .before .before .before .before .before .read-alternatives in
-    let k = c .before .before .before .bracket in
-    let o = c .before .before .outcome-of in
+    let o = c .before .before in
+    let k = o .before in
+    let r = k .before .before in
+    let rule = r .before .before .before .before .args .rule .now in
     let e = c .enum-told .given .1 in
-    let row = k .last .0 in
     rw e
-    (says (a .rule .now) (r .last .1 .1 .0) row (r .result) (k .result) (Tree (c .enum-told .given .0 .0)) (c .before .before .before .before .before .before .before .if1 .left) (r .ensures) (k .ensures .0)
-    (k .ensures .1) (sym e ∙ o .ensures))
+    (says rule (k .bracket .last .0) (k .bracket .result) (Tree (c .enum-told .given .0 .0)) (r .before .before .if1 .left) (k .bracket .ensures rule (alts rule) noTokens (r .read-alternatives .ensures))
+    (sym e ∙ o .outcome-of .ensures))
 
 pub read-rule-spec : {M : Type 1} → statement M
 read-rule-spec =

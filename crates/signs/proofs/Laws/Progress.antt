@@ -1,9 +1,8 @@
--- A SIGN MAY TAKE NO BYTE, so the place does not move back; and its numbers are at most 999.
-use mathlib.Core.Path.{ap}
+-- THE NUMBERS IN A SIGN'S BRACES have at most three digits, so they are at most 999.
 use mathlib.Core.List.{List}
 use Prim.Native.Nat.{ℕ, _≤_}
 use native.Mathlib.Omega.{arith}
-use lib.ListN.{drop, length, length-append, length-drop}
+use lib.ListN.{drop}
 use Rattle.model.specs.Bytes.{digit}
 use Rattle.model.specs.Grammar.{absent, asterisk, both, braces, cross, IsBounds, IsNumber, IsSign, one, question, same, Sign, three, two, upto}
 use Rattle.model.specs.Models.Reader.{readSign}
@@ -30,15 +29,8 @@ bounded (asterisk p q) = rw q tt
 bounded (cross p q) = rw q tt
 bounded (braces p q h k b) = rw q (h, k, bounds-small b)
 
-sign-holds : (l : List ℕ) → Holds (λ q r. Bounded q × (length r ≤ length l)) (readSign l)
-sign-holds l = sound-holds (λ q r. Bounded q × (length r ≤ length l)) (sound-sign l) (λ u q r e d. (bounded d, omega (arith, ap length e, length-append u r)))
+sign-holds : (l : List ℕ) → Holds (λ q r. Bounded q) (readSign l)
+sign-holds l = sound-holds (λ q r. Bounded q) (sound-sign l) (λ u q r e d. bounded d)
 
-module _ (rule : List ℕ) (at : ℕ) {p : ℕ} {q : Sign} (t : Took rule (readSign (drop at rule)) q p) where
-  tells : Bounded q × (length (drop p rule) ≤ length (drop at rule))
-  tells = told rule t (λ s r. Bounded s × (length r ≤ length (drop at rule))) (sign-holds (drop at rule))
-
-  pub sign-on : at ≤ length rule → at ≤ p
-  sign-on h = omega (arith, length-drop at rule, length-drop p rule, t .inside, tells .1)
-
-  pub sign-bounded : Bounded q
-  sign-bounded = tells .0
+pub sign-bounded : (rule : List ℕ) (at : ℕ) {p : ℕ} {q : Sign} → Took rule (readSign (drop at rule)) q p → Bounded q
+sign-bounded rule at t = told rule t (λ q r. Bounded q) (sign-holds (drop at rule))

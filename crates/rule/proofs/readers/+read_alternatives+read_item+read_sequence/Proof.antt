@@ -1,6 +1,6 @@
 -- The three readers do what the model's three do, by one induction: from call to call the bytes that remain fall, and each way out of a reader is
 -- one law of Laws/Cycle.
-use mathlib.Core.Path.{sym, _∙_, subst}
+use mathlib.Core.Path.{sym, ap, _∙_, subst, subst₂}
 use mathlib.Core.Bool.{Bool, true, _&&_}
 use mathlib.Core.List.{List}
 use Prim.Native.Nat.{ℕ, _+_, _-_, _*_, _≤_, _<_}
@@ -8,12 +8,14 @@ use native.Mathlib.Nat.{le-refl}
 use native.Mathlib.Omega.{arith}
 use borrow.Author.Needs.{needs}
 use lib.ListN.{drop, length}
+use Rattle.model.specs.Models.Tokens.{aBar}
 use Rattle.model.proofs.Reading.Cycle.{alts, item, seq}
 use Rattle.rule.specs.Parts.{AlternativesSay, PartSays, Ready}
 use Rattle.rule.specs.declared.Part.{Part}
 use Rattle.rule.specs.declared.Part.the-variants.{Got as aPart}
 use Rattle.rule.proofs.Laws.Cycle.{alternatives-end, alternatives-go, alternatives-stop, item-bracket, item-letter, item-on, sequence-ends, sequence-goes, sequence-on, sequence-stops}
-use Rattle.rule.proofs.Laws.Groups.{says-sane}
+use Rattle.rule.proofs.Laws.Groups.{says-counted}
+use Rattle.rule.proofs.Laws.Stands.{room-after, stands-one}
 use Rattle.kinds.proofs.Laws.Places.{inside}
 use borrow.Fn.Kinds.{In}
 use borrow.Fn.PlainCycle.{Measures, is, falls, and}
@@ -97,13 +99,14 @@ read-item-read-alternatives-requires : (t : ℕ) → read-item-lts.Need-read-alt
 read-item-read-alternatives-requires t c κs =
     let s = c .before .before .before .before in
     let h = inside (s .args .rule .now) (s .args .at) (c .before .before .byte-at .ensures) (λ z. omega (arith, z, c .before .if1 .left)) in
-    (omega (arith, s .pre .0), record { inside = omega arith; short = s .pre .1 .short; few = omega (arith, s .pre .1 .few) })
+    (omega (arith, s .pre .0), record { inside = omega arith; short = s .pre .1 .short; room = s .pre .1 .room; few = s .pre .1 .few })
 
 read-item-close-item-requires : (t : ℕ) → read-item-lts.Need-close-item-requires (item-callees t) (read-item-at t) read-item.Post
 read-item-close-item-requires t c κs =
     let s = c .before .before .before .before .before .before in
     let r = c .before .read-alternatives in
-    (s .pre .1 .short, says-sane (s .args .rule .now) (s .args .n) (alts (drop (s .args .at + 1) (s .args .rule .now))) (s .args .tokens .now) (r .last .1 .1 .0) (r .result) (r .ensures))
+    let a = s .args in
+    (s .pre .1 .short, says-counted (a .rule .now) (a .n) (alts (drop (a .at + 1) (a .rule .now))) (a .tokens .now) (r .last .1 .1 .0) (r .result) (s .pre .1 .few) (r .ensures))
 
 read-item-returns-2 : (t : ℕ) → read-item-lts.Need-returns-2 (item-callees t) (read-item-at t) read-item.Post
 read-item-returns-2 t c =
@@ -115,7 +118,7 @@ read-item-returns-2 t c =
 -- ---- sequences
 -- before an item, which begins at a place of its own: whatever the items from here on say, the whole sequence says
 record Going (rule : List ℕ) (at : ℕ) (before : List ℕ) (n : ℕ) (now : List ℕ) (place next : ℕ) (can-be-empty : Bool) : Type 0 where
-  ready : Ready rule place next
+  ready : Ready rule place now next
   on : at ≤ place
   goes : (final : List ℕ) (r : Part) → PartSays can-be-empty rule next (seq (drop place rule)) now final r → PartSays true rule n (seq (drop at rule)) before final r
 
@@ -182,7 +185,7 @@ read-sequence-loop-again t c =
     let w = item-read t k .1 in
     let o = sym (c .before .is-over .ensures) ∙ c .if1 .left in
     record {
-      ready = record { inside = w .took .inside; short = l .inv .ready .short; few = w .few };
+      ready = record { inside = w .took .inside; short = l .inv .ready .short; room = room-after (w .stands); few = omega (arith, w .stands .count) };
       on = omega (arith, l .inv .on, item-on rule (l .place) (l .next) w);
       goes = λ final q s. l .inv .goes final q (sequence-goes rule (l .place) (l .next) w (l .can-be-empty) o final q s);
     }
@@ -219,24 +222,26 @@ read-alternatives-add-read-alternatives t c =
     let l = k .before .before .before .before .before .before .pre .1 .short in
     search needs
 
-read-alternatives-add-read-alternatives-2 : (t : ℕ) → read-alternatives-lts.Need-add-read-alternatives-2 (alternatives-callees t) (read-alternatives-at t) read-alternatives.Post
-read-alternatives-add-read-alternatives-2 t c =
-    let k = c .before .before .before .before .before in
-    let w = sequence-read t k .1 in
-    let h = w .took .inside in
-    let f = w .few in
-    let l = k .before .before .before .before .before .before .pre .1 .short in
-    search needs
-
 read-alternatives-read-alternatives-requires : (t : ℕ) → read-alternatives-lts.Need-read-alternatives-requires (alternatives-callees t) (read-alternatives-at t) read-alternatives.Post
 read-alternatives-read-alternatives-requires t c κs =
-    let k = c .before .before .before .before .before in
+    let u = c .before in
+    let b = u .before .before .before in
+    let k = b .before in
     let s = k .before .before .before .before .before .before in
+    let g = k .before .sequence .given .0 in
     let w = sequence-read t k .1 in
-    let e = c .before .before .before .before .byte-at .ensures in
+    let e = b .byte-at .ensures in
     let o = sequence-on (s .args .rule .now) (s .args .at) (s .args .n) w e in
-    let h = inside (s .args .rule .now) (k .before .sequence .given .0 .0) e (λ z. omega (arith, z, c .before .before .before .if1 .left)) in
-    (omega (arith, s .pre .0), record { inside = omega arith; short = s .pre .1 .short; few = omega (arith, w .few) })
+    let h = inside (s .args .rule .now) (g .0) e (λ z. omega (arith, z, u .before .before .if1 .left)) in
+    let l = k .before .before .before .read-sequence .last .1 .1 .0 in (
+      omega (arith, s .pre .0),
+      record {
+        inside = omega arith;
+        short = s .pre .1 .short;
+        room = ap length (u .put-union .ensures .1) ∙ room-after (stands-one l (g .1 .0) aBar (room-after (w .stands)));
+        few = omega (arith, u .put-union .ensures .0);
+      },
+    )
 
 read-alternatives-several-requires : (t : ℕ) → read-alternatives-lts.Need-several-requires (alternatives-callees t) (read-alternatives-at t) read-alternatives.Post
 read-alternatives-several-requires t c = search needs
@@ -246,14 +251,16 @@ read-alternatives-enum-known-sequence-2 t c = search needs
 
 read-alternatives-returns-2 : (t : ℕ) → read-alternatives-lts.Need-returns-2 (alternatives-callees t) (read-alternatives-at t) read-alternatives.Post
 read-alternatives-returns-2 t c =
-    let k = c .before .before .before .before .before .before .before in
+    let u = c .before .before .before in
+    let b = u .before .before .before in
+    let k = b .before in
     let a = k .before .before .before .before .before .before .args in
     let g = k .before .sequence .given .0 in
     let r = c .before .read-alternatives in
     rw (c .several .ensures)
-    (alternatives-go (a .rule .now) (a .at) (a .n) (sequence-read t k .1) (c .before .before .before .before .before .before .byte-at .ensures) (c .before .before .before .before .before .if1 .left) (r .last .1 .1 .0) (r .result)
-    (subst (λ (l : List ℕ). AlternativesSay (a .rule .now) (g .1 .0 + 1) (alts (drop (g .0 + 1) (a .rule .now))) l (r .last .1 .1 .0) (r .result))
-    (c .before .before .before .put-union .ensures) (r .ensures)))
+    (alternatives-go (a .rule .now) (a .at) (a .n) (sequence-read t k .1) (b .byte-at .ensures) (u .before .before .if1 .left) (r .last .1 .1 .0) (r .result)
+    (subst₂ (λ (l : List ℕ) (n : ℕ). AlternativesSay (a .rule .now) n (alts (drop (g .0 + 1) (a .rule .now))) l (r .last .1 .1 .0) (r .result))
+    (u .put-union .ensures .1) (u .put-union .ensures .0) (r .ensures)))
 
 read-alternatives-returns-3 : (t : ℕ) → read-alternatives-lts.Need-returns-3 (alternatives-callees t) (read-alternatives-at t) read-alternatives.Post
 read-alternatives-returns-3 t c =
@@ -263,6 +270,6 @@ read-alternatives-returns-3 t c =
 pub +read-alternatives+read-item+read-sequence-spec : {M : Type 1} → statement M
 +read-alternatives+read-item+read-sequence-spec =
     close μ-read-alternatives μ-read-item μ-read-sequence
-    (λ t. read-alternatives-lts.spec (alternatives-callees t) (read-alternatives-at t) read-alternatives.Post (read-alternatives-read-sequence-requires t) (read-alternatives-enum-known-sequence t) (read-alternatives-byte-at-requires t) (read-alternatives-returns t) (read-alternatives-put-union-requires t) (read-alternatives-add-read-alternatives t) (read-alternatives-add-read-alternatives-2 t) (read-alternatives-read-alternatives-requires t) (read-alternatives-several-requires t) (read-alternatives-enum-known-sequence-2 t) (read-alternatives-returns-2 t) (read-alternatives-returns-3 t))
+    (λ t. read-alternatives-lts.spec (alternatives-callees t) (read-alternatives-at t) read-alternatives.Post (read-alternatives-read-sequence-requires t) (read-alternatives-enum-known-sequence t) (read-alternatives-byte-at-requires t) (read-alternatives-returns t) (read-alternatives-put-union-requires t) (read-alternatives-add-read-alternatives t) (read-alternatives-read-alternatives-requires t) (read-alternatives-several-requires t) (read-alternatives-enum-known-sequence-2 t) (read-alternatives-returns-2 t) (read-alternatives-returns-3 t))
     (λ t. read-item-lts.spec (item-callees t) (read-item-at t) read-item.Post (read-item-byte-at-requires t) (read-item-read-piece-requires t) (read-item-returns t) (read-item-add-read-alternatives t) (read-item-read-alternatives-requires t) (read-item-close-item-requires t) (read-item-returns-2 t))
     (λ t. read-sequence-lts.spec (sequence-callees t) (read-sequence-at t) read-sequence.Post Inv-items μ-items (read-sequence-loop-holds t) (read-sequence-read-item-requires t) (read-sequence-enum-known-item t) (read-sequence-enum-told t) (read-sequence-returns t) (read-sequence-is-over-requires t) (read-sequence-returns-2 t) (read-sequence-loop-less t) (read-sequence-loop-again t))

@@ -7,7 +7,7 @@ use Rattle.model.specs.Edges.{seqEmpty}
 use Rattle.model.specs.Grammar.{repeated}
 use Rattle.signs.specs.Answers.{signOf}
 use Rattle.signs.specs.declared.Repeat.{Repeat}
-use Rattle.rule.proofs.Laws.Empty.{times-empty}
+use Rattle.model.proofs.Image.Groups.{empty-times}
 use Rattle.rule.proofs.readers.can_be_left_out.Statement.{statement}
 use Rattle.rule.proofs.readers.can_be_left_out.Tie as tie
 
@@ -44,7 +44,7 @@ returns-4 c class = sym (ap (empty class) (c .enum-told4 .given .1))
 returns-5 : tie.Need-returns-5
 returns-5 c class =
     let g = c .before .repeat .given in
-    sym (times-empty class (g .0 .0) (g .0 .1 .0)) ∙ sym (ap (empty class) (g .1))
+    sym (empty-times class (g .0 .0) (g .0 .1 .0)) ∙ sym (ap (empty class) (g .1))
 
 pub can-be-left-out-spec : {M : Type 1} → statement M
 can-be-left-out-spec =

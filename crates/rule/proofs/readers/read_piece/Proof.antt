@@ -1,10 +1,8 @@
--- A letter, and then its sign; the letter takes at least one byte, which allows for 999 tokens.
+-- A letter, and then its sign.
 use mathlib.Core.Bool.{true}
-use native.Mathlib.Omega.{arith}
 use borrow.Author.Needs.{needs}
 use Rattle.rule.specs.Parts.{afterLetter, PartSays}
 use Rattle.kinds.proofs.Laws.Binds.{bind-goes, bind-stops}
-use Rattle.letters.proofs.Laws.Progress.{letter-on}
 use Rattle.rule.proofs.readers.read_piece.Statement.{statement}
 use Rattle.rule.proofs.readers.read_piece.Tie as tie
 
@@ -18,7 +16,7 @@ read-repeated-requires : tie.Need-read-repeated-requires
 read-repeated-requires c κs =
     let s = c .before .before .before .before .before .before in
     let t = rw (c .before .before .letter .given .1) at (c .before .before .before .before .read-letter .ensures) in
-    record { inside = t .inside; short = s .pre .short; few = omega (arith, s .pre .few, letter-on (s .args .rule .now) (s .args .at) t) }
+    record { inside = t .inside; short = s .pre .short; room = s .pre .room; few = s .pre .few }
 
 enum-known-letter-2 : tie.Need-enum-known-letter-2
 enum-known-letter-2 c = search needs

@@ -1,14 +1,12 @@
--- The sign decides how often the letter is written down: at most 999 times, which is what its byte allows for.
+-- The sign decides how often the letter is written down.
 use mathlib.Core.Path.{refl}
-use native.Mathlib.Omega.{arith}
 use borrow.Author.Needs.{needs}
 use Rattle.model.specs.Grammar.{repeated}
 use Rattle.model.specs.Models.Reader.{got}
 use Rattle.signs.specs.Answers.{signOf}
 use Rattle.letters.specs.Classes.{bytesOf}
 use Rattle.kinds.proofs.Laws.Binds.{bind-gives, bind-stops}
-use Rattle.rule.proofs.Laws.Cycle.{repeated-few}
-use Rattle.signs.proofs.Laws.Progress.{sign-bounded, sign-on}
+use Rattle.signs.proofs.Laws.Progress.{sign-bounded}
 use Rattle.rule.proofs.readers.read_repeated.Statement.{statement}
 use Rattle.rule.proofs.readers.read_repeated.Tie as tie
 
@@ -23,7 +21,7 @@ put-letter-requires c κs =
     let s = c .before .before .before .before .before .before in
     let a = s .args in
     let t = rw (c .before .before .sign .given .1) at (c .before .before .before .before .read-sign .ensures) in
-    (omega (arith, s .pre .few, s .pre .inside, s .pre .short), sign-bounded (a .rule .now) (a .at) t)
+    (s .pre .room, s .pre .few, sign-bounded (a .rule .now) (a .at) t)
 
 can-be-left-out-requires : tie.Need-can-be-left-out-requires
 can-be-left-out-requires c κs = search needs
@@ -33,19 +31,15 @@ enum-known-sign-2 c = search needs
 
 returns : tie.Need-returns
 returns c =
-    let s = c .before .before .before .before .before .before .before .before in
+    let l = c .before in
+    let g = l .before .before .before .sign .given in
+    let s = l .before .before .before .before .before .before .before in
     let a = s .args in
-    let g = c .before .before .before .before .sign .given in
-    let q = signOf (g .0 .0) in
-    let t = rw (g .1) at (c .before .before .before .before .before .before .read-sign .ensures) in
-    let l = c .before .put-letter .ensures in
-    let b = sign-bounded (a .rule .now) (a .at) t in (
+    let q = signOf (g .0 .0) in (
       repeated (bytesOf (a .class)) q,
       record {
-        took = bind-gives t (repeated (bytesOf (a .class))) refl;
-        count = l .0;
-        written = l .1;
-        few = omega (arith, l .0, repeated-few (bytesOf (a .class)) q b, s .pre .few, sign-on (a .rule .now) (a .at) t (s .pre .inside));
+        took = bind-gives (rw (g .1) at (l .before .before .before .before .before .read-sign .ensures)) (repeated (bytesOf (a .class))) refl;
+        stands = l .put-letter .ensures;
         empties = c .can-be-left-out .ensures (bytesOf (a .class));
       },
     )

@@ -2,6 +2,7 @@
 use mathlib.Core.Path.{_∙_, ap₂}
 use mathlib.Core.List.{List, _∷_}
 use Prim.Native.Nat.{ℕ, _+_, _*_}
+use native.Mathlib.Omega.{arith}
 use borrow.Author.Needs.{needs}
 use lib.Seq.{sets}
 use Rattle.model.specs.Image.{words}
@@ -22,9 +23,11 @@ put-union-requires c κs = search needs
 
 returns : tie.Need-returns
 returns c =
-    let a = c .before .before .before .before .before .args in
-    c .put-union .ensures
-    ∙ ap₂ (λ (l : List ℕ) (k : ℕ). sets l (5 * (a .to + 1)) (k ∷ words 4 0)) (c .before .before .before .insert-open .ensures) (c .before .close-kind .ensures)
+    let a = c .before .before .before .before .before .args in (
+      omega (arith, c .put-union .ensures .0),
+      c .put-union .ensures .1
+          ∙ ap₂ (λ (l : List ℕ) (k : ℕ). sets l (5 * (a .to + 1)) (k ∷ words 4 0)) (c .before .before .before .insert-open .ensures) (c .before .close-kind .ensures),
+    )
 
 pub enclose-spec : {M : Type 1} → statement M
 enclose-spec = tie.close (tie.spec insert-open-requires add-put-union close-kind-requires put-union-requires returns)

@@ -1,7 +1,8 @@
 -- `insert_open`: the tokens that follow the open are moved on first, and the open is written before them.
-use mathlib.Core.Path.{ap, _∙_}
+use mathlib.Core.Path.{_≡_, ap, _∙_}
 use mathlib.Core.List.{List}
-use Prim.Native.Nat.{ℕ, _-_, _*_}
+use Prim.Native.Nat.{ℕ, _+_, _-_, _*_}
+use native.Mathlib.Omega.{arith}
 use borrow.Author.Needs.{needs}
 use lib.ListN.{drop, take}
 use lib.Seq.{sets}
@@ -21,9 +22,11 @@ returns : tie.Need-returns
 returns c =
     let a = c .before .before .before .before .args in
     let l = a .tokens .now in
-    c .put-union .ensures
-    ∙ ap (λ (t : List ℕ). sets t (5 * a .from) (tokenWords anOpen)) (c .before .before .shift .ensures)
-    ∙ sets-before l (5 * a .from) (tokenWords anOpen) (take (5 * (a .to - a .from)) (drop (5 * a .from) l))
+    let rest = take (5 * (a .to - a .from)) (drop (5 * a .from) l) in
+    let i : 5 * (a .from + 1) ≡ 5 * a .from + 5 = omega arith in
+    c .put-union .ensures .1
+    ∙ ap (λ (t : List ℕ). sets t (5 * a .from) (tokenWords anOpen)) (c .before .before .shift .ensures ∙ ap (λ (k : ℕ). sets l k rest) i)
+    ∙ sets-before l (5 * a .from) (tokenWords anOpen) rest
 
 pub insert-open-spec : {M : Type 1} → statement M
 insert-open-spec = tie.close (tie.spec shift-requires put-union-requires returns)

@@ -16,7 +16,7 @@ room-requires c κs = search needs
 returns : tie.Need-returns
 returns c =
     let a = c .before .before .before .before .args in
-    sym (sets-past (a .tokens .now) (5 * a .n) (a .kind ∷ wordsOf (a .class)) (omega arith))
+    (omega arith, sym (sets-past (a .tokens .now) (5 * a .n) (a .kind ∷ wordsOf (a .class)) (omega arith)))
 
 mul-at : tie.Need-mul-at
 mul-at c = omega arith
@@ -63,8 +63,11 @@ mul-tokens-5 c = omega arith
 element-write-tokens-5 : tie.Need-element-write-tokens-5
 element-write-tokens-5 c = omega arith
 
+add-result : tie.Need-add-result
+add-result c = omega arith
+
 returns-2 : tie.Need-returns-2
-returns-2 c = simp towards-suc
+returns-2 c = (omega arith, simp towards-suc)
 
 pub put-spec : {M : Type 1} → statement M
 put-spec =
@@ -87,4 +90,5 @@ put-spec =
     add-tokens-4
     mul-tokens-5
     element-write-tokens-5
+    add-result
     returns-2)

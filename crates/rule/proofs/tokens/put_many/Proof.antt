@@ -1,28 +1,27 @@
--- `put_many`: after i turns the token is written i times.
+-- `put_many`: after i turns the token is written i times, and counted as often as there is a number for it.
 use mathlib.Core.Path.{_≡_, refl, sym, ap, _∙_}
 use mathlib.Core.List.{List, _∷_}
 use Prim.Native.Nat.{ℕ, _+_, _-_, _*_, _≤_}
 use native.Mathlib.Numerals.{add-one}
 use native.Mathlib.Omega.{arith}
 use borrow.Author.Needs.{needs}
-use lib.Seq.{sets}
+use lib.Seq.{length-sets, sets}
 use Rattle.letters.specs.Classes.{wordsOf}
-use Rattle.rule.specs.Tokens.{timesWords}
+use Rattle.rule.specs.Tokens.{cut, timesWords}
+use Rattle.rule.proofs.Laws.Stands.{sets-alike}
 use Rattle.rule.proofs.Laws.Written.{sets-times}
 use Rattle.rule.proofs.tokens.put_many.Statement.{statement}
 use Rattle.rule.proofs.tokens.put_many.Tie as tie
 
 abbrev Inv-loop : tie.InvT-loop
-Inv-loop tokens₀ n count kind class i₀ tokens i = (i ≤ count) × (tokens ≡ sets tokens₀ (5 * n) (timesWords i (kind ∷ wordsOf class)))
+Inv-loop tokens₀ n count kind class next₀ i₀ tokens next i =
+    (i ≤ count) × (next ≡ cut (n + i)) × (tokens ≡ sets tokens₀ (5 * n) (timesWords i (kind ∷ wordsOf class)))
 
 abbrev μ-loop : tie.MeasureT-loop
-μ-loop tokens₀ n count kind class i₀ tokens i = count - i
+μ-loop tokens₀ n count kind class next₀ i₀ tokens next i = count - i
 
 loop-holds : tie.Need-loop-holds Inv-loop μ-loop
-loop-holds c = (omega arith, refl)
-
-add-put : tie.Need-add-put Inv-loop μ-loop
-add-put c = omega arith
+loop-holds c = (omega arith, omega arith, refl)
 
 put-requires : tie.Need-put-requires Inv-loop μ-loop
 put-requires c κs = search needs
@@ -36,21 +35,28 @@ loop-less c = omega arith
 loop-again : tie.Need-loop-again Inv-loop μ-loop
 loop-again c =
     let l = c .before .before .before .loop in
-    let a = c .before .before .before .before .args in
-    let ws = a .kind ∷ wordsOf (a .class) in (
+    let s = c .before .before .before .before in
+    let a = s .args in
+    let t = a .tokens .now in
+    let ws = a .kind ∷ wordsOf (a .class) in
+    let written = sets t (5 * a .n) (timesWords (l .i) ws) in (
       omega arith,
-      c .put .ensures
-          ∙ ap (λ (t : List ℕ). sets t (5 * (a .n + l .i)) ws) (l .inv .1)
-          ∙ sets-times (a .tokens .now) (a .n) (l .i) ws refl
-          ∙ ap (λ (k : ℕ). sets (a .tokens .now) (5 * a .n) (timesWords k ws)) (sym (add-one (l .i))),
+      omega (arith, c .put .ensures .0, l .inv .1),
+      c .put .ensures .1
+          ∙ ap (λ (k : List ℕ). sets k (5 * l .next) ws) (l .inv .2)
+          ∙ sets-alike written (length-sets t (5 * a .n) (timesWords (l .i) ws) ∙ s .pre .0) (l .next) (a .n + l .i) ws (omega (arith, l .inv .1))
+          ∙ sets-times t (a .n) (l .i) ws refl
+          ∙ ap (λ (k : ℕ). sets t (5 * a .n) (timesWords k ws)) (sym (add-one (l .i))),
     )
 
 returns : tie.Need-returns Inv-loop μ-loop
 returns c =
     let l = c .before .loop in
     let a = c .before .before .args in
-    let e : l .i ≡ a .count = omega arith in
-    l .inv .1 ∙ ap (λ (k : ℕ). sets (a .tokens .now) (5 * a .n) (timesWords k (a .kind ∷ wordsOf (a .class)))) e
+    let e : l .i ≡ a .count = omega arith in (
+      l .inv .1 ∙ ap (λ (k : ℕ). cut (a .n + k)) e,
+      l .inv .2 ∙ ap (λ (k : ℕ). sets (a .tokens .now) (5 * a .n) (timesWords k (a .kind ∷ wordsOf (a .class)))) e,
+    )
 
 pub put-many-spec : {M : Type 1} → statement M
-put-many-spec = tie.close (tie.spec Inv-loop μ-loop loop-holds add-put put-requires add-i loop-less loop-again returns)
+put-many-spec = tie.close (tie.spec Inv-loop μ-loop loop-holds put-requires add-i loop-less loop-again returns)

@@ -17,7 +17,10 @@ put-requires c κs = search needs
 returns : tie.Need-returns
 returns c =
     let a = c .before .before .before .args in
-    c .put .ensures ∙ ap (λ (ws : List ℕ). sets (a .tokens .now) (5 * a .n) (a .kind ∷ ws)) (no-words (c .before .none .result) (c .before .none .ensures))
+    let n = c .before .none in (
+      c .put .ensures .0,
+      c .put .ensures .1 ∙ ap (λ (ws : List ℕ). sets (a .tokens .now) (5 * a .n) (a .kind ∷ ws)) (no-words (n .result) (n .ensures)),
+    )
 
 pub put-union-spec : {M : Type 1} → statement M
 put-union-spec = tie.close (tie.spec none-requires put-requires returns)

@@ -1,5 +1,5 @@
--- `shift`: the words are moved on by five, the last first, so that none is read after it was written over.
-use mathlib.Core.Path.{_≡_, ap₂, _∙_}
+-- `shift`: the words are moved on, the last first, so that none is read after it was written over.
+use mathlib.Core.Path.{_≡_, ap, ap₂, _∙_}
 use mathlib.Core.Logic.{⊎-elim, inl, inr}
 use Prim.Native.Nat.{ℕ, _+_, _-_, _*_, _≤_, min}
 use native.Mathlib.Omega.{arith}
@@ -11,14 +11,20 @@ use Rattle.rule.proofs.tokens.shift.Statement.{statement}
 use Rattle.rule.proofs.tokens.shift.Tie as tie
 
 abbrev Inv-loop : tie.InvT-loop
-Inv-loop tokens₀ from to all i₀ stop tokens i =
-    (min stop (length tokens₀) ≤ i) × (i ≤ length tokens₀) × (i ≤ 5 * to + 5) × Moved tokens₀ 5 (5 * to + 5) i tokens
+Inv-loop tokens₀ from to by all gap i₀ stop tokens i =
+    (min stop (length tokens₀) ≤ i) × (i ≤ length tokens₀) × (i ≤ 5 * to + gap) × Moved tokens₀ gap (5 * to + gap) i tokens
 
 abbrev μ-loop : tie.MeasureT-loop
-μ-loop tokens₀ from to all i₀ stop tokens i = i
+μ-loop tokens₀ from to by all gap i₀ stop tokens i = i
 
 room-requires : tie.Need-room-requires Inv-loop μ-loop
 room-requires c κs = search needs
+
+mul-gap : tie.Need-mul-gap Inv-loop μ-loop
+mul-gap c = omega arith
+
+add-if1 : tie.Need-add-if1 Inv-loop μ-loop
+add-if1 c = omega arith
 
 mul-i : tie.Need-mul-i Inv-loop μ-loop
 mul-i c = omega arith
@@ -35,7 +41,7 @@ add-stop c = omega arith
 loop-holds : tie.Need-loop-holds Inv-loop μ-loop
 loop-holds c =
     let a = c .before .before .before .before .args in
-    let none = moved-none (a .tokens .now) 5 (5 * a .to + 5) (c .if1 .i) in
+    let none = moved-none (a .tokens .now) (5 * a .by) (5 * a .to + 5 * a .by) (c .if1 .i) in
     ⊎-elim
     (λ w. (omega arith, omega arith, omega arith, none (inl (omega arith))))
     (λ w. (omega arith, omega arith, omega arith, none (inr (omega arith))))
@@ -69,7 +75,7 @@ loop-again c =
       omega arith,
       omega arith,
       omega arith,
-      moved-one (a .tokens .now) 5 (5 * a .to + 5) (l .i) (l .tokens) 0 (omega arith) (omega arith) (omega arith) (omega arith) (l .inv .3),
+      moved-one (a .tokens .now) (5 * a .by) (5 * a .to + 5 * a .by) (l .i) (l .tokens) 0 (omega arith) (omega arith) (omega arith) (l .inv .3),
     )
 
 returns : tie.Need-returns Inv-loop μ-loop
@@ -77,10 +83,13 @@ returns c =
     let l = c .before .loop in
     let a = c .before .before .before .before .before .before .args in
     let t = a .tokens .now in
-    let n : 5 * a .to + 5 - (5 * a .from + 5) ≡ 5 * (a .to - a .from) = omega arith in
-    let k : 5 * a .from + 5 - 5 ≡ 5 * a .from = omega arith in
-    moved-all t 5 (5 * a .to + 5) (5 * a .from + 5) (l .i) (l .tokens) (l .inv .0) (c .loop-test .left) (l .inv .3)
-    ∙ ap₂ (λ (x y : ℕ). sets t (5 * a .from + 5) (take x (drop y t))) n k
+    let gap = 5 * a .by in
+    let i : 5 * a .from + gap ≡ 5 * (a .from + a .by) = omega arith in
+    let n : 5 * a .to + gap - (5 * a .from + gap) ≡ 5 * (a .to - a .from) = omega arith in
+    let k : 5 * a .from + gap - gap ≡ 5 * a .from = omega arith in
+    moved-all t gap (5 * a .to + gap) (5 * a .from + gap) (l .i) (l .tokens) (l .inv .0) (c .loop-test .left) (l .inv .3)
+    ∙ ap₂ (λ (x y : ℕ). sets t (5 * a .from + gap) (take x (drop y t))) n k
+    ∙ ap (λ (j : ℕ). sets t j (take (5 * (a .to - a .from)) (drop (5 * a .from) t))) i
 
 pub shift-spec : {M : Type 1} → statement M
 shift-spec =
@@ -89,6 +98,8 @@ shift-spec =
     Inv-loop
     μ-loop
     room-requires
+    mul-gap
+    add-if1
     mul-i
     add-i
     mul-stop

@@ -20,12 +20,13 @@ pub record Headed (ws : List ℕ) : Type 0 where
   pub few : stateWord ws ≤ 512
   pub width-word : widthWord ws ≡ width (stateWord ws)
   pub shallow : depthWord ws ≤ 8
-  pub long : length ws ≡ 9 + widthWord ws * (515 + 9 * depthWord ws)
+  pub long : length ws ≡ 10 + widthWord ws * (515 + 11 * depthWord ws)
   pub letters-count : getD ws 4 0 ≡ 256 * widthWord ws
   pub repeats-count : getD ws (5 + 256 * widthWord ws) 0 ≡ 256 * widthWord ws
   pub scatter-count : getD ws (6 + 512 * widthWord ws) 0 ≡ 3 * widthWord ws * depthWord ws
   pub gather-count : getD ws (7 + 512 * widthWord ws + 3 * widthWord ws * depthWord ws) 0 ≡ 3 * widthWord ws * depthWord ws
   pub propagate-count : getD ws (8 + 512 * widthWord ws + 6 * widthWord ws * depthWord ws) 0 ≡ 3 * widthWord ws * suc (depthWord ws)
+  pub back-count : getD ws (9 + 515 * widthWord ws + 9 * widthWord ws * depthWord ws) 0 ≡ 2 * widthWord ws * depthWord ws
 
 -- the states that some byte's mask of the letters has, in eight words
 pub record LettersOf (ws row : List ℕ) : Type 0 where

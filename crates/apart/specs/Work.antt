@@ -8,7 +8,7 @@ use lib.Bits.{bitOr}
 use lib.ListN.{drop, getD, length, replicate, take}
 use Rattle.model.specs.Bits.{bit}
 use Rattle.model.specs.Image.{width}
-use Rattle.model.specs.Models.Apart.{depthWord, gatherAt, markOf, propagateAt, repeatOf, scatterAt, stateWord, widthWord}
+use Rattle.model.specs.Models.Apart.{backAt, depthWord, gatherAt, markOf, propagateAt, repeatOf, scatterAt, stateWord, widthWord}
 use Rattle.model.specs.Models.Words.{eachWord, value}
 use Rattle.tape.specs.Joins.{joinWord, Only}
 use Rattle.tape.specs.Rows.{markKind, repeatKind}
@@ -33,11 +33,12 @@ countsFit ws W d =
     eqb (getD ws 4 0) (256 * W)
     && (eqb (getD ws (5 + 256 * W) 0) (256 * W)
     && (eqb (getD ws (6 + 512 * W) 0) (3 * W * d)
-    && (eqb (getD ws (7 + 512 * W + 3 * W * d) 0) (3 * W * d) && eqb (getD ws (8 + 512 * W + 6 * W * d) 0) (3 * W * suc d))))
+    && (eqb (getD ws (7 + 512 * W + 3 * W * d) 0) (3 * W * d)
+    && (eqb (getD ws (8 + 512 * W + 6 * W * d) 0) (3 * W * suc d) && eqb (getD ws (9 + 515 * W + 9 * W * d) 0) (2 * W * d)))))
 
 abbrev pub headerFits : List ℕ → Bool
 headerFits ws =
-    shapeFits ws && (eqb (length ws) (9 + widthWord ws * (515 + 9 * depthWord ws)) && countsFit ws (widthWord ws) (depthWord ws))
+    shapeFits ws && (eqb (length ws) (10 + widthWord ws * (515 + 11 * depthWord ws)) && countsFit ws (widthWord ws) (depthWord ws))
 
 abbrev pub headerIf : Bool → List ℕ → Header
 headerIf b ws = cond b (Sound (stateWord ws) (widthWord ws) (depthWord ws)) Other
@@ -75,13 +76,15 @@ marksOf ws W d = record {
   entered = enteredRow ws (propagateAt W d) W (suc d);
   closes = someRow ws (gatherAt W d + 2 * W) (3 * W) W d;
   opens = someRow ws (scatterAt W + W) (3 * W) W d;
+  returns = someRow ws (backAt W d) (2 * W) W d;
 }
 
 -- the kind of the token from state i to the next
 abbrev pub kindAt : Marks → ℕ → ℕ
 kindAt marks i =
     cond (bit (value (marks .letters)) (suc i)) (repeatKind (repeatOf (bit (value (marks .entered)) (suc i)) (bit (value (marks .loops)) (suc i))))
-    (cond (bit (value (marks .closes)) (suc i)) (markKind (markOf (bit (value (marks .entered)) (suc i)))) (cond (bit (value (marks .opens)) i) 4 5))
+    (cond (bit (value (marks .closes)) (suc i)) (markKind (markOf (bit (value (marks .entered)) (suc i)) (bit (value (marks .returns)) i)))
+    (cond (bit (value (marks .opens)) i) 4 5))
 
 pub record ShownBy (marks : Marks) (n : ℕ) (t : Tape) : Type 0 where
   pub long : t .length ≡ n

@@ -8,14 +8,15 @@ ghost use Rattle.model.specs.Models.Apart.{markOf, repeatOf};
 ghost use Rattle.tape.specs.Rows.{markKind, repeatKind};
 ghost use Rattle.apart.specs.Work.{ShownBy, enteredRow, enteredWords, kindAt, marksOf, orFirst, someRow, someWord};
 
-// The states that some mask has: of the letters, of the repeats, of those that a propagate edge enters, of the gather targets and of the scatter
-// sources.
+// The states that some mask has: of the letters, of the repeats, of those that a propagate edge enters, of the gather targets, of the scatter
+// sources and of the back sources.
 pub struct Marks {
     pub letters: [u64; 8],
     pub loops: [u64; 8],
     pub entered: [u64; 8],
     pub closes: [u64; 8],
     pub opens: [u64; 8],
+    pub returns: [u64; 8],
 }
 
 // Of `count` words, each `stride` words after the one before, the bits that some have.
@@ -74,24 +75,28 @@ fn entered_row(words: &[u64], at: usize, width: usize, count: usize) -> [u64; 8]
     row
 }
 
+// Each row once over all depths: a token then asks one bit of it, however deep the tree is.
 pub fn marks_of(words: &[u64], width: usize, depth: usize) -> Marks
-    requires { ⌜ (width ≤ 8) × (depth ≤ 8) × (lengthOf (now words) ≡ 9 + width * (515 + 9 * depth)) ⌝ }
+    requires { ⌜ (width ≤ 8) × (depth ≤ 8) × (lengthOf (now words) ≡ 10 + width * (515 + 11 * depth)) ⌝ }
     ensures { λ r. ⌜ r ≡ marksOf (now (words .entry)) width depth ⌝ }
 {
     let scatter = 7 + 512 * width;
     let gather = scatter + 1 + 3 * width * depth;
     let propagate = gather + 1 + 3 * width * depth;
+    let back = propagate + 1 + 3 * width * (depth + 1);
     let letters = some_row(words, 5, width, width, 256);
     let loops = some_row(words, 6 + 256 * width, width, width, 256);
     let entered = entered_row(words, propagate, width, depth + 1);
     let closes = some_row(words, gather + 2 * width, 3 * width, width, depth);
     let opens = some_row(words, scatter + width, 3 * width, width, depth);
+    let returns = some_row(words, back, 2 * width, width, depth);
     Marks {
         letters,
         loops,
         entered,
         closes,
         opens,
+        returns,
     }
 }
 
@@ -106,10 +111,13 @@ fn letter_kind(skips: bool, loops: bool) -> u8
     }
 }
 
-// A close's kind: without an edge over its union, or with one.
-fn close_kind(over: bool) -> u8
-    ensures { λ r. ⌜ r ≡ markKind (markOf over) ⌝ }
+// A close's kind: of a group with `*`, or with an edge over its union, or without one.
+fn close_kind(over: bool, returns: bool) -> u8
+    ensures { λ r. ⌜ r ≡ markKind (markOf over returns) ⌝ }
 {
+    if returns {
+        return 8;
+    }
     if over { 7 } else { 6 }
 }
 
@@ -123,11 +131,12 @@ fn kind_at(marks: Marks, i: usize) -> u8
     let loops = marks.loops;
     let closes = marks.closes;
     let opens = marks.opens;
+    let returns = marks.returns;
     if row_has_bit(letters, i + 1) {
         return letter_kind(row_has_bit(entered, i + 1), row_has_bit(loops, i + 1));
     }
     if row_has_bit(closes, i + 1) {
-        return close_kind(row_has_bit(entered, i + 1));
+        return close_kind(row_has_bit(entered, i + 1), row_has_bit(returns, i));
     }
     if row_has_bit(opens, i) { 4 } else { 5 }
 }

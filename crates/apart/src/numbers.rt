@@ -5,18 +5,20 @@ ghost use Prim.Native.Nat.{_+_, _*_, _≤_};
 ghost use lib.ListN.{length};
 ghost use Rattle.apart.specs.Work.{countsFit, headerFits, headerIf, shapeFits};
 
-// "Six sections .. each after its count of words": the counts after the shape's, where the length is right.
+// "Six sections .. each after its count of words", and a seventh: the counts after the shape's, where the length is right.
 fn counts_fit(words: &[u64], width: usize, depth: usize) -> bool
-    requires { ⌜ (width ≤ 8) × (depth ≤ 8) × (length (now words) ≡ 9 + width * (515 + 9 * depth)) ⌝ }
+    requires { ⌜ (width ≤ 8) × (depth ≤ 8) × (length (now words) ≡ 10 + width * (515 + 11 * depth)) ⌝ }
     ensures { λ r. ⌜ r ≡ countsFit (now (words .entry)) width depth ⌝ }
 {
     let letters = 256 * width;
     let unions = 3 * width * depth;
+    let propagates = unions + 3 * width;
     words[4] == letters as u64
         && words[5 + letters] == letters as u64
         && words[6 + 2 * letters] == unions as u64
         && words[7 + 2 * letters + unions] == unions as u64
-        && words[8 + 2 * letters + 2 * unions] == (unions + 3 * width) as u64
+        && words[8 + 2 * letters + 2 * unions] == propagates as u64
+        && words[9 + 2 * letters + 2 * unions + propagates] == (2 * width * depth) as u64
 }
 
 // The shape, before the length is known to fit it.
@@ -51,7 +53,7 @@ pub fn read_header(words: &[u64]) -> Header
     let Header::Sound(states, width, depth) = shape else {
         return shape;
     };
-    if words.len() != 9 + width * (515 + 9 * depth) {
+    if words.len() != 10 + width * (515 + 11 * depth) {
         return Header::Other;
     }
     if !counts_fit(words, width, depth) {

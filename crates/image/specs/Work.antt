@@ -7,16 +7,16 @@ use lib.Bits.{bitOr}
 use lib.ListN.{drop, getD, set, take}
 use Rattle.model.specs.Bits.{bit}
 use Rattle.model.specs.Image.{join, section}
-use Rattle.model.specs.Models.LayOut.{gather-block, gather-source, gather-target, loop-place, scatter-block, scatter-source, scatter-target}
+use Rattle.model.specs.Models.LayOut.{back-source, back-target, gather-block, gather-source, gather-target, loop-place, scatter-block, scatter-source, scatter-target}
 use Rattle.model.specs.Models.LayOut.{set as statesIn}
 use Rattle.model.specs.Models.Words.{andWords}
 use Rattle.tape.specs.Tables.{Table}
 use Rattle.tape.specs.Tapes.{propagateBlockTable, propagateSourceTable, propagateTargetTable, tableOf}
 use Rattle.tape.specs.declared.Tape.{Tape}
 
--- the kinds of a tape are those of the tokens; what is past the kinds of tokens is a close with an edge over its union
+-- the kinds of a tape are those of the tokens; what is past the kinds of tokens is the close of a group with `*`
 abbrev pub KindsAre : List ℕ → List ℕ → Type 0
-KindsAre row kinds = (i : ℕ) → i < 511 → getD kinds i 0 ≡ min (getD row (5 * i) 0) 7
+KindsAre row kinds = (i : ℕ) → i < 511 → getD kinds i 0 ≡ min (getD row (5 * i) 0) 8
 
 -- byte b is in the class of token i; token i leads to state i + 1
 abbrev pub inClass : List ℕ → ℕ → ℕ → Bool
@@ -66,6 +66,12 @@ threeRows width block source target = take width block ++ (take width source ++ 
 abbrev pub tablesPart : ℕ → ℕ → Table → Table → Table → List ℕ
 tablesPart width depths block source target = section (join depths 0 (λ k. threeRows width (getD block k []) (getD source k []) (getD target k [])))
 
+abbrev pub twoRows : ℕ → List ℕ → List ℕ → List ℕ
+twoRows width source target = take width source ++ take width target
+
+abbrev pub backPart : ℕ → ℕ → Table → Table → List ℕ
+backPart width depths source target = section (join depths 0 (λ k. twoRows width (getD source k []) (getD target k [])))
+
 -- the whole image of a row of tokens and its tape
 abbrev pub imageWords : ℕ → ℕ → List ℕ → Tape → List ℕ
 imageWords width depth row tape =
@@ -74,4 +80,5 @@ imageWords width depth row tape =
     ++ (repeatsPart width row (tape .length) (getD (tableOf tape loop-place) 0 [])
     ++ (tablesPart width depth (tableOf tape scatter-block) (tableOf tape scatter-source) (tableOf tape scatter-target)
     ++ (tablesPart width depth (tableOf tape gather-block) (tableOf tape gather-source) (tableOf tape gather-target)
-    ++ tablesPart width (suc depth) (propagateBlockTable tape) (propagateSourceTable tape) (propagateTargetTable tape)))))
+    ++ (tablesPart width (suc depth) (propagateBlockTable tape) (propagateSourceTable tape) (propagateTargetTable tape)
+    ++ backPart width depth (tableOf tape back-source) (tableOf tape back-target))))))

@@ -31,7 +31,15 @@ pub fn store(tokens: [u64; 2555], length: usize, words: &mut [u64]) -> Stored
     let mut scatter = [0u64; 216];
     let mut gather = [0u64; 216];
     let mut propagate = [0u64; 216];
-    let shape = lay_out(tape, &mut places, &mut scatter, &mut gather, &mut propagate);
+    let mut back = [0u64; 216];
+    let shape = lay_out(
+        tape,
+        &mut places,
+        &mut scatter,
+        &mut gather,
+        &mut propagate,
+        &mut back,
+    );
     let Shape::Tree(depth) = shape else {
         return Stored::NoTree;
     };
@@ -50,6 +58,7 @@ pub fn store(tokens: [u64; 2555], length: usize, words: &mut [u64]) -> Stored
         &scatter,
         &gather,
         &propagate,
+        &back,
     );
     Stored::Done(size)
 }

@@ -5,11 +5,11 @@ ghost use Prim.Native.Nat.{_+_, _*_, _≤_, min};
 ghost use Rattle.model.specs.Image.{width as widthOf};
 ghost use Rattle.image.specs.Work.{KindsAre};
 
-// A kind of the tape; what is past the kinds of tokens is to it a close with an edge over its union.
+// A kind of the tape; what is past the kinds of tokens is to it the close of a group with `*`.
 fn kind_of(word: u64) -> u8
-    ensures { λ r. ⌜ r ≡ min word 7 ⌝ }
+    ensures { λ r. ⌜ r ≡ min word 8 ⌝ }
 {
-    if word < 7 { word as u8 } else { 7 }
+    if word < 8 { word as u8 } else { 8 }
 }
 
 // The tokens without their classes.
@@ -34,10 +34,10 @@ pub fn width_of(states: usize) -> usize
     (states + 63) / 64
 }
 
-// "The length is 9 + W(515 + 9d) words."
+// "The length is 9 + W(515 + 9d) words", and "lengths grow by 1 + 2Wd".
 pub fn image_length(width: usize, depth: usize) -> usize
     requires { ⌜ (width ≤ 8) × (depth ≤ 8) ⌝ }
-    ensures { λ r. ⌜ r ≡ 9 + width * (515 + 9 * depth) ⌝ }
+    ensures { λ r. ⌜ r ≡ 10 + width * (515 + 11 * depth) ⌝ }
 {
-    9 + width * (515 + 9 * depth)
+    10 + width * (515 + 11 * depth)
 }

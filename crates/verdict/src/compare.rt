@@ -6,9 +6,8 @@ ghost use mathlib.Core.Path.{_≡_};
 ghost use mathlib.Core.Bool.{not};
 ghost use Prim.Native.Nat.{_+_, _*_, _≤_};
 ghost use lib.ListN.{length as lengthOf};
-ghost use Rattle.tape.specs.Masks.{tableIn};
 ghost use Rattle.tape.specs.Says.{Laid};
-ghost use Rattle.verdict.specs.Work.{sameAll, sameRepeats, sameTables};
+ghost use Rattle.verdict.specs.Work.{sameAll, sameMasks, sameRepeats};
 
 // Each mask of the repeats is the byte's mask of the letters at the loops' places.
 fn repeats_differ(words: &[u64], width: usize, loops: [u64; 8]) -> bool
@@ -31,19 +30,30 @@ fn repeats_differ(words: &[u64], width: usize, loops: [u64; 8]) -> bool
     differ
 }
 
-// Three masks for each of the first depths, from a place on, with those laid out: by depths, masks and words.
-fn tables_differ(words: &[u64], at: usize, width: usize, depths: usize, masks: &[u64]) -> bool
-    requires { ⌜ (width ≤ 8) × (depths ≤ 9) × (at + 3 * width * depths ≤ lengthOf (now words)) × (lengthOf (now masks) ≡ 216) ⌝ }
-    ensures { λ r. ⌜ r ≡ not (sameTables (now (words .entry)) at width depths (tableIn (now (masks .entry)) 0) (tableIn (now (masks .entry)) 1) (tableIn (now (masks .entry)) 2)) ⌝ }
+// Masks for each of the first depths, from a place on, with those laid out, of which there are three to a depth: `count` of them, from `first` on. By
+// depths, masks and words.
+fn masks_differ(
+    words: &[u64],
+    at: usize,
+    width: usize,
+    depths: usize,
+    first: usize,
+    count: usize,
+    masks: &[u64],
+) -> bool
+    requires { ⌜ (width ≤ 8) × (depths ≤ 9) × (first + count ≤ 3) × (at + count * width * depths ≤ lengthOf (now words)) × (lengthOf (now masks) ≡ 216) ⌝ }
+    ensures { λ r. ⌜ r ≡ not (sameMasks (now (words .entry)) at width depths first count (now (masks .entry))) ⌝ }
 {
     let mut differ = false;
     let mut k: usize = 0;
     'search: while k < depths {
         let mut which: usize = 0;
-        while which < 3 {
+        while which < count {
             let mut j: usize = 0;
             while j < width {
-                if words[at + (3 * k + which) * width + j] != masks[8 * (3 * k + which) + j] {
+                if words[at + (count * k + which) * width + j]
+                    != masks[8 * (3 * k + first + which) + j]
+                {
                     differ = true;
                     break 'search;
                 }
@@ -67,14 +77,16 @@ pub fn agrees(
     scatters: &[u64; 216],
     gathers: &[u64; 216],
     propagates: &[u64; 216],
+    backs: &[u64; 216],
 ) -> bool
-    requires shape { ⌜ (width ≤ 8) × (depth ≤ 8) × (lengthOf (now words) ≡ 9 + width * (515 + 9 * depth)) ⌝ }
-    requires laid { ⌜ Laid tape (now places) (now scatters) (now gathers) (now propagates) ⌝ }
+    requires shape { ⌜ (width ≤ 8) × (depth ≤ 8) × (lengthOf (now words) ≡ 10 + width * (515 + 11 * depth)) ⌝ }
+    requires laid { ⌜ Laid tape (now places) (now scatters) (now gathers) (now propagates) (now backs) ⌝ }
     ensures { λ r. ⌜ r ≡ sameAll (now (words .entry)) width depth letters tape ⌝ }
 {
     let scatter = 7 + 512 * width;
     let gather = scatter + 1 + 3 * width * depth;
     let propagate = gather + 1 + 3 * width * depth;
+    let back = propagate + 1 + 3 * width * (depth + 1);
     let letter_places = row_of(places, 0);
     if !same_rows(letters, letter_places) {
         return false;
@@ -83,11 +95,14 @@ pub fn agrees(
     if repeats_differ(words, width, loop_places) {
         return false;
     }
-    if tables_differ(words, scatter, width, depth, scatters) {
+    if masks_differ(words, scatter, width, depth, 0, 3, scatters) {
         return false;
     }
-    if tables_differ(words, gather, width, depth, gathers) {
+    if masks_differ(words, gather, width, depth, 0, 3, gathers) {
         return false;
     }
-    !tables_differ(words, propagate, width, depth + 1, propagates)
+    if masks_differ(words, propagate, width, depth + 1, 0, 3, propagates) {
+        return false;
+    }
+    !masks_differ(words, back, width, depth, 1, 2, backs)
 }

@@ -52,7 +52,15 @@ pub fn check(words: &[u64]) -> Checked
     let mut scatter = [0u64; 216];
     let mut gather = [0u64; 216];
     let mut propagate = [0u64; 216];
-    let shape = lay_out(tape, &mut places, &mut scatter, &mut gather, &mut propagate);
+    let mut back = [0u64; 216];
+    let shape = lay_out(
+        tape,
+        &mut places,
+        &mut scatter,
+        &mut gather,
+        &mut propagate,
+        &mut back,
+    );
     let Shape::Tree(deepest) = shape else {
         return refuse();
     };
@@ -70,6 +78,7 @@ pub fn check(words: &[u64]) -> Checked
         &scatter,
         &gather,
         &propagate,
+        &back,
     ) {
         return refuse();
     }

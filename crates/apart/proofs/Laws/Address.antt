@@ -14,13 +14,13 @@ module _ (ws S : List ℕ) (a W : ℕ) (e : S ≡ drop a ws) where
   pub chunk-at : (k : ℕ) → wordsAt ws (a + W * k) W ≡ chunk W k S
   chunk-at k = sym (model.chunk-at W k a S ws e)
 
-  -- mask j of the three of depth k
-  pub three-at : (j k at : ℕ) → W * j + W ≤ 3 * W → at ≡ a + 3 * W * k + W * j → wordsAt ws at W ≡ chunk W j (chunk (3 * W) k S)
-  three-at j k at h q =
-      sym (model.part-of-part W (W * j) (3 * W) (drop (3 * W * k) S) h
-      ∙ ap (λ (l : List ℕ). take W (drop (W * j) (drop (3 * W * k) l))) e
-      ∙ ap (λ (l : List ℕ). take W (drop (W * j) l)) (drop-drop (3 * W * k) a ws)
-      ∙ ap (take W) (drop-drop (W * j) (a + 3 * W * k) ws)
+  -- mask j of the n of depth k
+  pub part-at : (n j k at : ℕ) → W * j + W ≤ n * W → at ≡ a + n * W * k + W * j → wordsAt ws at W ≡ chunk W j (chunk (n * W) k S)
+  part-at n j k at h q =
+      sym (model.part-of-part W (W * j) (n * W) (drop (n * W * k) S) h
+      ∙ ap (λ (l : List ℕ). take W (drop (W * j) (drop (n * W * k) l))) e
+      ∙ ap (λ (l : List ℕ). take W (drop (W * j) l)) (drop-drop (n * W * k) a ws)
+      ∙ ap (take W) (drop-drop (W * j) (a + n * W * k) ws)
       ∙ ap (λ (n : ℕ). wordsAt ws n W) (sym q))
 
 pub repeats-at : (ws : List ℕ) → repeatsIn ws ≡ drop (6 + 256 * widthWord ws) ws

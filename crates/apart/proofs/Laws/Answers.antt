@@ -26,7 +26,7 @@ module _ {ws : List ℕ} {m W d : ℕ} (D : Told (headerFits ws) ws m W d) where
   headed : Headed ws
   headed = header-is ws .0 (D .passed)
 
-  pub room-told : (W ≤ 8) × (d ≤ 8) × (length ws ≡ 9 + W * (515 + 9 * d))
+  pub room-told : (W ≤ 8) × (d ≤ 8) × (length ws ≡ 10 + W * (515 + 11 * d))
   room-told = sized headed (D .width-is) (D .depth-is)
 
   pub counted : (1 ≤ m) × (m - 1 ≤ 511)

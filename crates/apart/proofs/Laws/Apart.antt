@@ -8,7 +8,7 @@ use native.Mathlib.Nat.{le-of-suc-le-suc, not-suc-le-zero, zero-add, zero-lt-suc
 use native.Mathlib.Omega.{arith}
 use lib.ListN.{drop, getD, length, take}
 use Rattle.model.specs.Bits.{bit, mask}
-use Rattle.model.specs.Models.Apart.{anyBelow, bitOf, bitOfThree, chunk, depthWord, gatherAt, gatherIn, lettersIn, markOf, propagateAt, propagateIn, repeatOf, repeatsIn, scatterAt, scatterIn, stateWord, tape, tokenAt, tokenOf, tokensBetween, tokensFrom, widthWord}
+use Rattle.model.specs.Models.Apart.{anyBelow, backAt, backIn, bitOf, bitOfThree, bitOfTwo, chunk, depthWord, gatherAt, gatherIn, lettersIn, markOf, propagateAt, propagateIn, repeatOf, repeatsIn, scatterAt, scatterIn, stateWord, tape, tokenAt, tokenOf, tokensBetween, tokensFrom, widthWord}
 use Rattle.model.specs.Models.Tokens.{Token}
 use Rattle.model.specs.Models.Words.{Fit, value}
 use Rattle.model.proofs.Image.SameBits.{fit-drop, fit-take}
@@ -19,16 +19,17 @@ use Rattle.scan.specs.Tokens as kinds
 use Rattle.tape.specs.declared.Tape.{Tape}
 use Rattle.tape.proofs.Tokens.{read-kind}
 use Rattle.apart.specs.Work.{ShownBy, enteredWords, kindAt, marksOf, orRows, wordsAt}
-use Rattle.model.proofs.Image.Address.{gather-at, part-fits, propagate-at, scatter-at}
-use Rattle.apart.proofs.Laws.Address.{chunk-at, repeats-at, three-at}
+use Rattle.model.proofs.Image.Address.{back-at, gather-at, part-fits, propagate-at, scatter-at}
+use Rattle.apart.proofs.Laws.Address.{chunk-at, part-at, repeats-at}
 use Rattle.apart.proofs.Laws.Rows.{entered-long, Mask, only-bit, only-fit, rows-bit, rows-fit, rows-length, words-long}
 
 -- ---- a token by its kind
-kind-is : (l : Bool) (class : ℕ) (s p c o : Bool) → cond l (repeatKind (repeatOf s p)) (cond c (markKind (markOf s)) (cond o 4 5)) ≡ kindOf (tokenOf l class s p c o)
-kind-is true class s p c o = refl
-kind-is false class s p true o = refl
-kind-is false class s p false true = refl
-kind-is false class s p false false = refl
+kind-is : (l : Bool) (class : ℕ) (s p c o b : Bool)
+    → cond l (repeatKind (repeatOf s p)) (cond c (markKind (markOf s b)) (cond o 4 5)) ≡ kindOf (tokenOf l class s p c o b)
+kind-is true class s p c o b = refl
+kind-is false class s p true o b = refl
+kind-is false class s p false true b = refl
+kind-is false class s p false false b = refl
 
 read-row : (n a : ℕ) (f : ℕ → Token) (ks : List ℕ) → n ≤ length ks → ((i : ℕ) → i < n → getD ks i 0 ≡ kindOf (f (a + i)))
     → readKinds (take n ks) ≡ bares (tokensFrom n a f)
@@ -49,7 +50,7 @@ row-bit n f g x M e = rows-bit f n x M ∙ below-same n (λ k. bit (value (f k))
 mask-bit : {xs ys : List ℕ} (x : ℕ) → xs ≡ ys → bit (value xs) x ≡ bit (value ys) x
 mask-bit x e = ap (λ (l : List ℕ). bit (value l) x) e
 
-module _ (ws : List ℕ) (fit : Fit ws) (W d : ℕ) (narrow : W ≤ 8) (long : length ws ≡ 9 + W * (515 + 9 * d)) where
+module _ (ws : List ℕ) (fit : Fit ws) (W d : ℕ) (narrow : W ≤ 8) (long : length ws ≡ 10 + W * (515 + 11 * d)) where
   words-fit : (at : ℕ) → Fit (wordsAt ws at W)
   words-fit at = fit-take W (drop at ws) (fit-drop at ws fit)
 
@@ -79,7 +80,7 @@ module _ (ws : List ℕ) (fit : Fit ws) where
   abbrev d : ℕ
   d = depthWord ws
 
-  module _ (narrow : W ≤ 8) (long : length ws ≡ 9 + W * (515 + 9 * d)) where
+  module _ (narrow : W ≤ 8) (long : length ws ≡ 10 + W * (515 + 11 * d)) where
     masks : (at : ℕ) → at + W ≤ length ws → Mask (wordsAt ws at W)
     masks = words-mask ws fit W d narrow long
 
@@ -93,7 +94,7 @@ module _ (ws : List ℕ) (fit : Fit ws) where
     closes-row x =
         row-bit d (λ k. wordsAt ws (at k) W) (λ k. bitOfThree W (gatherIn ws) 2 k x) x
         (λ k h. masks (at k) (omega (arith, part-fits (3 * W) h)))
-        (λ k h. mask-bit x (three-at ws (gatherIn ws) (gatherAt W d) W (gather-at ws) 2 k (at k) (omega arith) (omega arith)))
+        (λ k h. mask-bit x (part-at ws (gatherIn ws) (gatherAt W d) W (gather-at ws) 3 2 k (at k) (omega arith) (omega arith)))
       where
         at : ℕ → ℕ
         at k = gatherAt W d + 2 * W + 3 * W * k
@@ -102,10 +103,19 @@ module _ (ws : List ℕ) (fit : Fit ws) where
     opens-row x =
         row-bit d (λ k. wordsAt ws (at k) W) (λ k. bitOfThree W (scatterIn ws) 1 k x) x
         (λ k h. masks (at k) (omega (arith, part-fits (3 * W) h)))
-        (λ k h. mask-bit x (three-at ws (scatterIn ws) (scatterAt W) W (scatter-at ws) 1 k (at k) (omega arith) (omega arith)))
+        (λ k h. mask-bit x (part-at ws (scatterIn ws) (scatterAt W) W (scatter-at ws) 3 1 k (at k) (omega arith) (omega arith)))
       where
         at : ℕ → ℕ
         at k = scatterAt W + W + 3 * W * k
+
+    returns-row : (x : ℕ) → bit (value (marksOf ws W d .returns)) x ≡ anyBelow d (λ k. bitOfTwo W (backIn ws) 0 k x)
+    returns-row x =
+        row-bit d (λ k. wordsAt ws (at k) W) (λ k. bitOfTwo W (backIn ws) 0 k x) x
+        (λ k h. masks (at k) (omega (arith, part-fits (2 * W) h)))
+        (λ k h. mask-bit x (part-at ws (backIn ws) (backAt W d) W (back-at ws) 2 0 k (at k) (omega arith) (omega arith)))
+      where
+        at : ℕ → ℕ
+        at k = backAt W d + 2 * W * k
 
     -- in a block and not its source
     entered-row : (x : ℕ) → bit (value (marksOf ws W d .entered)) x
@@ -125,7 +135,7 @@ module _ (ws : List ℕ) (fit : Fit ws) where
 
         mask-of : (j k place : ℕ) → W * j + W ≤ 3 * W → place ≡ propagateAt W d + 3 * W * k + W * j
             → wordsAt ws place W ≡ chunk W j (chunk (3 * W) k (propagateIn ws))
-        mask-of = three-at ws (propagateIn ws) (propagateAt W d) W (propagate-at ws)
+        mask-of = part-at ws (propagateIn ws) (propagateAt W d) W (propagate-at ws) 3
 
         room : (k : ℕ) → k < suc d → at k + 2 * W ≤ length ws
         room k h = omega (arith, part-fits (3 * W) h)
@@ -142,15 +152,16 @@ module _ (ws : List ℕ) (fit : Fit ws) where
     kind-of-token : (i : ℕ) → kindAt (marksOf ws W d) i ≡ kindOf (tokenAt ws i)
     kind-of-token i =
         (λ j. cond (letters-row ws fit W d narrow long (suc i) j) (repeatKind (repeatOf (entered-row (suc i) j) (loops-row (suc i) j)))
-        (cond (closes-row (suc i) j) (markKind (markOf (entered-row (suc i) j))) (cond (opens-row i j) 4 5)))
+        (cond (closes-row (suc i) j) (markKind (markOf (entered-row (suc i) j) (returns-row i j))) (cond (opens-row i j) 4 5)))
         ∙ kind-is (anyBelow 256 (λ b. bitOf W (lettersIn ws) b (suc i))) (mask 256 (λ b. bitOf W (lettersIn ws) b (suc i)))
         (anyBelow (suc d) (λ k. bitOfThree W (propagateIn ws) 0 k (suc i) && not (bitOfThree W (propagateIn ws) 1 k (suc i))))
         (anyBelow 256 (λ b. bitOf W (repeatsIn ws) b (suc i)))
         (anyBelow d (λ k. bitOfThree W (gatherIn ws) 2 k (suc i))) (anyBelow d (λ k. bitOfThree W (scatterIn ws) 1 k i))
+        (anyBelow d (λ k. bitOfTwo W (backIn ws) 0 k i))
 
 -- THE TAPE TAKEN APART has the model's tokens
 pub apart-is : (ws : List ℕ) {W d m : ℕ} {t : Tape} → Fit ws → W ≡ widthWord ws → d ≡ depthWord ws → m ≡ stateWord ws → W ≤ 8 → 2 ≤ m → m ≤ 512
-    → length ws ≡ 9 + W * (515 + 9 * d) → length (t .kinds) ≡ 512 → ShownBy (marksOf ws W d) (m - 1) t → tokensOf t ≡ bares (tape ws)
+    → length ws ≡ 10 + W * (515 + 11 * d) → length (t .kinds) ≡ 512 → ShownBy (marksOf ws W d) (m - 1) t → tokensOf t ≡ bares (tape ws)
 apart-is ws {W} {d} {m} {t} fit w e states narrow some few long room A =
     ap (λ (n : ℕ). readKinds (take n (t .kinds))) (A .long)
     ∙ read-row (m - 1) 0 (tokenAt ws) (t .kinds) (omega arith) kind
@@ -159,8 +170,8 @@ apart-is ws {W} {d} {m} {t} fit w e states narrow some few long room A =
     wide : widthWord ws ≤ 8
     wide = omega arith
 
-    whole : length ws ≡ 9 + widthWord ws * (515 + 9 * depthWord ws)
-    whole = long ∙ (λ i. 9 + w i * (515 + 9 * e i))
+    whole : length ws ≡ 10 + widthWord ws * (515 + 11 * depthWord ws)
+    whole = long ∙ (λ i. 10 + w i * (515 + 11 * e i))
 
     kind : (i : ℕ) → i < m - 1 → getD (t .kinds) i 0 ≡ kindOf (tokenAt ws (0 + i))
     kind i h =

@@ -30,11 +30,12 @@ pub both : {A B : Type 0} {a b r : Bool} → (A → (a ≡ true) × (r ≡ b)) �
 both f g (inl w) = here (f w .0) (f w .1)
 both {b = b} f g (inr w) = stops b (g w .0) (g w .1)
 
-in-turn : (a b c d e : Bool) {first second third : Bool} → first ≡ (a && b) → second ≡ (first && c) → third ≡ (second && d)
-    → (third && e) ≡ (a && (b && (c && (d && e))))
-in-turn a b c d e p q r =
-    ap (λ (t : Bool). t && e) (r ∙ ap (λ (t : Bool). t && d) (q ∙ ap (λ (t : Bool). t && c) p))
-    ∙ and-assoc ((a && b) && c) d e ∙ and-assoc (a && b) c (d && e) ∙ and-assoc a b (c && (d && e))
+in-turn : (a b c d e f : Bool) {first second third fourth : Bool} → first ≡ (a && b) → second ≡ (first && c) → third ≡ (second && d)
+    → fourth ≡ (third && e) → (fourth && f) ≡ (a && (b && (c && (d && (e && f)))))
+in-turn a b c d e f p q r s =
+    ap (λ (t : Bool). t && f) (s ∙ ap (λ (t : Bool). t && e) (r ∙ ap (λ (t : Bool). t && d) (q ∙ ap (λ (t : Bool). t && c) p)))
+    ∙ and-assoc (((a && b) && c) && d) e f ∙ and-assoc ((a && b) && c) d (e && f) ∙ and-assoc (a && b) c (d && (e && f))
+    ∙ and-assoc a b (c && (d && (e && f)))
 
 -- ---- the counts
 -- the word at a place is the number
@@ -43,16 +44,18 @@ holds ws at n = eqb (getD ws at 0) n
 
 module _ (ws : List ℕ) (W d : ℕ) where
   -- the tests, with the places as the code computes them
-  pub counts-are : {first second third : Bool}
+  pub counts-are : {first second third fourth : Bool}
       → first ≡ (holds ws 4 (256 * W) && holds ws (5 + 256 * W) (256 * W))
       → second ≡ (first && holds ws (6 + 2 * (256 * W)) (3 * W * d))
       → third ≡ (second && holds ws (7 + 2 * (256 * W) + 3 * W * d) (3 * W * d))
-      → (third && holds ws (8 + 2 * (256 * W) + 2 * (3 * W * d)) (3 * W * d + 3 * W)) ≡ countsFit ws W d
-  counts-are p q r =
+      → fourth ≡ (third && holds ws (8 + 2 * (256 * W) + 2 * (3 * W * d)) (3 * W * d + 3 * W))
+      → (fourth && holds ws (9 + 2 * (256 * W) + 2 * (3 * W * d) + (3 * W * d + 3 * W)) (2 * W * d)) ≡ countsFit ws W d
+  counts-are p q r s =
       in-turn (holds ws 4 (256 * W)) (holds ws (5 + 256 * W) (256 * W)) (holds ws (6 + 2 * (256 * W)) (3 * W * d))
-      (holds ws (7 + 2 * (256 * W) + 3 * W * d) (3 * W * d)) (holds ws (8 + 2 * (256 * W) + 2 * (3 * W * d)) (3 * W * d + 3 * W)) p q r
+      (holds ws (7 + 2 * (256 * W) + 3 * W * d) (3 * W * d)) (holds ws (8 + 2 * (256 * W) + 2 * (3 * W * d)) (3 * W * d + 3 * W))
+      (holds ws (9 + 2 * (256 * W) + 2 * (3 * W * d) + (3 * W * d + 3 * W)) (2 * W * d)) p q r s
       ∙ (λ i. holds ws 4 (256 * W) && (holds ws (5 + 256 * W) (256 * W)
-      && (holds ws (scatter i) (3 * W * d) && (holds ws (gather i) (3 * W * d) && holds ws (propagate i) (count i)))))
+      && (holds ws (scatter i) (3 * W * d) && (holds ws (gather i) (3 * W * d) && (holds ws (propagate i) (count i) && holds ws (back i) (2 * W * d))))))
     where
       scatter : 6 + 2 * (256 * W) ≡ 6 + 512 * W
       scatter = omega arith
@@ -63,6 +66,9 @@ module _ (ws : List ℕ) (W d : ℕ) where
       propagate : 8 + 2 * (256 * W) + 2 * (3 * W * d) ≡ 8 + 512 * W + 6 * W * d
       propagate = omega arith
 
+      back : 9 + 2 * (256 * W) + 2 * (3 * W * d) + (3 * W * d + 3 * W) ≡ 9 + 515 * W + 9 * W * d
+      back = omega arith
+
       count : 3 * W * d + 3 * W ≡ 3 * W * suc d
       count = omega arith
 
@@ -72,6 +78,7 @@ module _ (ws : List ℕ) (W d : ℕ) where
     pub scatters : getD ws (6 + 512 * W) 0 ≡ 3 * W * d
     pub gathers : getD ws (7 + 512 * W + 3 * W * d) 0 ≡ 3 * W * d
     pub propagates : getD ws (8 + 512 * W + 6 * W * d) 0 ≡ 3 * W * suc d
+    pub backs : getD ws (9 + 515 * W + 9 * W * d) 0 ≡ 2 * W * d
 
   pub counts-of : T (countsFit ws W d) → Counts
   counts-of t =
@@ -79,12 +86,14 @@ module _ (ws : List ℕ) (W d : ℕ) where
       let b = and-split (holds ws (5 + 256 * W) (256 * W)) _ (a .1) in
       let c = and-split (holds ws (6 + 512 * W) (3 * W * d)) _ (b .1) in
       let e = and-split (holds ws (7 + 512 * W + 3 * W * d) (3 * W * d)) _ (c .1) in
+      let f = and-split (holds ws (8 + 512 * W + 6 * W * d) (3 * W * suc d)) _ (e .1) in
       record {
         letters = eqb→eq (getD ws 4 0) (256 * W) (a .0);
         repeats = eqb→eq (getD ws (5 + 256 * W) 0) (256 * W) (b .0);
         scatters = eqb→eq (getD ws (6 + 512 * W) 0) (3 * W * d) (c .0);
         gathers = eqb→eq (getD ws (7 + 512 * W + 3 * W * d) 0) (3 * W * d) (e .0);
-        propagates = eqb→eq (getD ws (8 + 512 * W + 6 * W * d) 0) (3 * W * suc d) (e .1);
+        propagates = eqb→eq (getD ws (8 + 512 * W + 6 * W * d) 0) (3 * W * suc d) (f .0);
+        backs = eqb→eq (getD ws (9 + 515 * W + 9 * W * d) 0) (2 * W * d) (f .1);
       }
 
   pub counts-fit : Counts → T (countsFit ws W d)
@@ -92,10 +101,11 @@ module _ (ws : List ℕ) (W d : ℕ) where
       and-both (holds ws 4 (256 * W)) _ (equal _ _ (C .letters))
       (and-both (holds ws (5 + 256 * W) (256 * W)) _ (equal _ _ (C .repeats))
       (and-both (holds ws (6 + 512 * W) (3 * W * d)) _ (equal _ _ (C .scatters))
-      (and-both (holds ws (7 + 512 * W + 3 * W * d) (3 * W * d)) _ (equal _ _ (C .gathers)) (equal _ _ (C .propagates)))))
+      (and-both (holds ws (7 + 512 * W + 3 * W * d) (3 * W * d)) _ (equal _ _ (C .gathers))
+      (and-both (holds ws (8 + 512 * W + 6 * W * d) (3 * W * suc d)) _ (equal _ _ (C .propagates)) (equal _ _ (C .backs))))))
 
-pub length-small : (W d : ℕ) → W ≤ 8 → d ≤ 8 → 9 + W * (515 + 9 * d) ≤ 4705
-length-small W d h l = let k : 515 + 9 * d ≤ 587 = omega arith in omega (arith, mul-le-mul h k)
+pub length-small : (W d : ℕ) → W ≤ 8 → d ≤ 8 → 10 + W * (515 + 11 * d) ≤ 4834
+length-small W d h l = let k : 515 + 11 * d ≤ 603 = omega arith in omega (arith, mul-le-mul h k)
 
 -- ---- the shape, and the whole header
 module _ (ws : List ℕ) where
@@ -142,19 +152,19 @@ module _ (ws : List ℕ) where
 
   pub record Fits : Type 0 where
     pub shape : Shape
-    pub long : length ws ≡ 9 + W * (515 + 9 * d)
+    pub long : length ws ≡ 10 + W * (515 + 11 * d)
     pub counts : T (countsFit ws W d)
 
   pub fits-of : T (headerFits ws) → Fits
   fits-of t =
       let a = and-split (shapeFits ws) _ t in
-      let b = and-split (eqb (length ws) (9 + W * (515 + 9 * d))) _ (a .1) in
-      record { shape = shape-of (a .0); long = eqb→eq (length ws) (9 + W * (515 + 9 * d)) (b .0); counts = b .1 }
+      let b = and-split (eqb (length ws) (10 + W * (515 + 11 * d))) _ (a .1) in
+      record { shape = shape-of (a .0); long = eqb→eq (length ws) (10 + W * (515 + 11 * d)) (b .0); counts = b .1 }
 
   pub header-fits : Fits → T (headerFits ws)
   header-fits F =
       and-both (shapeFits ws) _ (shape-fits (F .shape))
-      (and-both (eqb (length ws) (9 + W * (515 + 9 * d))) _ (equal (length ws) (9 + W * (515 + 9 * d)) (F .long)) (F .counts))
+      (and-both (eqb (length ws) (10 + W * (515 + 11 * d))) _ (equal (length ws) (10 + W * (515 + 11 * d)) (F .long)) (F .counts))
 
 -- what the contract says of a header
 pub header-is : (ws : List ℕ) → T (headerFits ws) ↔ Headed ws
@@ -176,6 +186,7 @@ header-is ws = (there, back)
           scatter-count = C .scatters;
           gather-count = C .gathers;
           propagate-count = C .propagates;
+          back-count = C .backs;
         }
 
     back : Headed ws → T (headerFits ws)
@@ -196,13 +207,14 @@ header-is ws = (there, back)
             scatters = H .scatter-count;
             gathers = H .gather-count;
             propagates = H .propagate-count;
+            backs = H .back-count;
           });
         })
 
 -- what is asked of the words where they are read
 pub sized : {ws : List ℕ} {width depth : ℕ} → Headed ws → width ≡ widthWord ws → depth ≡ depthWord ws
-    → (width ≤ 8) × (depth ≤ 8) × (length ws ≡ 9 + width * (515 + 9 * depth))
-sized H w e = (omega (arith, w, H .width-word, H .few), omega (arith, e, H .shallow), H .long ∙ (λ i. 9 + sym w i * (515 + 9 * sym e i)))
+    → (width ≤ 8) × (depth ≤ 8) × (length ws ≡ 10 + width * (515 + 11 * depth))
+sized H w e = (omega (arith, w, H .width-word, H .few), omega (arith, e, H .shallow), H .long ∙ (λ i. 10 + sym w i * (515 + 11 * sym e i)))
 
 -- ---- the answer, by a test
 pub refused : (b : Bool) (ws : List ℕ) → (T b → ⊥) → Other ≡ headerIf b ws
@@ -243,8 +255,8 @@ module _ {b : Bool} {ws : List ℕ} {states width depth : ℕ} (K : Told b ws st
     shallow = omega (arith, K .depth-is, S .shallow);
   }
 
-  length-told : 9 + width * (515 + 9 * depth) ≡ 9 + widthWord ws * (515 + 9 * depthWord ws)
-  length-told i = 9 + K .width-is i * (515 + 9 * K .depth-is i)
+  length-told : 10 + width * (515 + 11 * depth) ≡ 10 + widthWord ws * (515 + 11 * depthWord ws)
+  length-told i = 10 + K .width-is i * (515 + 11 * K .depth-is i)
 
   counts-told : countsFit ws width depth ≡ countsFit ws (widthWord ws) (depthWord ws)
   counts-told i = countsFit ws (K .width-is i) (K .depth-is i)
@@ -252,7 +264,7 @@ module _ {b : Bool} {ws : List ℕ} {states width depth : ℕ} (K : Told b ws st
   sound-told : Sound states width depth ≡ Sound (stateWord ws) (widthWord ws) (depthWord ws)
   sound-told i = Sound (K .states-are i) (K .width-is i) (K .depth-is i)
 
-  pub long-told : Fits ws → length ws ≡ 9 + width * (515 + 9 * depth)
+  pub long-told : Fits ws → length ws ≡ 10 + width * (515 + 11 * depth)
   long-told F = F .long ∙ sym length-told
 
 -- ---- after the shape the length decides, and then the counts
@@ -260,13 +272,13 @@ pub shape-fails : (ws : List ℕ) → (T (shapeFits ws) → ⊥) → Other ≡ h
 shape-fails ws n = refused (headerFits ws) ws (λ t. n (and-split (shapeFits ws) _ t .0))
 
 module _ {ws : List ℕ} {states width depth : ℕ} (K : Told (shapeFits ws) ws states width depth) where
-  pub length-fails : (length ws ≡ 9 + width * (515 + 9 * depth) → ⊥) → Other ≡ headerIf (headerFits ws) ws
+  pub length-fails : (length ws ≡ 10 + width * (515 + 11 * depth) → ⊥) → Other ≡ headerIf (headerFits ws) ws
   length-fails n = refused (headerFits ws) ws (λ t. n (long-told K (fits-of ws t)))
 
   pub counts-fail : countsFit ws width depth ≡ false → Other ≡ headerIf (headerFits ws) ws
   counts-fail e = refused (headerFits ws) ws (λ t. subst T (sym (counts-told K) ∙ e) (fits-of ws t .counts))
 
-  pub header-passes : length ws ≡ 9 + width * (515 + 9 * depth) → countsFit ws width depth ≡ true
+  pub header-passes : length ws ≡ 10 + width * (515 + 11 * depth) → countsFit ws width depth ≡ true
       → Sound states width depth ≡ headerIf (headerFits ws) ws
   header-passes l e =
       sound-told K

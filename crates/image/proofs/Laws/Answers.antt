@@ -84,12 +84,12 @@ module _ {row : List ℕ} {n : ℕ} {tape : Tape} {shape : Shape} (T : Taped row
         let P = tape-of row tape (T .kinds) (T .room) t (all-tokens t R) in
         shallow-on-tape t R (omega (arith, depth-is P, depth-is (there .1 .tape), there .1 .shallow))
 
-    module _ (before : List ℕ) {W size : ℕ} (wide : W ≡ width (n + 1)) (sized : size ≡ 9 + W * (515 + 9 * d)) where
+    module _ (before : List ℕ) {W size : ℕ} (wide : W ≡ width (n + 1)) (sized : size ≡ 10 + W * (515 + 11 * d)) where
       width-is : (t : tree.Tree) → TreeOnTape t tape → W ≡ width (states t)
       width-is t P = wide ∙ ap width (states-told t P)
 
       size-is : (t : tree.Tree) → TreeOnTape t tape → size ≡ length (image t)
-      size-is t P = sized ∙ ap₂ (λ (w k : ℕ). 9 + w * (515 + 9 * k)) (width-is t P) (sym (depth-told t P)) ∙ sym (length-image t)
+      size-is t P = sized ∙ ap₂ (λ (w k : ℕ). 10 + w * (515 + 11 * k)) (width-is t P) (sym (depth-told t P)) ∙ sym (length-image t)
 
       words-as : (t : tree.Tree) → TreeOnTape t tape → imageWords W d row tape ≡ imageWords (width (states t)) (depth t) row tape
       words-as t P = ap₂ (λ (w k : ℕ). imageWords w k row tape) (width-is t P) (sym (depth-told t P))

@@ -18,7 +18,7 @@ use Rattle.tape.specs.declared.Tape.{Tape}
 use Rattle.tape.proofs.InWords.{row-long, table-row}
 use Rattle.tape.proofs.Painted.{row-is}
 use Rattle.tape.proofs.TableBits.{blank-rows}
-use Rattle.image.specs.Work.{leads, letterRow, repeatRow, threeRows}
+use Rattle.image.specs.Work.{leads, letterRow, repeatRow, threeRows, twoRows}
 use Rattle.image.proofs.Laws.Parts.{AllLong}
 
 pub length-row : {W : ℕ} (row : List ℕ) → W ≤ 8 → length row ≡ 8 → length (take W row) ≡ W
@@ -70,9 +70,22 @@ pub depths-long : {W n : ℕ} (block source target : Table) → W ≤ 8 → n �
 depths-long block source target narrow few b s t k h =
     length-three (getD block k []) (getD source k []) (getD target k []) narrow (b k (omega arith)) (s k (omega arith)) (t k (omega arith))
 
+-- the two rows of the back edges of depth k
+abbrev pub backRows : ℕ → Table → Table → ℕ → List ℕ
+backRows W source target k = twoRows W (getD source k []) (getD target k [])
+
+pub backs-long : {W n : ℕ} (source target : Table) → W ≤ 8 → n ≤ 9 → Eights source → Eights target → AllLong (2 * W) n (backRows W source target)
+backs-long {W} source target narrow few s t k h =
+    length-append (take W (getD source k [])) (take W (getD target k []))
+    ∙ omega (arith, length-row (getD source k []) narrow (s k (omega arith)), length-row (getD target k []) narrow (t k (omega arith)))
+
 -- and of the masks that lay out lends, as they are read
 pub three-read : (W : ℕ) (ms : List ℕ) (k : ℕ) {block source target : List ℕ} → k < 9 → block ≡ rowIn ms (3 * k) → source ≡ rowIn ms (3 * k + 1)
     → target ≡ rowIn ms (3 * k + 2) → threeRows W block source target ≡ depthRows W (tableIn ms 0) (tableIn ms 1) (tableIn ms 2) k
 three-read W ms k h b s t =
     let first : 3 * k ≡ 3 * k + 0 = omega arith in
     λ i. threeRows W ((b ∙ ap (rowIn ms) first ∙ sym (table-row ms 0 k h)) i) ((s ∙ sym (table-row ms 1 k h)) i) ((t ∙ sym (table-row ms 2 k h)) i)
+
+pub two-read : (W : ℕ) (ms : List ℕ) (k : ℕ) {source target : List ℕ} → k < 9 → source ≡ rowIn ms (3 * k + 1) → target ≡ rowIn ms (3 * k + 2)
+    → twoRows W source target ≡ backRows W (tableIn ms 1) (tableIn ms 2) k
+two-read W ms k h s t = λ i. twoRows W ((s ∙ sym (table-row ms 1 k h)) i) ((t ∙ sym (table-row ms 2 k h)) i)

@@ -30,8 +30,11 @@ module _ (w n : ℕ) (f : ℕ → List ℕ) (same : AllLong w n f) where
       ∙ (let e : length (f (0 + k)) ≡ w = ap (λ (j : ℕ). length (f j)) (zero-add k) ∙ same k h in
       omega (arith, e, length-first k (le-of-lt h), mul-suc w k))
 
+  pub length-joined : length (join n 0 f) ≡ w * n
+  length-joined = length-first n (le-refl n)
+
   pub length-section : length (section (join n 0 f)) ≡ 1 + w * n
-  length-section = omega (arith, length-first n (le-refl n))
+  length-section = omega (arith, length-joined)
 
   -- part k is written where the first k end
   part-more : (l : List ℕ) (i k : ℕ) → k < n → sets (sets l i (join k 0 f)) (i + w * k) (f k) ≡ sets l i (join (k + 1) 0 f)
@@ -69,4 +72,4 @@ module _ (l : List ℕ) (i c : ℕ) {w n : ℕ} {f : ℕ → List ℕ} {words : 
       P .are
       ∙ ap (λ (j : ℕ). sets (set l i c) (i + 1) (join j 0 f)) q
       ∙ ap (λ (p : ℕ). sets (set l i c) p (join n 0 f)) (add-one i)
-      ∙ ap (λ (d : ℕ). sets (set l i d) (suc i) (join n 0 f)) (e ∙ sym (length-first w n f (P .same) n (le-refl n)))
+      ∙ ap (λ (d : ℕ). sets (set l i d) (suc i) (join n 0 f)) (e ∙ sym (length-joined w n f (P .same)))

@@ -8,7 +8,7 @@ use lib.ListN.{getD, length, take}
 use Rattle.model.specs.Edges.{depth, states}
 use Rattle.model.specs.Models.LayOut.{begin, reach}
 use Rattle.model.specs.Models.Tokens.{aBar, aClose, aLetter, anOpen, Token, tokens}
-use Rattle.model.specs.Tree.{once, option, optional, plus, star, Tree, unmarked}
+use Rattle.model.specs.Tree.{once, option, optional, plus, star, starred, Tree, unmarked}
 use Rattle.model.proofs.Image.Depth.{reach-is}
 use Rattle.model.proofs.Image.Tokens.{length-tokens}
 use Rattle.tape.specs.Rows.{kindOf}
@@ -22,8 +22,8 @@ use Rattle.image.specs.Says.{TokensOf}
 use Rattle.image.specs.Work.{KindsAre}
 use Rattle.image.proofs.Laws.TokenWords.{kind-at}
 
--- every kind is at most 7
-kind-small : (y : Token) → min (kindOf y) 7 ≡ kindOf y
+-- every kind is at most 8
+kind-small : (y : Token) → min (kindOf y) 8 ≡ kindOf y
 kind-small (aLetter c once) = refl
 kind-small (aLetter c option) = refl
 kind-small (aLetter c star) = refl
@@ -32,6 +32,7 @@ kind-small anOpen = refl
 kind-small aBar = refl
 kind-small (aClose unmarked) = refl
 kind-small (aClose optional) = refl
+kind-small (aClose starred) = refl
 
 read-kinds : (ks : List ℕ) (l : List Token) → length l ≤ length ks → ((i : ℕ) → i < length l → getD ks i 0 ≡ kindOf (getD l i aBar))
     → readKinds (take (length l) ks) ≡ bares l
@@ -53,7 +54,7 @@ module _ (row : List ℕ) (tape : Tape) (kinds : KindsAre row (tape .kinds)) (ro
     tokens-are =
         ap (λ (n : ℕ). readKinds (take n (tape .kinds))) (O .long)
         ∙ read-kinds (tape .kinds) (tokens t []) (omega (arith, few-tokens, O .long)) (λ i h.
-        kinds i (omega (arith, few-tokens, O .long)) ∙ ap (λ (w : ℕ). min w 7) (kind-at (tokens t []) row (tape .length) (O .long) (O .are) i h)
+        kinds i (omega (arith, few-tokens, O .long)) ∙ ap (λ (w : ℕ). min w 8) (kind-at (tokens t []) row (tape .length) (O .long) (O .are) i h)
         ∙ kind-small (getD (tokens t []) i aBar));
   }
 

@@ -1,5 +1,5 @@
 -- THE WHOLE IMAGE is written when each section is written where the one before it ends, and the places that the code hands on are those ends.
-use mathlib.Core.Path.{_≡_, refl, ap, _∙_}
+use mathlib.Core.Path.{_≡_, refl, ap, _∙_, subst}
 use mathlib.Core.List.{List, [], _∷_, _++_}
 use Prim.Native.Nat.{ℕ, suc, _+_, _*_, _≤_}
 use native.Mathlib.Nat.{mul-add}
@@ -7,14 +7,14 @@ use native.Mathlib.Omega.{arith}
 use lib.ListN.{getD, length, take}
 use lib.Seq.{length-sets, sets}
 use Rattle.model.specs.Image.{section}
-use Rattle.model.specs.Models.LayOut.{gather-block, gather-source, gather-target, loop-place, scatter-block, scatter-source, scatter-target, Which}
+use Rattle.model.specs.Models.LayOut.{back-source, back-target, gather-block, gather-source, gather-target, loop-place, scatter-block, scatter-source, scatter-target, Which}
 use Rattle.tape.specs.Masks.{rowIn, tableIn}
 use Rattle.tape.specs.Says.{Laid}
 use Rattle.tape.specs.Tables.{Table}
 use Rattle.tape.specs.Tapes.{propagateBlockTable, propagateSourceTable, propagateTargetTable, tableOf}
 use Rattle.tape.specs.declared.Tape.{Tape}
-use Rattle.image.specs.Work.{bothPart, imageWords, letterRow, lettersPart, repeatRow, repeatsPart, tablesPart}
-use Rattle.image.proofs.Laws.Lengths.{depthRows, depths-long, laid-eights, letters-long, repeats-long}
+use Rattle.image.specs.Work.{backPart, bothPart, imageWords, letterRow, lettersPart, repeatRow, repeatsPart, tablesPart}
+use Rattle.image.proofs.Laws.Lengths.{depthRows, depths-long, Eights, in-eights, laid-eights, letters-long, repeats-long}
 use Rattle.image.proofs.Laws.Loops.{repeats-are}
 use Rattle.image.proofs.Laws.Parts.{length-section}
 use Rattle.image.proofs.Laws.Stores.{sets-on}
@@ -50,17 +50,26 @@ module _ (W d : ℕ) (row : List ℕ) (t : Tape) (narrow : W ≤ 8) (shallow : d
       (depths-long (tableOf t block) (tableOf t source) (tableOf t target) narrow (omega arith) (laid-eights t block) (laid-eights t source)
       (laid-eights t target))
 
+  length-propagate : {p s g r b : List ℕ} → Laid t p s g r b → length r ≡ 216
+      → length (tablesPart W (suc d) (propagateBlockTable t) (propagateSourceTable t) (propagateTargetTable t)) ≡ 1 + 3 * W * suc d
+  length-propagate {r = r} L long =
+      length-section (3 * W) (suc d) (depthRows W (propagateBlockTable t) (propagateSourceTable t) (propagateTargetTable t))
+      (depths-long (propagateBlockTable t) (propagateSourceTable t) (propagateTargetTable t) narrow (omega arith)
+      (subst Eights (L .propagate-blocks) (in-eights r 0 long (omega arith))) (subst Eights (L .propagate-sources) (in-eights r 1 long (omega arith)))
+      (subst Eights (L .propagate-targets) (in-eights r 2 long (omega arith))))
+
   -- the words after each section, and where the next begins
-  pub whole : {p s g r : List ℕ} → Laid t p s g r → (l : List ℕ) → 9 + W * (515 + 9 * d) ≤ length l → {places shaped lettered repeated scattered gathered after : List ℕ}
-      {repeats scatter gather propagate : ℕ} → places ≡ rowIn p 1
+  pub whole : {p s g r b : List ℕ} → Laid t p s g r b → length r ≡ 216 → (l : List ℕ) → 10 + W * (515 + 11 * d) ≤ length l
+      → {places shaped lettered repeated scattered gathered propagated after : List ℕ} {repeats scatter gather propagate back : ℕ} → places ≡ rowIn p 1
       → shaped ≡ sets l 0 (section (suc (t .length) ∷ W ∷ d ∷ []))
       → lettered ≡ sets shaped 4 (lettersPart W row (t .length)) → repeats ≡ 4 + 1 + 256 * W
       → repeated ≡ sets lettered repeats (bothPart W lettered 5 places) → scatter ≡ repeats + 1 + 256 * W
       → scattered ≡ sets repeated scatter (tablesPart W d (tableIn s 0) (tableIn s 1) (tableIn s 2)) → gather ≡ scatter + 1 + 3 * W * d
       → gathered ≡ sets scattered gather (tablesPart W d (tableIn g 0) (tableIn g 1) (tableIn g 2)) → propagate ≡ gather + 1 + 3 * W * d
-      → after ≡ sets gathered propagate (tablesPart W (suc d) (tableIn r 0) (tableIn r 1) (tableIn r 2)) → after ≡ sets l 0 (imageWords W d row t)
-  whole L l fits {places = places} {shaped = shaped} {lettered = lettered} {repeated = repeated} {scattered = scattered} {gathered = gathered} {repeats = repeats} {scatter = scatter}
-      {gather = gather} {propagate = propagate} are-loops by-shape by-letters to-repeats by-repeats to-scatter by-scatter to-gather by-gather to-propagate by-propagate =
+      → propagated ≡ sets gathered propagate (tablesPart W (suc d) (tableIn r 0) (tableIn r 1) (tableIn r 2)) → back ≡ propagate + 1 + 3 * W * suc d
+      → after ≡ sets propagated back (backPart W d (tableIn b 1) (tableIn b 2)) → after ≡ sets l 0 (imageWords W d row t)
+  whole L long l fits {places = places} {shaped = shaped} {lettered = lettered} {repeated = repeated} {scattered = scattered} {gathered = gathered} {propagated = propagated} {repeats = repeats}
+      {scatter = scatter} {gather = gather} {propagate = propagate} {back = back} are-loops by-shape by-letters to-repeats by-repeats to-scatter by-scatter to-gather by-gather to-propagate by-propagate to-back by-back =
       let shapePart = section (suc (t .length) ∷ W ∷ d ∷ []) in
       let letterPart = lettersPart W row (t .length) in
       let repeatPart = repeatsPart W row (t .length) loops in
@@ -69,9 +78,11 @@ module _ (W d : ℕ) (row : List ℕ) (t : Tape) (narrow : W ≤ 8) (shallow : d
       let propagatePart = tablesPart W (suc d) (propagateBlockTable t) (propagateSourceTable t) (propagateTargetTable t) in
       let are-repeats : bothPart W lettered 5 places ≡ repeatPart =
       ap (λ (ws : List ℕ). bothPart W ws 5 places) by-letters
-      ∙ repeats-are W row (t .length) narrow shaped 4 (omega (arith, mul-add W 515 (9 * d), ap length by-shape, length-sets l 0 shapePart)) places
+      ∙ repeats-are W row (t .length) narrow shaped 4 (omega (arith, mul-add W 515 (11 * d), ap length by-shape, length-sets l 0 shapePart)) places
       ∙ ap (repeatsPart W row (t .length)) (are-loops ∙ L .loop-places) in
-      let fromGather = gatherPart ++ propagatePart in
+      let backsPart = backPart W d (tableOf t back-source) (tableOf t back-target) in
+      let fromPropagate = propagatePart ++ backsPart in
+      let fromGather = gatherPart ++ fromPropagate in
       let fromScatter = scatterPart ++ fromGather in
       let fromRepeats = repeatPart ++ fromScatter in
       both l 0 shapePart (letterPart ++ fromRepeats) refl refl by-shape
@@ -80,6 +91,8 @@ module _ (W d : ℕ) (row : List ℕ) (t : Tape) (narrow : W ≤ 8) (shallow : d
       (by-repeats ∙ ap (sets lettered repeats) are-repeats)
       (both repeated scatter scatterPart fromGather (length-laid scatter-block scatter-source scatter-target) (omega arith)
       (tables-as (L .scatter-blocks) (L .scatter-sources) (L .scatter-targets) W d repeated scatter by-scatter)
-      (both scattered gather gatherPart propagatePart (length-laid gather-block gather-source gather-target) (omega arith)
+      (both scattered gather gatherPart fromPropagate (length-laid gather-block gather-source gather-target) (omega arith)
       (tables-as (L .gather-blocks) (L .gather-sources) (L .gather-targets) W d scattered gather by-gather)
-      (tables-as (L .propagate-blocks) (L .propagate-sources) (L .propagate-targets) W (suc d) gathered propagate by-propagate)))))
+      (both gathered propagate propagatePart backsPart (length-propagate L long) (omega arith)
+      (tables-as (L .propagate-blocks) (L .propagate-sources) (L .propagate-targets) W (suc d) gathered propagate by-propagate)
+      (by-back ∙ (λ j. sets propagated back (backPart W d (L .back-sources j) (L .back-targets j)))))))))

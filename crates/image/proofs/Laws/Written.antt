@@ -1,5 +1,5 @@
 -- THE WORDS WRITTEN, AS AN IMAGE OF SETS: for the tape of a tree and any classes, `imageWords` is assembled from the states that the classes lead to,
--- those of them with a loop, and the tree's sets of unions and propagate edges. For the tree's own classes it is the tree's image.
+-- those of them with a loop, and the tree's sets of unions, propagate edges and back edges. For the tree's own classes it is the tree's image.
 use mathlib.Core.Path.{_≡_, refl, sym, ap, ap₂, _∙_, subst}
 use mathlib.Core.Bool.{Bool, _&&_}
 use mathlib.Core.List.{List, [], _∷_, _++_}
@@ -8,8 +8,8 @@ use native.Mathlib.Omega.{arith}
 use lib.ListN.{getD, length, take}
 use Rattle.model.specs.Bits.{bit}
 use Rattle.model.specs.Edges.{depth, states}
-use Rattle.model.specs.Image.{gatherBlock, gatherSource, gatherTarget, image, join, letters, propagateBlock, propagateSource, propagateTarget, repeats, scatterBlock, scatterSource, scatterTarget, section, width}
-use Rattle.model.specs.Models.LayOut.{assemble, begin, gather-block, gather-source, gather-target, layOut, loop-place, scatter-block, scatter-source, scatter-target, set, three, tokenLetters}
+use Rattle.model.specs.Image.{backSource, backTarget, gatherBlock, gatherSource, gatherTarget, image, join, letters, propagateBlock, propagateSource, propagateTarget, repeats, scatterBlock, scatterSource, scatterTarget, section, width}
+use Rattle.model.specs.Models.LayOut.{assemble, back-source, back-target, begin, gather-block, gather-source, gather-target, layOut, loop-place, scatter-block, scatter-source, scatter-target, set, three, tokenLetters, two}
 use Rattle.model.specs.Models.Tokens.{tokens}
 use Rattle.model.specs.Models.Words.{andWords, Fit, value}
 use Rattle.model.specs.Tree.{Tree}
@@ -29,18 +29,18 @@ use Rattle.tape.specs.Tables.{Table}
 use Rattle.tape.specs.Tapes.{propagateBlockTable, propagateSourceTable, propagateTargetTable, tableOf}
 use Rattle.tape.specs.declared.Tape.{Tape}
 use Rattle.tape.proofs.FirstWords.{first-words}
-use Rattle.tape.proofs.OfTree.{gather-block-says, gather-source-says, gather-target-says, laid-row, loops-say, propagate-block-says, propagate-source-says, propagate-target-says, scatter-block-says, scatter-source-says, scatter-target-says}
+use Rattle.tape.proofs.OfTree.{back-source-says, back-target-says, gather-block-says, gather-source-says, gather-target-says, laid-row, loops-say, propagate-block-says, propagate-source-says, propagate-target-says, scatter-block-says, scatter-source-says, scatter-target-says}
 use Rattle.image.specs.Says.{TokensOf}
-use Rattle.image.specs.Work.{imageWords, leads, letterRow, repeatRow, threeRows}
+use Rattle.image.specs.Work.{imageWords, leads, letterRow, repeatRow, threeRows, twoRows}
 use Rattle.image.proofs.Laws.Tapes.{states-are}
 use Rattle.image.proofs.Laws.TokenWords.{in-class}
 
--- six sections that are equal one by one
-sections-same : {a a′ l l′ r r′ s s′ g g′ p p′ : List ℕ} → a ≡ a′ → l ≡ l′ → r ≡ r′ → s ≡ s′ → g ≡ g′ → p ≡ p′
-    → section a ++ (section l ++ (section r ++ (section s ++ (section g ++ section p))))
-    ≡ section a′ ++ (section l′ ++ (section r′ ++ (section s′ ++ (section g′ ++ section p′))))
-sections-same ea el er es eg ep =
-    λ i. section (ea i) ++ (section (el i) ++ (section (er i) ++ (section (es i) ++ (section (eg i) ++ section (ep i)))))
+-- seven sections that are equal one by one
+sections-same : {a a′ l l′ r r′ s s′ g g′ p p′ b b′ : List ℕ} → a ≡ a′ → l ≡ l′ → r ≡ r′ → s ≡ s′ → g ≡ g′ → p ≡ p′ → b ≡ b′
+    → section a ++ (section l ++ (section r ++ (section s ++ (section g ++ (section p ++ section b)))))
+    ≡ section a′ ++ (section l′ ++ (section r′ ++ (section s′ ++ (section g′ ++ (section p′ ++ section b′)))))
+sections-same ea el er es eg ep eb =
+    λ i. section (ea i) ++ (section (el i) ++ (section (er i) ++ (section (es i) ++ (section (eg i) ++ (section (ep i) ++ section (eb i))))))
 
 module _ (row : List ℕ) (tape : Tape) (s : Tree) (O : TreeOnTape s tape) where
   abbrev m : ℕ
@@ -77,15 +77,22 @@ module _ (row : List ℕ) (tape : Tape) (s : Tree) (O : TreeOnTape s tape) where
       ∙ first-words m W (looped b) narrow
 
   -- ---- the masks of each depth
+  first : {ws : List ℕ} (q : ℕ → Bool) → ws ≡ set m 8 q → take W ws ≡ set m W q
+  first q e = ap (take W) e ∙ first-words m W q narrow
+
   three-rows : (d : ℕ) (block source target : Table) (f g h : ℕ → ℕ → Bool) → RowsAre s block d f → RowsAre s source d g → RowsAre s target d h
       → join d 0 (λ k. threeRows W (getD block k []) (getD source k []) (getD target k [])) ≡ join d 0 (λ k. three m W (f k) (g k) (h k))
   three-rows d block source target f g h B S T =
       join-same d 0 (λ k. threeRows W (getD block k []) (getD source k []) (getD target k [])) (λ k. three m W (f k) (g k) (h k)) (λ k l.
       let k′ : k < d = omega arith in
       ap₂ _++_ (first (f k) (B .row k k′)) (ap₂ _++_ (first (g k) (S .row k k′)) (first (h k) (T .row k k′))))
-    where
-      first : {ws : List ℕ} (q : ℕ → Bool) → ws ≡ set m 8 q → take W ws ≡ set m W q
-      first q e = ap (take W) e ∙ first-words m W q narrow
+
+  two-rows : (d : ℕ) (source target : Table) (g h : ℕ → ℕ → Bool) → RowsAre s source d g → RowsAre s target d h
+      → join d 0 (λ k. twoRows W (getD source k []) (getD target k [])) ≡ join d 0 (λ k. two m W (g k) (h k))
+  two-rows d source target g h S T =
+      join-same d 0 (λ k. twoRows W (getD source k []) (getD target k [])) (λ k. two m W (g k) (h k)) (λ k l.
+      let k′ : k < d = omega arith in
+      ap₂ _++_ (first (g k) (S .row k k′)) (first (h k) (T .row k k′)))
 
   -- THE WORDS WRITTEN
   pub written : imageWords W (depth s) row tape ≡ assemble m W (depth s) (leads row) looped (edgeSet s)
@@ -99,8 +106,9 @@ module _ (row : List ℕ) (tape : Tape) (s : Tree) (O : TreeOnTape s tape) where
       (gatherTarget s) (gather-block-says tape s O) (gather-source-says tape s O) (gather-target-says tape s O))
       (three-rows (suc (depth s)) (propagateBlockTable tape) (propagateSourceTable tape) (propagateTargetTable tape) (propagateBlock s) (propagateSource s)
       (propagateTarget s) (propagate-block-says tape s O) (propagate-source-says tape s O) (propagate-target-says tape s O))
+      (two-rows (depth s) (tableOf tape back-source) (tableOf tape back-target) (backSource s) (backTarget s) (back-source-says tape s O) (back-target-says tape s O))
 
-  pub length-written : length (imageWords W (depth s) row tape) ≡ 9 + W * (515 + 9 * depth s)
+  pub length-written : length (imageWords W (depth s) row tape) ≡ 10 + W * (515 + 11 * depth s)
   length-written = ap length written ∙ length-assembled m W (depth s) (leads row) looped (edgeSet s)
 
   -- ---- and with the tree's own classes
@@ -120,6 +128,6 @@ module _ (row : List ℕ) (tape : Tape) (s : Tree) (O : TreeOnTape s tape) where
         ∙ assemble-same m W (depth s) (leads row) looped (letters s) (repeats s) (edgeSet s) (edgeSet s) letters-lead
         (λ b x h l. ap (λ (a : Bool). a && bit (value loops) x) (letters-lead b x h l) ∙ loops-say tape s O b x l) (λ w k x. refl)
 
--- "The length is 9 + W(515 + 9d) words."
-pub length-image : (s : Tree) → length (image s) ≡ 9 + width (states s) * (515 + 9 * depth s)
+-- "The length is 9 + W(515 + 9d) words", and "lengths grow by 1 + 2Wd".
+pub length-image : (s : Tree) → length (image s) ≡ 10 + width (states s) * (515 + 11 * depth s)
 length-image s = length-assembled (states s) (width (states s)) (depth s) (letters s) (repeats s) (edgeSet s)

@@ -20,62 +20,56 @@ enum-told c = search needs
 
 returns : tie.Need-returns
 returns c =
-    let w = c .before .before in
-    let t = w .before .before .before .before .before .tape-of in
-    let a = w .before .before .before .before .before .before .before .args in
-    let T = taped (a .tokens) (t .result) _ (t .ensures .0) (t .ensures .1) (t .ok .1 .1 .0 .1 .0 .1) (w .lay-out .ensures .1 .0) in
+    let t = c .before .before .before .before .before .before .before .before .tape-of in
+    let a = c .before .before .before .before .before .before .before .before .before .before .args in
+    let T = taped (a .tokens) (t .result) _ (t .ensures .0) (t .ensures .1) (t .ok .1 .1 .0 .1 .0 .1) (c .before .before .lay-out .ensures .1 .0) in
     (says-no-tree T (a .words .now) (c .enum-told .given .1), refl)
 
 add-width-of : tie.Need-add-width-of
 add-width-of c =
-    let w = c .before .before .before in
-    let t = w .before .before .before .before .before .tape-of in
-    let a = w .before .before .before .before .before .before .before .args in
-    let T = taped (a .tokens) (t .result) _ (t .ensures .0) (t .ensures .1) (t .ok .1 .1 .0 .1 .0 .1) (w .lay-out .ensures .1 .0) in
+    let t = c .before .before .before .before .before .before .before .before .before .tape-of in
+    let a = c .before .before .before .before .before .before .before .before .before .before .before .args in
+    let T = taped (a .tokens) (t .result) _ (t .ensures .0) (t .ensures .1) (t .ok .1 .1 .0 .1 .0 .1) (c .before .before .before .lay-out .ensures .1 .0) in
     omega (arith, few T (c .before .shape .given .1))
 
 width-of-requires : tie.Need-width-of-requires
 width-of-requires c κs =
-    let w = c .before .before .before in
-    let t = w .before .before .before .before .before .tape-of in
-    let a = w .before .before .before .before .before .before .before .args in
-    let T = taped (a .tokens) (t .result) _ (t .ensures .0) (t .ensures .1) (t .ok .1 .1 .0 .1 .0 .1) (w .lay-out .ensures .1 .0) in
+    let t = c .before .before .before .before .before .before .before .before .before .tape-of in
+    let a = c .before .before .before .before .before .before .before .before .before .before .before .args in
+    let T = taped (a .tokens) (t .result) _ (t .ensures .0) (t .ensures .1) (t .ok .1 .1 .0 .1 .0 .1) (c .before .before .before .lay-out .ensures .1 .0) in
     few T (c .before .shape .given .1)
 
 image-length-requires : tie.Need-image-length-requires
 image-length-requires c κs =
-    let w = c .before .before .before .before in
-    let t = w .before .before .before .before .before .tape-of in
-    let a = w .before .before .before .before .before .before .before .args in
-    let T = taped (a .tokens) (t .result) _ (t .ensures .0) (t .ensures .1) (t .ok .1 .1 .0 .1 .0 .1) (w .lay-out .ensures .1 .0) in
+    let t = c .before .before .before .before .before .before .before .before .before .before .tape-of in
+    let a = c .before .before .before .before .before .before .before .before .before .before .before .before .args in
+    let T = taped (a .tokens) (t .result) _ (t .ensures .0) (t .ensures .1) (t .ok .1 .1 .0 .1 .0 .1) (c .before .before .before .before .lay-out .ensures .1 .0) in
     let p = c .before .before .shape .given .1 in
     (omega (arith, c .width-of .ensures, few T p), shallow T p)
 
 returns-2 : tie.Need-returns-2
 returns-2 c =
-    let w = c .before .before .before .before .before .before in
-    let t = w .before .before .before .before .before .tape-of in
-    let a = w .before .before .before .before .before .before .before .args in
-    let T = taped (a .tokens) (t .result) _ (t .ensures .0) (t .ensures .1) (t .ok .1 .1 .0 .1 .0 .1) (w .lay-out .ensures .1 .0) in
+    let t = c .before .before .before .before .before .before .before .before .before .before .before .before .tape-of in
+    let a = c .before .before .before .before .before .before .before .before .before .before .before .before .before .before .args in
+    let T = taped (a .tokens) (t .result) _ (t .ensures .0) (t .ensures .1) (t .ok .1 .1 .0 .1 .0 .1) (c .before .before .before .before .before .before .lay-out .ensures .1 .0) in
     let p = c .before .before .before .before .shape .given .1 in
     (says-no-room T p (a .words .now) (c .before .before .width-of .ensures) (c .before .image-length .ensures) (c .if1 .taken), refl)
 
 put-image-requires : tie.Need-put-image-requires
 put-image-requires c κs =
-    let w = c .before .before .before .before .before .before .before .before .before .before .before in
-    let t = w .before .before .before .before .before .tape-of in
-    let a = w .before .before .before .before .before .before .before .args in
-    let T = taped (a .tokens) (t .result) _ (t .ensures .0) (t .ensures .1) (t .ok .1 .1 .0 .1 .0 .1) (w .lay-out .ensures .1 .0) in
-    let p = c .before .before .before .before .before .before .before .before .before .shape .given .1 in
+    let t = c .before .before .before .before .before .before .before .before .before .before .before .before .before .before .before .before .before .before .tape-of in
+    let a = c .before .before .before .before .before .before .before .before .before .before .before .before .before .before .before .before .before .before .before .before .args in
+    let T = taped (a .tokens) (t .result) _ (t .ensures .0) (t .ensures .1) (t .ok .1 .1 .0 .1 .0 .1) (c .before .before .before .before .before .before .before .before .before .before .before .before .lay-out .ensures .1 .0) in
+    let p = c .before .before .before .before .before .before .before .before .before .before .shape .given .1 in
     let f = few T p in (
       (
-        omega (arith, c .before .before .before .before .before .before .before .width-of .ensures, f),
+        omega (arith, c .before .before .before .before .before .before .before .before .width-of .ensures, f),
         shallow T p,
         omega (arith, t .ensures .0, f),
-        omega (arith, t .ensures .0, c .before .before .before .before .before .before .before .width-of .ensures, f),
-        omega (arith, c .before .before .before .before .before .before .image-length .ensures, c .before .before .before .before .before .if1 .left),
+        omega (arith, t .ensures .0, c .before .before .before .before .before .before .before .before .width-of .ensures, f),
+        omega (arith, c .before .before .before .before .before .before .before .image-length .ensures, c .before .before .before .before .before .before .if1 .left),
       ),
-      w .lay-out .ensures .1 .1 .0,
+      c .before .before .before .before .before .before .before .before .before .before .before .before .lay-out .ensures .1 .1 .0,
     )
 
 same-length : tie.Need-same-length
@@ -83,15 +77,14 @@ same-length c = search needs
 
 returns-3 : tie.Need-returns-3
 returns-3 c =
-    let w = c .before .before .before .before .before .before .before .before .before .before .before .before .before .before in
-    let t = w .before .before .before .before .before .tape-of in
-    let a = w .before .before .before .before .before .before .before .args in
-    let T = taped (a .tokens) (t .result) _ (t .ensures .0) (t .ensures .1) (t .ok .1 .1 .0 .1 .0 .1) (w .lay-out .ensures .1 .0) in
-    let p = c .before .before .before .before .before .before .before .before .before .before .before .before .shape .given .1 in
-    let fits = c .before .before .before .before .before .before .before .before .if1 .left in
+    let t = c .before .before .before .before .before .before .before .before .before .before .before .before .before .before .before .before .before .before .before .before .before .tape-of in
+    let a = c .before .before .before .before .before .before .before .before .before .before .before .before .before .before .before .before .before .before .before .before .before .before .before .args in
+    let T = taped (a .tokens) (t .result) _ (t .ensures .0) (t .ensures .1) (t .ok .1 .1 .0 .1 .0 .1) (c .before .before .before .before .before .before .before .before .before .before .before .before .before .before .before .lay-out .ensures .1 .0) in
+    let p = c .before .before .before .before .before .before .before .before .before .before .before .before .before .shape .given .1 in
+    let fits = c .before .before .before .before .before .before .before .before .before .if1 .left in
     let is = c .before .before .put-image .ensures in (
-      says-stored T p (a .words .now) (c .before .before .before .before .before .before .before .before .before .before .width-of .ensures) (c .before .before .before .before .before .before .before .before .before .image-length .ensures) fits is,
-      keeps T p (a .words .now) (c .before .before .before .before .before .before .before .before .before .before .width-of .ensures) (c .before .before .before .before .before .before .before .before .before .image-length .ensures) fits is,
+      says-stored T p (a .words .now) (c .before .before .before .before .before .before .before .before .before .before .before .width-of .ensures) (c .before .before .before .before .before .before .before .before .before .before .image-length .ensures) fits is,
+      keeps T p (a .words .now) (c .before .before .before .before .before .before .before .before .before .before .before .width-of .ensures) (c .before .before .before .before .before .before .before .before .before .before .image-length .ensures) fits is,
     )
 
 pub store-spec : {M : Type 1} → statement M

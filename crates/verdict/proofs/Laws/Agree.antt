@@ -14,15 +14,15 @@ use lib.Pow.{pow-mono}
 use lib.Seq.{drop-append-add, length-take-le, take-at}
 use Rattle.model.specs.Bits.{bit, mask}
 use Rattle.model.specs.Image.{join}
-use Rattle.model.specs.Models.Apart.{anyBelow, bitOf, chunk, depthWord, gatherAt, gatherIn, lettersIn, propagateAt, propagateIn, repeatsIn, scatterAt, scatterIn, stateWord, tape, widthWord}
-use Rattle.model.specs.Models.LayOut.{begin, blockOf, gather-block, gather-source, gather-target, layOut, letter-place, loop-place, scatter-block, scatter-source, scatter-target, set, sourceOf, targetOf, three, tokenLetters, Which}
+use Rattle.model.specs.Models.Apart.{anyBelow, backAt, backIn, bitOf, chunk, depthWord, gatherAt, gatherIn, lettersIn, propagateAt, propagateIn, repeatsIn, scatterAt, scatterIn, stateWord, tape, widthWord}
+use Rattle.model.specs.Models.LayOut.{back-source, back-target, begin, blockOf, gather-block, gather-source, gather-target, layOut, letter-place, loop-place, scatter-block, scatter-source, scatter-target, set, sourceOf, targetOf, three, tokenLetters, two, Which}
 use Rattle.model.specs.Models.Tokens.{Token}
 use Rattle.model.specs.Models.Verdict.{sameWords}
 use Rattle.model.specs.Models.Words.{andWords, Fit, value}
 use Rattle.model.proofs.Image.Compare.{tape-letters}
 use Rattle.model.proofs.Image.LetterPlaces.{letterPlaces, letters-by-or, no-letter-at-zero, or-is-places}
 use Rattle.model.proofs.Image.Rebuild.{whole}
-use Rattle.model.proofs.Image.Rows.{join-same, length-set, length-three, set-same, val-words, wide}
+use Rattle.model.proofs.Image.Rows.{join-same, length-set, length-three, length-two, set-same, val-words, wide}
 use Rattle.model.proofs.Image.SameBits.{rows-ext}
 use Rattle.model.proofs.Image.Verdict.{same-words, tape-fine, words-same}
 use Rattle.model.proofs.Laws.Bits.{below-out, below-same}
@@ -35,10 +35,10 @@ use Rattle.tape.specs.declared.Tape.{Tape}
 use Rattle.tape.proofs.Bare.{bares-lay, bares-length}
 use Rattle.tape.proofs.FirstWords.{first-words}
 use Rattle.tape.proofs.Painted.{propagate-block-is, propagate-source-is, propagate-target-is, row-is}
-use Rattle.image.specs.Work.{threeRows}
+use Rattle.image.specs.Work.{threeRows, twoRows}
 use Rattle.apart.specs.Work.{wordsAt}
-use Rattle.verdict.specs.Work.{sameGather, samePropagate, sameRepeats, sameScatter, sameTables}
-use Rattle.model.proofs.Image.Address.{chunk-at, gather-at, part-fits, part-of-part, propagate-at, repeats-at, scatter-at}
+use Rattle.verdict.specs.Work.{sameBack, sameGather, samePropagate, sameRepeats, sameScatter, sameTables}
+use Rattle.model.proofs.Image.Address.{back-at, chunk-at, gather-at, part-fits, part-of-part, propagate-at, repeats-at, scatter-at}
 
 -- ---- a section and its parts
 chunk-below : (w n a : ℕ) (g : ℕ → List ℕ) → ((k : ℕ) → k < n → length (g (a + k)) ≡ w) → (k : ℕ) → k < n → chunk w k (join n a g) ≡ g (a + k)
@@ -153,6 +153,14 @@ module _ (ws : List ℕ) (t : Tape) (taken : tokensOf t ≡ bares (tape ws)) (tr
             λ i. cut (blockOf B k) (laid-as (λ y. blockOf (layOut y begin) k) (λ x j. blockOf (λ w k x. bare w k x j) k x) (propagate-block-is t tree k q)) i
             ++ (cut (sourceOf B k) (laid-as (λ y. sourceOf (layOut y begin) k) (λ x j. sourceOf (λ w k x. bare w k x j) k x) (propagate-source-is t tree k q)) i
             ++ cut (targetOf B k) (laid-as (λ y. targetOf (layOut y begin) k) (λ x j. targetOf (λ w k x. bare w k x j) k x) (propagate-target-is t tree k q)) i)
+
+    -- two masks for each depth: the back edges
+    pub back-is : T (sameBack ws (backAt W d) W d t) ↔ ((k : ℕ) → k < d → chunk (2 * W) k (backIn ws) ≡ two m W (B back-source k) (B back-target k))
+    back-is =
+        subst (λ (z : List ℕ). T (sameBack ws (backAt W d) W d t) ↔ ((k : ℕ) → k < d → chunk (2 * W) k z ≡ two m W (B back-source k) (B back-target k))) (sym (back-at ws))
+        (section-is (2 * W) d (λ k. two m W (B back-source k) (B back-target k)) (λ k q. length-two m W (B back-source k) (B back-target k)) (drop (backAt W d) ws)
+        (λ k. twoRows W (getD (tableOf t back-source) k []) (getD (tableOf t back-target) k []))
+        (λ k h i. cut (B back-source k) (row back-source k (omega arith)) i ++ cut (B back-target k) (row back-target k (omega arith)) i))
 
   -- ---- repeats
   module _ (room : 5 + W * 256 ≤ length ws) where

@@ -55,7 +55,7 @@ module _ {ws : List ℕ} {W d : ℕ} {letters : List ℕ} {t : Tape} (K : Taken 
   H = K .headed
 
   -- what is asked of the words where they are compared
-  pub room-taken : (W ≤ 8) × (d ≤ 8) × (length ws ≡ 9 + W * (515 + 9 * d))
+  pub room-taken : (W ≤ 8) × (d ≤ 8) × (length ws ≡ 10 + W * (515 + 11 * d))
   room-taken = sized H (K .width-is) (K .depth-is)
 
   -- ---- NO

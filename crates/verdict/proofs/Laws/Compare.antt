@@ -15,7 +15,7 @@ use Rattle.mask.proofs.Laws.Same.{same-false, same-true}
 use Rattle.model.proofs.Image.Address.{part-fits}
 use Rattle.image.proofs.Laws.Parts.{AllLong, length-section}
 use Rattle.apart.specs.Work.{wordsAt}
--- Repeats: the section of the repeats beside the letters at the loops' places. Tables: three masks for each depth.
+-- Repeats: the section of the repeats beside the letters at the loops' places. Tables: some masks for each depth.
 pub mod Repeats
 pub mod Tables
 
@@ -29,7 +29,7 @@ module _ (ws : List ℕ) (at m : ℕ) where
 
 -- ---- word j of part k
 module _ (w : ℕ) (f : ℕ → List ℕ) where
-  word-from : (n a k j : ℕ) → ((i : ℕ) → i < n → length (f (a + i)) ≡ w) → k < n → j < w
+  pub word-from : (n a k j : ℕ) → ((i : ℕ) → i < n → length (f (a + i)) ≡ w) → k < n → j < w
       → getD (join n a f) (w * k + j) 0 ≡ getD (f (a + k)) j 0
   word-from zero a k j long h l = absurd (not-suc-le-zero h)
   word-from (suc n) a zero j long h l =

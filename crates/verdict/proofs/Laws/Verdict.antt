@@ -4,7 +4,7 @@ use mathlib.Core.Logic.{_↔_}
 use mathlib.Core.Bool.{Bool, true, false, _&&_, cond}
 use mathlib.Core.List.{List, [], _∷_}
 use Prim.Native.Nat.{ℕ, suc, _+_, _-_, _*_, _≤_}
-use native.Mathlib.Nat.{mul-assoc, mul-comm}
+use native.Mathlib.Nat.{mul-assoc, mul-comm, mul-suc}
 use native.Mathlib.Omega.{arith}
 use lib.Dec.{T, leb, le→leb}
 use lib.ListN.{drop, getD, length}
@@ -12,7 +12,7 @@ use lib.Seq.{getD-drop}
 use Rattle.model.specs.Answers.{ImageOf}
 use Rattle.model.specs.Bits.{bit}
 use Rattle.model.specs.Edges.{states}
-use Rattle.model.specs.Models.Apart.{anyBelow, bitOf, depthWord, gatherAt, gatherIn, lettersIn, propagateAt, repeatsIn, scatterAt, scatterIn, stateWord, tape, tokenAt, widthWord}
+use Rattle.model.specs.Models.Apart.{anyBelow, backAt, bitOf, depthWord, gatherAt, gatherIn, lettersIn, propagateAt, propagateIn, repeatsIn, scatterAt, scatterIn, stateWord, tape, tokenAt, widthWord}
 use Rattle.model.specs.Models.LayOut.{begin, letter-place, loop-place, reach, valid}
 use Rattle.model.specs.Models.Tokens.{parse, Token, tokens}
 use Rattle.model.specs.Models.Verdict.{accepts, sameWords}
@@ -30,9 +30,9 @@ use Rattle.tape.specs.declared.Shape.the-variants.{Other, Tree}
 use Rattle.tape.specs.declared.Tape.{Tape}
 use Rattle.tape.proofs.Bare.{bares-reach, bares-valid}
 use Rattle.apart.specs.Says.{Headed}
-use Rattle.verdict.specs.Work.{sameAll, sameGather, samePropagate, sameRepeats, sameScatter}
-use Rattle.model.proofs.Image.Address.{gather-at, repeats-at, scatter-at}
-use Rattle.verdict.proofs.Laws.Agree.{gather-is, letters-is, propagate-is, repeats-is, scatter-is}
+use Rattle.verdict.specs.Work.{sameAll, sameBack, sameGather, samePropagate, sameRepeats, sameScatter}
+use Rattle.model.proofs.Image.Address.{gather-at, propagate-at, repeats-at, scatter-at}
+use Rattle.verdict.proofs.Laws.Agree.{back-is, gather-is, letters-is, propagate-is, repeats-is, scatter-is}
 
 -- the count that follows n words of a section
 count-at : (S ws : List ℕ) (a n k : ℕ) → S ≡ drop a ws → a + n ≡ k → getD (drop n S) 0 0 ≡ getD ws k 0
@@ -88,7 +88,7 @@ module _ (ws : List ℕ) (fit : Fit ws) (H : Headed ws) (t : Tape) (size : t .le
   reach-same : reach (tokensOf t) begin ≡ reach l begin
   reach-same = ap (λ (y : List Token). reach y begin) taken ∙ bares-reach l begin
 
-  -- the five comparisons
+  -- the six comparisons
   abbrev letters-same : Bool
   letters-same = sameWords letters (getD (tableOf t letter-place) 0 [])
 
@@ -104,6 +104,9 @@ module _ (ws : List ℕ) (fit : Fit ws) (H : Headed ws) (t : Tape) (size : t .le
   abbrev propagate-same : Bool
   propagate-same = samePropagate ws (propagateAt W d) W d t
 
+  abbrev back-same : Bool
+  back-same = sameBack ws (backAt W d) W d t
+
   -- YES: then the words are the image of a tree, whose tape it is
   pub yes : T (isTree t) → reach (tokensOf t) begin ≡ d → T (sameAll ws W d letters t) → (s : tree.Tree) × ImageOf ws s × TapeOf s t
   yes grown deep all =
@@ -115,14 +118,17 @@ module _ (ws : List ℕ) (fit : Fit ws) (H : Headed ws) (t : Tape) (size : t .le
       b : stateWord ws ≡ suc (length l)
       b = between v
 
-      rest₁ : T (repeats-same && (scatter-same && (gather-same && propagate-same)))
-      rest₁ = and-split letters-same (repeats-same && (scatter-same && (gather-same && propagate-same))) all .1
+      rest₁ : T (repeats-same && (scatter-same && (gather-same && (propagate-same && back-same))))
+      rest₁ = and-split letters-same (repeats-same && (scatter-same && (gather-same && (propagate-same && back-same)))) all .1
 
-      rest₂ : T (scatter-same && (gather-same && propagate-same))
-      rest₂ = and-split repeats-same (scatter-same && (gather-same && propagate-same)) rest₁ .1
+      rest₂ : T (scatter-same && (gather-same && (propagate-same && back-same)))
+      rest₂ = and-split repeats-same (scatter-same && (gather-same && (propagate-same && back-same))) rest₁ .1
 
-      rest₃ : T (gather-same && propagate-same)
-      rest₃ = and-split scatter-same (gather-same && propagate-same) rest₂ .1
+      rest₃ : T (gather-same && (propagate-same && back-same))
+      rest₃ = and-split scatter-same (gather-same && (propagate-same && back-same)) rest₂ .1
+
+      rest₄ : T (propagate-same && back-same)
+      rest₄ = and-split gather-same (propagate-same && back-same) rest₃ .1
 
       compared : Compared ws l
       compared = record {
@@ -137,12 +143,16 @@ module _ (ws : List ℕ) (fit : Fit ws) (H : Headed ws) (t : Tape) (size : t .le
         gather-count = count-at (scatterIn ws) ws (scatterAt W) (3 * W * d) (7 + 512 * W + 3 * W * d) (scatter-at ws) (omega arith) ∙ H .gather-count;
         propagate-count =
             count-at (gatherIn ws) ws (gatherAt W d) (3 * W * d) (8 + 512 * W + 6 * W * d) (gather-at ws) (omega (arith, mul-assoc 3 W d, mul-assoc 6 W d)) ∙ H .propagate-count;
+        back-count =
+            count-at (propagateIn ws) ws (propagateAt W d) (3 * W * suc d) (9 + 515 * W + 9 * W * d) (propagate-at ws)
+            (omega (arith, mul-assoc 3 W d, mul-assoc 9 W d, mul-suc (3 * W) d)) ∙ H .back-count;
         letters = letters-is ws t taken grown b narrow (H .few) fits letters eight fit-letters bits .0
-            (and-split letters-same (repeats-same && (scatter-same && (gather-same && propagate-same))) all .0);
-        repeats = repeats-is ws t taken grown b narrow (omega (arith, H .long)) .0 (and-split repeats-same (scatter-same && (gather-same && propagate-same)) rest₁ .0);
-        scatter = scatter-is ws t taken grown b narrow (H .shallow) .0 (and-split scatter-same (gather-same && propagate-same) rest₂ .0);
-        gather = gather-is ws t taken grown b narrow (H .shallow) .0 (and-split gather-same propagate-same rest₃ .0);
-        propagate = propagate-is ws t taken grown b narrow (H .shallow) .0 (and-split gather-same propagate-same rest₃ .1);
+            (and-split letters-same (repeats-same && (scatter-same && (gather-same && (propagate-same && back-same)))) all .0);
+        repeats = repeats-is ws t taken grown b narrow (omega (arith, H .long)) .0 (and-split repeats-same (scatter-same && (gather-same && (propagate-same && back-same))) rest₁ .0);
+        scatter = scatter-is ws t taken grown b narrow (H .shallow) .0 (and-split scatter-same (gather-same && (propagate-same && back-same)) rest₂ .0);
+        gather = gather-is ws t taken grown b narrow (H .shallow) .0 (and-split gather-same (propagate-same && back-same) rest₃ .0);
+        propagate = propagate-is ws t taken grown b narrow (H .shallow) .0 (and-split propagate-same back-same rest₄ .0);
+        back = back-is ws t taken grown b narrow (H .shallow) .0 (and-split propagate-same back-same rest₄ .1);
       }
 
       accepted : T (accepts ws)
@@ -190,6 +200,10 @@ module _ (ws : List ℕ) (fit : Fit ws) (s : tree.Tree) (I : ImageOf ws s) where
         sym (count-at (gatherIn ws) ws (gatherAt (widthWord ws) (depthWord ws)) (3 * widthWord ws * depthWord ws) (8 + 512 * widthWord ws + 6 * widthWord ws * depthWord ws)
         (gather-at ws) (omega (arith, mul-assoc 3 (widthWord ws) (depthWord ws), mul-assoc 6 (widthWord ws) (depthWord ws))))
         ∙ C .propagate-count;
+    back-count =
+        sym (count-at (propagateIn ws) ws (propagateAt (widthWord ws) (depthWord ws)) (3 * widthWord ws * suc (depthWord ws)) (9 + 515 * widthWord ws + 9 * widthWord ws * depthWord ws)
+        (propagate-at ws) (omega (arith, mul-assoc 3 (widthWord ws) (depthWord ws), mul-assoc 9 (widthWord ws) (depthWord ws), mul-suc (3 * widthWord ws) (depthWord ws))))
+        ∙ C .back-count;
   }
 
   module _ (t : Tape) (size : t .length ≡ stateWord ws - 1) (taken : tokensOf t ≡ bares (tape ws))
@@ -206,11 +220,12 @@ module _ (ws : List ℕ) (fit : Fit ws) (s : tree.Tree) (I : ImageOf ws s) where
 
     pub image-same : T (sameAll ws (widthWord ws) (depthWord ws) letters t)
     image-same =
-        and-both (sameWords letters (getD (tableOf t letter-place) 0 [])) (R && (S && (G && P))) (letters-is ws t taken image-tree (C .states) n (H .few) f letters eight fit-letters bits .1 (C .letters))
-        (and-both R (S && (G && P)) (repeats-is ws t taken image-tree (C .states) n (omega (arith, H .long)) .1 (C .repeats))
-        (and-both S (G && P) (scatter-is ws t taken image-tree (C .states) n (H .shallow) .1 (C .scatter))
-        (and-both G P (gather-is ws t taken image-tree (C .states) n (H .shallow) .1 (C .gather))
-        (propagate-is ws t taken image-tree (C .states) n (H .shallow) .1 (C .propagate)))))
+        and-both (sameWords letters (getD (tableOf t letter-place) 0 [])) (R && (S && (G && (P && K)))) (letters-is ws t taken image-tree (C .states) n (H .few) f letters eight fit-letters bits .1 (C .letters))
+        (and-both R (S && (G && (P && K))) (repeats-is ws t taken image-tree (C .states) n (omega (arith, H .long)) .1 (C .repeats))
+        (and-both S (G && (P && K)) (scatter-is ws t taken image-tree (C .states) n (H .shallow) .1 (C .scatter))
+        (and-both G (P && K) (gather-is ws t taken image-tree (C .states) n (H .shallow) .1 (C .gather))
+        (and-both P K (propagate-is ws t taken image-tree (C .states) n (H .shallow) .1 (C .propagate))
+        (back-is ws t taken image-tree (C .states) n (H .shallow) .1 (C .back))))))
       where
         R : Bool
         R = sameRepeats ws (widthWord ws) (getD (tableOf t loop-place) 0 [])
@@ -223,6 +238,9 @@ module _ (ws : List ℕ) (fit : Fit ws) (s : tree.Tree) (I : ImageOf ws s) where
 
         P : Bool
         P = samePropagate ws (propagateAt (widthWord ws) (depthWord ws)) (widthWord ws) (depthWord ws) t
+
+        K : Bool
+        K = sameBack ws (backAt (widthWord ws) (depthWord ws)) (widthWord ws) (depthWord ws) t
 
         n : widthWord ws ≤ 8
         n = narrow ws fit H t size taken letters eight fit-letters bits

@@ -21,9 +21,8 @@ refuse-requires c κs = search needs
 
 returns : tie.Need-returns
 returns c =
-    let s = c .before .before .before in
-    let ws = s .before .before .args .words .now in
-    is-other (not-headed ws (fit-row ws (s .before .shared-slice-known .given)) (s .take-apart .ensures) (c .before .enum-told .given .1)) (c .refuse .ensures)
+    let ws = c .before .before .before .before .before .args .words .now in
+    is-other (not-headed ws (fit-row ws (c .before .before .before .before .shared-slice-known .given)) (c .before .before .before .take-apart .ensures) (c .before .enum-told .given .1)) (c .refuse .ensures)
 
 lay-out-requires : tie.Need-lay-out-requires
 lay-out-requires c κs = search needs
@@ -39,9 +38,8 @@ refuse-requires-2 c κs = search needs
 
 returns-2 : tie.Need-returns-2
 returns-2 c =
-    let s = c .before .before .before .before .before .before .before .before .before .before .before .before in
-    let ws = s .before .before .args .words .now in
-    let K = taken-of (fit-row ws (s .before .shared-slice-known .given)) (s .take-apart .ensures) (c .before .before .before .before .before .before .before .before .before .before .header .given .1) in
+    let ws = c .before .before .before .before .before .before .before .before .before .before .before .before .before .before .before .args .words .now in
+    let K = taken-of (fit-row ws (c .before .before .before .before .before .before .before .before .before .before .before .before .before .before .shared-slice-known .given)) (c .before .before .before .before .before .before .before .before .before .before .before .before .before .take-apart .ensures) (c .before .before .before .before .before .before .before .before .before .before .before .header .given .1) in
     is-other (no-tree K (sym (c .before .before .before .lay-out .ensures .0) ∙ c .before .enum-told2 .given .1)) (c .refuse2 .ensures)
 
 refuse-requires-3 : tie.Need-refuse-requires-3
@@ -49,38 +47,34 @@ refuse-requires-3 c κs = search needs
 
 returns-3 : tie.Need-returns-3
 returns-3 c =
-    let s = c .before .before .before .before .before .before .before .before .before .before .before .before .before .before in
-    let ws = s .before .before .args .words .now in
-    let K = taken-of (fit-row ws (s .before .shared-slice-known .given)) (s .take-apart .ensures) (c .before .before .before .before .before .before .before .before .before .before .before .before .header .given .1) in
+    let ws = c .before .before .before .before .before .before .before .before .before .before .before .before .before .before .before .before .before .args .words .now in
+    let K = taken-of (fit-row ws (c .before .before .before .before .before .before .before .before .before .before .before .before .before .before .before .before .shared-slice-known .given)) (c .before .before .before .before .before .before .before .before .before .before .before .before .before .before .before .take-apart .ensures) (c .before .before .before .before .before .before .before .before .before .before .before .before .before .header .given .1) in
     let g = c .before .before .before .shape .given in
     is-other (other-depth K (g .0 .0) (sym (c .before .before .before .before .before .lay-out .ensures .0) ∙ g .1) (c .before .if1 .taken)) (c .refuse3 .ensures)
 
 agrees-requires : tie.Need-agrees-requires
 agrees-requires c κs =
-    let s = c .before .before .before .before .before .before .before .before .before .before .before .before .before .before .before .before .before .before in
-    let ws = s .before .before .args .words .now in
-    let K = taken-of (fit-row ws (s .before .shared-slice-known .given)) (s .take-apart .ensures) (c .before .before .before .before .before .before .before .before .before .before .before .before .before .before .before .before .header .given .1) in
-    (room-taken K, c .before .before .before .before .before .before .before .before .before .lay-out .ensures .1 .1 .0)
+    let ws = c .before .before .before .before .before .before .before .before .before .before .before .before .before .before .before .before .before .before .before .before .before .before .args .words .now in
+    let K = taken-of (fit-row ws (c .before .before .before .before .before .before .before .before .before .before .before .before .before .before .before .before .before .before .before .before .before .shared-slice-known .given)) (c .before .before .before .before .before .before .before .before .before .before .before .before .before .before .before .before .before .before .before .before .take-apart .ensures) (c .before .before .before .before .before .before .before .before .before .before .before .before .before .before .before .before .before .before .header .given .1) in
+    (room-taken K, c .before .before .before .before .before .before .before .before .before .before .lay-out .ensures .1 .1 .0)
 
 refuse-requires-4 : tie.Need-refuse-requires-4
 refuse-requires-4 c κs = search needs
 
 returns-4 : tie.Need-returns-4
 returns-4 c =
-    let s = c .before .before .before .before .before .before .before .before .before .before .before .before .before .before .before .before .before .before .before .before .before in
-    let ws = s .before .before .args .words .now in
-    let K = taken-of (fit-row ws (s .before .shared-slice-known .given)) (s .take-apart .ensures) (c .before .before .before .before .before .before .before .before .before .before .before .before .before .before .before .before .before .before .before .header .given .1) in
+    let ws = c .before .before .before .before .before .before .before .before .before .before .before .before .before .before .before .before .before .before .before .before .before .before .before .before .before .args .words .now in
+    let K = taken-of (fit-row ws (c .before .before .before .before .before .before .before .before .before .before .before .before .before .before .before .before .before .before .before .before .before .before .before .before .shared-slice-known .given)) (c .before .before .before .before .before .before .before .before .before .before .before .before .before .before .before .before .before .before .before .before .before .before .before .take-apart .ensures) (c .before .before .before .before .before .before .before .before .before .before .before .before .before .before .before .before .before .before .before .before .before .header .given .1) in
     let a = c .before .before .agrees in
     is-other (words-differ K (sym (a .ensures) ∙ not-true (a .result) (c .before .if2 .taken))) (c .refuse4 .ensures)
 
 returns-5 : tie.Need-returns-5
 returns-5 c =
-    let s = c .before .before .before .before .before .before .before .before .before .before .before .before .before .before .before .before .before .before .before .before in
-    let ws = s .before .before .args .words .now in
-    let K = taken-of (fit-row ws (s .before .shared-slice-known .given)) (s .take-apart .ensures) (c .before .before .before .before .before .before .before .before .before .before .before .before .before .before .before .before .before .before .header .given .1) in
+    let ws = c .before .before .before .before .before .before .before .before .before .before .before .before .before .before .before .before .before .before .before .before .before .before .before .before .args .words .now in
+    let K = taken-of (fit-row ws (c .before .before .before .before .before .before .before .before .before .before .before .before .before .before .before .before .before .before .before .before .before .before .before .shared-slice-known .given)) (c .before .before .before .before .before .before .before .before .before .before .before .before .before .before .before .before .before .before .before .before .before .before .take-apart .ensures) (c .before .before .before .before .before .before .before .before .before .before .before .before .before .before .before .before .before .before .before .before .header .given .1) in
     let a = c .before .agrees in
-    let g = c .before .before .before .before .before .before .before .before .before .shape .given in
-    image-found K (g .0 .0) (sym (c .before .before .before .before .before .before .before .before .before .before .before .lay-out .ensures .0) ∙ g .1) (c .before .before .before .before .before .before .before .if1 .left) (sym (a .ensures) ∙ not-false (a .result) (c .if2 .left))
+    let g = c .before .before .before .before .before .before .before .before .before .before .shape .given in
+    image-found K (g .0 .0) (sym (c .before .before .before .before .before .before .before .before .before .before .before .before .lay-out .ensures .0) ∙ g .1) (c .before .before .before .before .before .before .before .before .if1 .left) (sym (a .ensures) ∙ not-false (a .result) (c .if2 .left))
 
 pub check-spec : {M : Type 1} → statement M
 check-spec =

@@ -25,7 +25,7 @@ module _ (marks : Marks) (i : ℕ) where
   ifLetter n = repeatKind (repeatOf (bit (value (marks .entered)) n) (bit (value (marks .loops)) n))
 
   abbrev ifClose : ℕ → ℕ
-  ifClose n = markKind (markOf (bit (value (marks .entered)) n))
+  ifClose n = markKind (markOf (bit (value (marks .entered)) n) (bit (value (marks .returns)) i))
 
   abbrev ifNeither : ℕ
   ifNeither = cond (bit (value (marks .opens)) i) 4 5
@@ -71,7 +71,7 @@ letter-kind-requires c κs = search needs
 
 returns : tie.Need-returns
 returns c =
-    let a = c .before .before .before .before .before .before .before .before .before .before .args in
+    let a = c .before .before .before .before .before .before .before .before .before .before .before .args in
     c .letter-kind .ensures
     ∙ ap₂ (λ (s p : Bool). repeatKind (repeatOf s p)) (c .before .before .row-has-bit2 .ensures) (c .before .row-has-bit3 .ensures)
     ∙ is-letter (a .marks) (a .i) (sym (c .before .before .before .before .row-has-bit .ensures) ∙ c .before .before .before .if1 .taken)
@@ -88,32 +88,35 @@ add-row-has-bit-5 c = search needs
 row-has-bit-requires-5 : tie.Need-row-has-bit-requires-5
 row-has-bit-requires-5 c κs = search needs
 
+row-has-bit-requires-6 : tie.Need-row-has-bit-requires-6
+row-has-bit-requires-6 c κs = search needs
+
 close-kind-requires : tie.Need-close-kind-requires
 close-kind-requires c κs = search needs
 
 returns-2 : tie.Need-returns-2
 returns-2 c =
-    let a = c .before .before .before .before .before .before .before .before .before .before .before .args in
+    let a = c .before .before .before .before .before .before .before .before .before .before .before .before .before .args in
     c .close-kind .ensures
-    ∙ ap (λ (s : Bool). markKind (markOf s)) (c .before .row-has-bit5 .ensures)
-    ∙ is-close (a .marks) (a .i) (sym (c .before .before .before .before .before .row-has-bit .ensures) ∙ c .before .before .before .before .if1 .left)
-    (sym (c .before .before .before .row-has-bit4 .ensures) ∙ c .before .before .if2 .taken)
+    ∙ ap₂ (λ (s b : Bool). markKind (markOf s b)) (c .before .before .row-has-bit5 .ensures) (c .before .row-has-bit6 .ensures)
+    ∙ is-close (a .marks) (a .i) (sym (c .before .before .before .before .before .before .row-has-bit .ensures) ∙ c .before .before .before .before .before .if1 .left)
+    (sym (c .before .before .before .before .row-has-bit4 .ensures) ∙ c .before .before .before .if2 .taken)
 
-row-has-bit-requires-6 : tie.Need-row-has-bit-requires-6
-row-has-bit-requires-6 c κs = search needs
+row-has-bit-requires-7 : tie.Need-row-has-bit-requires-7
+row-has-bit-requires-7 c κs = search needs
 
 returns-3 : tie.Need-returns-3
 returns-3 c =
-    let a = c .before .before .before .before .before .before .before .before .before .before .before .args in
-    ap (λ (b : Bool). cond b 4 5) (sym (c .if3 .taken) ∙ c .before .row-has-bit6 .ensures)
+    let a = c .before .before .before .before .before .before .before .before .before .before .before .before .args in
+    ap (λ (b : Bool). cond b 4 5) (sym (c .if3 .taken) ∙ c .before .row-has-bit7 .ensures)
     ∙ is-neither (a .marks) (a .i)
     (sym (c .before .before .before .before .before .row-has-bit .ensures) ∙ c .before .before .before .before .if1 .left)
     (sym (c .before .before .before .row-has-bit4 .ensures) ∙ c .before .before .if2 .left)
 
 returns-4 : tie.Need-returns-4
 returns-4 c =
-    let a = c .before .before .before .before .before .before .before .before .before .before .before .args in
-    ap (λ (b : Bool). cond b 4 5) (sym (c .if3 .left) ∙ c .before .row-has-bit6 .ensures)
+    let a = c .before .before .before .before .before .before .before .before .before .before .before .before .args in
+    ap (λ (b : Bool). cond b 4 5) (sym (c .if3 .left) ∙ c .before .row-has-bit7 .ensures)
     ∙ is-neither (a .marks) (a .i)
     (sym (c .before .before .before .before .before .row-has-bit .ensures) ∙ c .before .before .before .before .if1 .left)
     (sym (c .before .before .before .row-has-bit4 .ensures) ∙ c .before .before .if2 .left)
@@ -134,8 +137,9 @@ kind-at-spec =
     row-has-bit-requires-4
     add-row-has-bit-5
     row-has-bit-requires-5
+    row-has-bit-requires-6
     close-kind-requires
     returns-2
-    row-has-bit-requires-6
+    row-has-bit-requires-7
     returns-3
     returns-4)

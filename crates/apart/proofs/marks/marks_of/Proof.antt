@@ -1,9 +1,10 @@
 -- `marks_of`: each row is made of the masks where `marksOf` has them, and all of them lie within the words.
 use mathlib.Core.Path.{_∙_, ap}
+use Prim.Native.Nat.{ℕ, _+_, _*_}
 use native.Mathlib.Numerals.{add-one}
 use borrow.Author.Needs.{needs}
 use Rattle.model.specs.Models.Apart.{propagateAt}
-use Rattle.apart.specs.Work.{enteredRow}
+use Rattle.apart.specs.Work.{enteredRow, someRow}
 use Rattle.apart.proofs.marks.marks_of.Statement.{statement}
 use Rattle.apart.proofs.marks.marks_of.Tie as tie
 
@@ -36,6 +37,21 @@ mul-propagate-2 c = search needs
 
 add-propagate-2 : tie.Need-add-propagate-2
 add-propagate-2 c = search needs
+
+add-back : tie.Need-add-back
+add-back c = search needs
+
+mul-back : tie.Need-mul-back
+mul-back c = search needs
+
+add-back-2 : tie.Need-add-back-2
+add-back-2 c = search needs
+
+mul-back-2 : tie.Need-mul-back-2
+mul-back-2 c = search needs
+
+add-back-3 : tie.Need-add-back-3
+add-back-3 c = search needs
 
 some-row-requires : tie.Need-some-row-requires
 some-row-requires c κs = search needs
@@ -76,16 +92,24 @@ mul-some-row-4 c = search needs
 some-row-requires-4 : tie.Need-some-row-requires-4
 some-row-requires-4 c κs = search needs
 
+mul-some-row-5 : tie.Need-mul-some-row-5
+mul-some-row-5 c = search needs
+
+some-row-requires-5 : tie.Need-some-row-requires-5
+some-row-requires-5 c κs = search needs
+
 returns : tie.Need-returns
 returns c =
-    let a = c .before .before .before .before .before .before .args in
+    let a = c .before .before .before .before .before .before .before .args in
     let next = ap (enteredRow (a .words .now) (propagateAt (a .width) (a .depth)) (a .width)) (add-one (a .depth)) in
+    let past = ap (λ (k : ℕ). someRow (a .words .now) (propagateAt (a .width) (a .depth) + 1 + 3 * a .width * k) (2 * a .width) (a .width) (a .depth)) (add-one (a .depth)) in
     λ i. record {
-      letters = c .before .before .before .before .some-row .ensures i;
-      loops = c .before .before .before .some-row2 .ensures i;
-      entered = (c .before .before .entered-row .ensures ∙ next) i;
-      closes = c .before .some-row3 .ensures i;
-      opens = c .some-row4 .ensures i;
+      letters = c .before .before .before .before .before .some-row .ensures i;
+      loops = c .before .before .before .before .some-row2 .ensures i;
+      entered = (c .before .before .before .entered-row .ensures ∙ next) i;
+      closes = c .before .before .some-row3 .ensures i;
+      opens = c .before .some-row4 .ensures i;
+      returns = (c .some-row5 .ensures ∙ past) i;
     }
 
 pub marks-of-spec : {M : Type 1} → statement M
@@ -102,6 +126,11 @@ marks-of-spec =
     mul-propagate
     mul-propagate-2
     add-propagate-2
+    add-back
+    mul-back
+    add-back-2
+    mul-back-2
+    add-back-3
     some-row-requires
     mul-some-row
     add-some-row
@@ -115,4 +144,6 @@ marks-of-spec =
     add-some-row-3
     mul-some-row-4
     some-row-requires-4
+    mul-some-row-5
+    some-row-requires-5
     returns)

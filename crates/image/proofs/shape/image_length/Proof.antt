@@ -1,4 +1,4 @@
--- `image_length`: an image is the longest at width 8 and depth 8, where its length is 4705.
+-- `image_length`: an image is the longest at width 8 and depth 8, where its length is 4834.
 use Prim.Native.Nat.{_+_, _*_, _≤_}
 use native.Mathlib.Nat.{mul-le-mul}
 use native.Mathlib.Omega.{arith}
@@ -13,10 +13,10 @@ add-result : tie.Need-add-result
 add-result c = search needs
 
 mul-result-2 : tie.Need-mul-result-2
-mul-result-2 c = let deep : 515 + 9 * c .args .depth ≤ 587 = omega arith in omega (arith, mul-le-mul (c .pre .0) deep)
+mul-result-2 c = let deep : 515 + 11 * c .args .depth ≤ 603 = omega arith in omega (arith, mul-le-mul (c .pre .0) deep)
 
 add-result-2 : tie.Need-add-result-2
-add-result-2 c = let deep : 515 + 9 * c .args .depth ≤ 587 = omega arith in omega (arith, mul-le-mul (c .pre .0) deep)
+add-result-2 c = let deep : 515 + 11 * c .args .depth ≤ 603 = omega arith in omega (arith, mul-le-mul (c .pre .0) deep)
 
 returns : tie.Need-returns
 returns c = search needs

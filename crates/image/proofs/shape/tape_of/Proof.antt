@@ -10,7 +10,7 @@ use Rattle.image.proofs.shape.tape_of.Statement.{statement}
 use Rattle.image.proofs.shape.tape_of.Tie as tie
 
 abbrev Inv-loop : tie.InvT-loop
-Inv-loop length tokens kinds₀ i₀ kinds i = (lengthOf kinds ≡ 512) × ((k : ℕ) → k < i → getD kinds k 0 ≡ min (getD tokens (5 * k) 0) 7)
+Inv-loop length tokens kinds₀ i₀ kinds i = (lengthOf kinds ≡ 512) × ((k : ℕ) → k < i → getD kinds k 0 ≡ min (getD tokens (5 * k) 0) 8)
 
 abbrev μ-loop : tie.MeasureT-loop
 μ-loop length tokens kinds₀ i₀ kinds i = 511 - i
@@ -46,7 +46,7 @@ loop-again c =
     let v = c .kind-of .result in
     let h = c .before .loop-test .taken in (
       length-set (l .kinds) (l .i) v ∙ l .inv .0,
-      below-more (λ (k : ℕ). getD (set (l .kinds) (l .i) v) k 0 ≡ min (getD row (5 * k) 0) 7) (l .i)
+      below-more (λ (k : ℕ). getD (set (l .kinds) (l .i) v) k 0 ≡ min (getD row (5 * k) 0) 8) (l .i)
           (λ k m. getD-set-other (l .kinds) (l .i) k v 0 (λ q. omega arith) ∙ l .inv .1 k m)
           (getD-set-same (l .kinds) (l .i) v 0 (omega (arith, l .inv .0, h)) ∙ c .kind-of .ensures),
     )

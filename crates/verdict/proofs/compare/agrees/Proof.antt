@@ -2,17 +2,20 @@
 use mathlib.Core.Path.{_≡_, refl, sym, ap, _∙_, subst}
 use mathlib.Core.Bool.{Bool, true, false, not, _&&_}
 use mathlib.Core.List.{List, []}
-use Prim.Native.Nat.{ℕ, _+_}
+use Prim.Native.Nat.{ℕ, _+_, _*_}
 use native.Mathlib.Numerals.{add-one}
 use native.Mathlib.Omega.{arith}
 use lib.Dec.{T}
 use lib.ListN.{getD}
-use Rattle.model.specs.Models.Apart.{gatherAt, propagateAt, scatterAt}
+use Rattle.model.specs.Image.{join}
+use Rattle.model.specs.Models.Apart.{backAt, gatherAt, propagateAt, scatterAt}
 use Rattle.model.specs.Models.LayOut.{letter-place, loop-place}
 use Rattle.model.specs.Models.Verdict.{sameWords}
-use Rattle.tape.specs.Masks.{tableIn}
 use Rattle.tape.specs.Tapes.{tableOf}
-use Rattle.verdict.specs.Work.{sameGather, samePropagate, sameRepeats, sameScatter, sameTables}
+use Rattle.apart.specs.Work.{wordsAt}
+use Rattle.image.proofs.Laws.Lengths.{backRows}
+use Rattle.verdict.specs.Work.{sameBack, sameGather, sameMasks, samePropagate, sameRepeats, sameScatter, sameTables}
+use Rattle.verdict.proofs.Laws.Compare.Tables.{three-masks, two-masks}
 use borrow.Author.Needs.{needs}
 use Rattle.verdict.proofs.compare.agrees.Statement.{statement}
 use Rattle.verdict.proofs.compare.agrees.Tie as tie
@@ -48,9 +51,15 @@ abbrev propagateIs : tie.Start → Bool
 propagateIs c =
     samePropagate (c .args .words .now) (propagateAt (c .args .width) (c .args .depth)) (c .args .width) (c .args .depth) (c .args .tape)
 
+abbrev backIs : tie.Start → Bool
+backIs c = sameBack (c .args .words .now) (backAt (c .args .width) (c .args .depth)) (c .args .width) (c .args .depth) (c .args .tape)
+
 -- all from one test on
+abbrev fromPropagate : tie.Start → Bool
+fromPropagate c = propagateIs c && backIs c
+
 abbrev fromGather : tie.Start → Bool
-fromGather c = gatherIs c && propagateIs c
+fromGather c = gatherIs c && fromPropagate c
 
 abbrev fromScatter : tie.Start → Bool
 fromScatter c = scatterIs c && fromGather c
@@ -64,30 +73,41 @@ all c = lettersAre c && fromRepeats c
 -- the masks are those that are laid out for the tape
 scatter-same : (s : tie.Start)
     → let a = s .args in
-    let ms = a .scatters .now in
-    sameTables (a .words .now) (scatterAt (a .width)) (a .width) (a .depth) (tableIn ms 0) (tableIn ms 1) (tableIn ms 2) ≡ scatterIs s
+    sameMasks (a .words .now) (scatterAt (a .width)) (a .width) (a .depth) 0 3 (a .scatters .now) ≡ scatterIs s
 scatter-same s =
     let a = s .args in
     let L = s .pre .1 in
-    λ i. sameTables (a .words .now) (scatterAt (a .width)) (a .width) (a .depth) (L .scatter-blocks i) (L .scatter-sources i) (L .scatter-targets i)
+    three-masks (a .words .now) (scatterAt (a .width)) (a .width) (a .depth) (a .scatters .now) (omega (arith, s .pre .0 .1))
+    ∙ (λ i. sameTables (a .words .now) (scatterAt (a .width)) (a .width) (a .depth) (L .scatter-blocks i) (L .scatter-sources i) (L .scatter-targets i))
 
 gather-same : (s : tie.Start)
     → let a = s .args in
-    let ms = a .gathers .now in
-    sameTables (a .words .now) (gatherAt (a .width) (a .depth)) (a .width) (a .depth) (tableIn ms 0) (tableIn ms 1) (tableIn ms 2) ≡ gatherIs s
+    sameMasks (a .words .now) (gatherAt (a .width) (a .depth)) (a .width) (a .depth) 0 3 (a .gathers .now) ≡ gatherIs s
 gather-same s =
     let a = s .args in
     let L = s .pre .1 in
-    λ i. sameTables (a .words .now) (gatherAt (a .width) (a .depth)) (a .width) (a .depth) (L .gather-blocks i) (L .gather-sources i) (L .gather-targets i)
+    three-masks (a .words .now) (gatherAt (a .width) (a .depth)) (a .width) (a .depth) (a .gathers .now) (omega (arith, s .pre .0 .1))
+    ∙ (λ i. sameTables (a .words .now) (gatherAt (a .width) (a .depth)) (a .width) (a .depth) (L .gather-blocks i) (L .gather-sources i) (L .gather-targets i))
 
 propagate-same : (s : tie.Start)
     → let a = s .args in
-    let ms = a .propagates .now in
-    sameTables (a .words .now) (propagateAt (a .width) (a .depth)) (a .width) (a .depth + 1) (tableIn ms 0) (tableIn ms 1) (tableIn ms 2) ≡ propagateIs s
+    sameMasks (a .words .now) (propagateAt (a .width) (a .depth)) (a .width) (a .depth + 1) 0 3 (a .propagates .now) ≡ propagateIs s
 propagate-same s =
     let a = s .args in
     let L = s .pre .1 in
-    λ i. sameTables (a .words .now) (propagateAt (a .width) (a .depth)) (a .width) (add-one (a .depth) i) (L .propagate-blocks i) (L .propagate-sources i) (L .propagate-targets i)
+    three-masks (a .words .now) (propagateAt (a .width) (a .depth)) (a .width) (a .depth + 1) (a .propagates .now) (omega (arith, s .pre .0 .1))
+    ∙ (λ i. sameTables (a .words .now) (propagateAt (a .width) (a .depth)) (a .width) (add-one (a .depth) i) (L .propagate-blocks i) (L .propagate-sources i) (L .propagate-targets i))
+
+back-same : (s : tie.Start)
+    → let a = s .args in
+    sameMasks (a .words .now) (propagateAt (a .width) (a .depth) + 1 + 3 * a .width * (a .depth + 1)) (a .width) (a .depth) 1 2 (a .backs .now) ≡ backIs s
+back-same s =
+    let a = s .args in
+    let W = a .width in
+    let L = s .pre .1 in
+    ap (λ (n : ℕ). sameMasks (a .words .now) (propagateAt W (a .depth) + 1 + 3 * W * n) W (a .depth) 1 2 (a .backs .now)) (add-one (a .depth))
+    ∙ two-masks (a .words .now) (backAt W (a .depth)) W (a .depth) (a .backs .now) (omega (arith, s .pre .0 .1))
+    ∙ (λ i. sameWords (wordsAt (a .words .now) (backAt W (a .depth)) (2 * W * a .depth)) (join (a .depth) 0 (backRows W (L .back-sources i) (L .back-targets i))))
 
 mul-scatter : tie.Need-mul-scatter
 mul-scatter c = search needs
@@ -119,6 +139,21 @@ mul-propagate-2 c = search needs
 add-propagate-2 : tie.Need-add-propagate-2
 add-propagate-2 c = search needs
 
+add-back : tie.Need-add-back
+add-back c = search needs
+
+mul-back : tie.Need-mul-back
+mul-back c = search needs
+
+add-back-2 : tie.Need-add-back-2
+add-back-2 c = search needs
+
+mul-back-2 : tie.Need-mul-back-2
+mul-back-2 c = search needs
+
+add-back-3 : tie.Need-add-back-3
+add-back-3 c = search needs
+
 row-of-requires : tie.Need-row-of-requires
 row-of-requires c κs = search needs
 
@@ -142,41 +177,55 @@ returns-2 c =
     passes (lettersAre s) (fromRepeats s) (ap not (c .before .before .before .before .before .same-rows .ensures ∙ ap (sameWords (s .args .letters)) (c .before .before .before .before .before .before .row-of .ensures .inside (omega (arith, c .before .before .before .before .before .before .before .row-of-arg .given .0)) ∙ s .pre .1 .letter-places))) (c .before .before .before .before .if1 .left)
     (fails (repeatsAre s) (fromScatter s) (c .before .repeats-differ .ensures ∙ ap (λ (row : List ℕ). not (sameRepeats (s .args .words .now) (s .args .width) row)) (c .before .before .row-of2 .ensures .inside (omega (arith, c .before .before .before .row-of-arg2 .given .0)) ∙ s .pre .1 .loop-places)) (c .if2 .taken))
 
-tables-differ-requires : tie.Need-tables-differ-requires
-tables-differ-requires c κs = search needs
+masks-differ-requires : tie.Need-masks-differ-requires
+masks-differ-requires c κs = search needs
 
 returns-3 : tie.Need-returns-3
 returns-3 c =
     let s = c .before .before .before .before .before .before .before .before .before .before .before .before in
     passes (lettersAre s) (fromRepeats s) (ap not (c .before .before .before .before .before .before .before .before .same-rows .ensures ∙ ap (sameWords (s .args .letters)) (c .before .before .before .before .before .before .before .before .before .row-of .ensures .inside (omega (arith, c .before .before .before .before .before .before .before .before .before .before .row-of-arg .given .0)) ∙ s .pre .1 .letter-places))) (c .before .before .before .before .before .before .before .if1 .left)
     (passes (repeatsAre s) (fromScatter s) (c .before .before .before .before .repeats-differ .ensures ∙ ap (λ (row : List ℕ). not (sameRepeats (s .args .words .now) (s .args .width) row)) (c .before .before .before .before .before .row-of2 .ensures .inside (omega (arith, c .before .before .before .before .before .before .row-of-arg2 .given .0)) ∙ s .pre .1 .loop-places)) (c .before .before .before .if2 .left)
-    (fails (scatterIs s) (fromGather s) (c .before .tables-differ .ensures ∙ ap not (scatter-same s)) (c .if3 .taken)))
+    (fails (scatterIs s) (fromGather s) (c .before .masks-differ .ensures ∙ ap not (scatter-same s)) (c .if3 .taken)))
 
-tables-differ-requires-2 : tie.Need-tables-differ-requires-2
-tables-differ-requires-2 c κs = search needs
+masks-differ-requires-2 : tie.Need-masks-differ-requires-2
+masks-differ-requires-2 c κs = search needs
 
 returns-4 : tie.Need-returns-4
 returns-4 c =
     let s = c .before .before .before .before .before .before .before .before .before .before .before .before .before .before .before in
     passes (lettersAre s) (fromRepeats s) (ap not (c .before .before .before .before .before .before .before .before .before .before .before .same-rows .ensures ∙ ap (sameWords (s .args .letters)) (c .before .before .before .before .before .before .before .before .before .before .before .before .row-of .ensures .inside (omega (arith, c .before .before .before .before .before .before .before .before .before .before .before .before .before .row-of-arg .given .0)) ∙ s .pre .1 .letter-places))) (c .before .before .before .before .before .before .before .before .before .before .if1 .left)
     (passes (repeatsAre s) (fromScatter s) (c .before .before .before .before .before .before .before .repeats-differ .ensures ∙ ap (λ (row : List ℕ). not (sameRepeats (s .args .words .now) (s .args .width) row)) (c .before .before .before .before .before .before .before .before .row-of2 .ensures .inside (omega (arith, c .before .before .before .before .before .before .before .before .before .row-of-arg2 .given .0)) ∙ s .pre .1 .loop-places)) (c .before .before .before .before .before .before .if2 .left)
-    (passes (scatterIs s) (fromGather s) (c .before .before .before .before .tables-differ .ensures ∙ ap not (scatter-same s)) (c .before .before .before .if3 .left)
-    (fails (gatherIs s) (propagateIs s) (c .before .tables-differ2 .ensures ∙ ap not (gather-same s)) (c .if4 .taken))))
+    (passes (scatterIs s) (fromGather s) (c .before .before .before .before .masks-differ .ensures ∙ ap not (scatter-same s)) (c .before .before .before .if3 .left)
+    (fails (gatherIs s) (fromPropagate s) (c .before .masks-differ2 .ensures ∙ ap not (gather-same s)) (c .if4 .taken))))
 
-add-tables-differ : tie.Need-add-tables-differ
-add-tables-differ c = search needs
+add-masks-differ : tie.Need-add-masks-differ
+add-masks-differ c = search needs
 
-tables-differ-requires-3 : tie.Need-tables-differ-requires-3
-tables-differ-requires-3 c κs = search needs
+masks-differ-requires-3 : tie.Need-masks-differ-requires-3
+masks-differ-requires-3 c κs = search needs
 
 returns-5 : tie.Need-returns-5
 returns-5 c =
-    let s = c .before .before .before .before .before .before .before .before .before .before .before .before .before .before .before .before .before in
-    passes (lettersAre s) (fromRepeats s) (ap not (c .before .before .before .before .before .before .before .before .before .before .before .before .before .same-rows .ensures ∙ ap (sameWords (s .args .letters)) (c .before .before .before .before .before .before .before .before .before .before .before .before .before .before .row-of .ensures .inside (omega (arith, c .before .before .before .before .before .before .before .before .before .before .before .before .before .before .before .row-of-arg .given .0)) ∙ s .pre .1 .letter-places))) (c .before .before .before .before .before .before .before .before .before .before .before .before .if1 .left)
-    (passes (repeatsAre s) (fromScatter s) (c .before .before .before .before .before .before .before .before .before .repeats-differ .ensures ∙ ap (λ (row : List ℕ). not (sameRepeats (s .args .words .now) (s .args .width) row)) (c .before .before .before .before .before .before .before .before .before .before .row-of2 .ensures .inside (omega (arith, c .before .before .before .before .before .before .before .before .before .before .before .row-of-arg2 .given .0)) ∙ s .pre .1 .loop-places)) (c .before .before .before .before .before .before .before .before .if2 .left)
-    (passes (scatterIs s) (fromGather s) (c .before .before .before .before .before .before .tables-differ .ensures ∙ ap not (scatter-same s)) (c .before .before .before .before .before .if3 .left)
-    (passes (gatherIs s) (propagateIs s) (c .before .before .before .tables-differ2 .ensures ∙ ap not (gather-same s)) (c .before .before .if4 .left)
-    (decides (propagateIs s) (c .tables-differ3 .ensures ∙ ap not (propagate-same s))))))
+    let s = c .before .before .before .before .before .before .before .before .before .before .before .before .before .before .before .before .before .before in
+    passes (lettersAre s) (fromRepeats s) (ap not (c .before .before .before .before .before .before .before .before .before .before .before .before .before .before .same-rows .ensures ∙ ap (sameWords (s .args .letters)) (c .before .before .before .before .before .before .before .before .before .before .before .before .before .before .before .row-of .ensures .inside (omega (arith, c .before .before .before .before .before .before .before .before .before .before .before .before .before .before .before .before .row-of-arg .given .0)) ∙ s .pre .1 .letter-places))) (c .before .before .before .before .before .before .before .before .before .before .before .before .before .if1 .left)
+    (passes (repeatsAre s) (fromScatter s) (c .before .before .before .before .before .before .before .before .before .before .repeats-differ .ensures ∙ ap (λ (row : List ℕ). not (sameRepeats (s .args .words .now) (s .args .width) row)) (c .before .before .before .before .before .before .before .before .before .before .before .row-of2 .ensures .inside (omega (arith, c .before .before .before .before .before .before .before .before .before .before .before .before .row-of-arg2 .given .0)) ∙ s .pre .1 .loop-places)) (c .before .before .before .before .before .before .before .before .before .if2 .left)
+    (passes (scatterIs s) (fromGather s) (c .before .before .before .before .before .before .before .masks-differ .ensures ∙ ap not (scatter-same s)) (c .before .before .before .before .before .before .if3 .left)
+    (passes (gatherIs s) (fromPropagate s) (c .before .before .before .before .masks-differ2 .ensures ∙ ap not (gather-same s)) (c .before .before .before .if4 .left)
+    (fails (propagateIs s) (backIs s) (c .before .masks-differ3 .ensures ∙ ap not (propagate-same s)) (c .if5 .taken)))))
+
+masks-differ-requires-4 : tie.Need-masks-differ-requires-4
+masks-differ-requires-4 c κs =
+    let P = c .before .before .before .before .before .before .before .before .before .before .before .before .before .before .before .before .before .before .before .pre .0 in (P .0, omega (arith, P .1), omega arith, omega (arith, P .2), c .masks-differ-arg4 .given .0)
+
+returns-6 : tie.Need-returns-6
+returns-6 c =
+    let s = c .before .before .before .before .before .before .before .before .before .before .before .before .before .before .before .before .before .before .before .before in
+    passes (lettersAre s) (fromRepeats s) (ap not (c .before .before .before .before .before .before .before .before .before .before .before .before .before .before .before .before .same-rows .ensures ∙ ap (sameWords (s .args .letters)) (c .before .before .before .before .before .before .before .before .before .before .before .before .before .before .before .before .before .row-of .ensures .inside (omega (arith, c .before .before .before .before .before .before .before .before .before .before .before .before .before .before .before .before .before .before .row-of-arg .given .0)) ∙ s .pre .1 .letter-places))) (c .before .before .before .before .before .before .before .before .before .before .before .before .before .before .before .if1 .left)
+    (passes (repeatsAre s) (fromScatter s) (c .before .before .before .before .before .before .before .before .before .before .before .before .repeats-differ .ensures ∙ ap (λ (row : List ℕ). not (sameRepeats (s .args .words .now) (s .args .width) row)) (c .before .before .before .before .before .before .before .before .before .before .before .before .before .row-of2 .ensures .inside (omega (arith, c .before .before .before .before .before .before .before .before .before .before .before .before .before .before .row-of-arg2 .given .0)) ∙ s .pre .1 .loop-places)) (c .before .before .before .before .before .before .before .before .before .before .before .if2 .left)
+    (passes (scatterIs s) (fromGather s) (c .before .before .before .before .before .before .before .before .before .masks-differ .ensures ∙ ap not (scatter-same s)) (c .before .before .before .before .before .before .before .before .if3 .left)
+    (passes (gatherIs s) (fromPropagate s) (c .before .before .before .before .before .before .masks-differ2 .ensures ∙ ap not (gather-same s)) (c .before .before .before .before .before .if4 .left)
+    (passes (propagateIs s) (backIs s) (c .before .before .before .masks-differ3 .ensures ∙ ap not (propagate-same s)) (c .before .before .if5 .left)
+    (decides (backIs s) (c .masks-differ4 .ensures ∙ ap not (back-same s)))))))
 
 pub agrees-spec : {M : Type 1} → statement M
 agrees-spec =
@@ -192,16 +241,23 @@ agrees-spec =
     mul-propagate
     mul-propagate-2
     add-propagate-2
+    add-back
+    mul-back
+    add-back-2
+    mul-back-2
+    add-back-3
     row-of-requires
     same-rows-requires
     returns
     row-of-requires-2
     repeats-differ-requires
     returns-2
-    tables-differ-requires
+    masks-differ-requires
     returns-3
-    tables-differ-requires-2
+    masks-differ-requires-2
     returns-4
-    add-tables-differ
-    tables-differ-requires-3
-    returns-5)
+    add-masks-differ
+    masks-differ-requires-3
+    returns-5
+    masks-differ-requires-4
+    returns-6)

@@ -1,0 +1,135 @@
+-- `sections::put_back`: after the count the two rows of the first depths stand one after another.
+use mathlib.Core.List.{List}
+use mathlib.Core.Path.{refl, ap, _∙_}
+use Prim.Native.Nat.{ℕ, _+_, _*_, _-_}
+use native.Mathlib.Omega.{arith}
+use lib.Seq.{sets}
+use Rattle.model.proofs.Image.Address.{part-fits}
+use Rattle.tape.specs.Masks.{tableIn}
+use Rattle.image.proofs.Laws.Lengths.{backRows, backs-long, in-eights, two-read}
+use Rattle.image.proofs.Laws.Parts.{Parts, parts-all, parts-long, parts-more, parts-none}
+use borrow.Author.Needs.{needs}
+use Rattle.image.proofs.sections.put_back.Statement.{statement}
+use Rattle.image.proofs.sections.put_back.Tie as tie
+
+abbrev Inv-loop : tie.InvT-loop
+Inv-loop words₀ at width depths masks k₀ words k =
+    Parts (2 * width) depths (backRows width (tableIn masks 1) (tableIn masks 2)) words₀ (at + 1) words k
+
+abbrev μ-loop : tie.MeasureT-loop
+μ-loop words₀ at width depths masks k₀ words k = depths - k
+
+mul-words : tie.Need-mul-words Inv-loop μ-loop
+mul-words c = search needs
+
+mul-words-2 : tie.Need-mul-words-2 Inv-loop μ-loop
+mul-words-2 c = search needs
+
+mul-words-3 : tie.Need-mul-words-3 Inv-loop μ-loop
+mul-words-3 c = search needs
+
+slice-write-words : tie.Need-slice-write-words Inv-loop μ-loop
+slice-write-words c = search needs
+
+loop-holds : tie.Need-loop-holds Inv-loop μ-loop
+loop-holds c =
+    let s = c .before .before in
+    let ms = s .args .masks .now in
+    parts-none
+    (backs-long (tableIn ms 1) (tableIn ms 2) (s .pre .0) (s .pre .1) (in-eights ms 1 (s .pre .3) (omega arith)) (in-eights ms 2 (s .pre .3) (omega arith)))
+
+mul-row-of : tie.Need-mul-row-of Inv-loop μ-loop
+mul-row-of c = search needs
+
+add-row-of : tie.Need-add-row-of Inv-loop μ-loop
+add-row-of c = search needs
+
+row-of-requires : tie.Need-row-of-requires Inv-loop μ-loop
+row-of-requires c κs = search needs
+
+mul-row-of-2 : tie.Need-mul-row-of-2 Inv-loop μ-loop
+mul-row-of-2 c = search needs
+
+add-row-of-2 : tie.Need-add-row-of-2 Inv-loop μ-loop
+add-row-of-2 c = search needs
+
+row-of-requires-2 : tie.Need-row-of-requires-2 Inv-loop μ-loop
+row-of-requires-2 c κs = search needs
+
+add-put-two : tie.Need-add-put-two Inv-loop μ-loop
+add-put-two c = search needs
+
+mul-put-two : tie.Need-mul-put-two Inv-loop μ-loop
+mul-put-two c = search needs
+
+mul-put-two-2 : tie.Need-mul-put-two-2 Inv-loop μ-loop
+mul-put-two-2 c = omega (arith, part-fits (2 * c .before .before .before .before .before .before .before .args .width) (c .before .before .before .loop-test .taken))
+
+add-put-two-2 : tie.Need-add-put-two-2 Inv-loop μ-loop
+add-put-two-2 c = omega (arith, part-fits (2 * c .before .before .before .before .before .before .before .args .width) (c .before .before .before .loop-test .taken))
+
+put-two-requires : tie.Need-put-two-requires Inv-loop μ-loop
+put-two-requires c κs =
+    let s = c .before .before .before .before .before .before .before in
+    let a = s .args in (
+      s .pre .0,
+      omega (
+        arith,
+        part-fits (2 * a .width) (c .before .before .before .loop-test .taken),
+        parts-long (a .words .now) (a .at) (2 * a .width * a .depths) (c .before .before .before .before .loop .inv),
+        s .pre .2,
+      ),
+    )
+
+add-k : tie.Need-add-k Inv-loop μ-loop
+add-k c = search needs
+
+loop-less : tie.Need-loop-less Inv-loop μ-loop
+loop-less c = search needs
+
+loop-again : tie.Need-loop-again Inv-loop μ-loop
+loop-again c =
+    let l = c .before .before .before .before .before .before .before .loop in
+    let s = c .before .before .before .before .before .before .before .before .before .before in
+    parts-more (l .inv) (c .before .before .before .before .before .before .loop-test .taken)
+    (c .before .before .put-two .ensures
+    ∙ ap (λ (rows : List ℕ). sets (l .words) (s .args .at + 1 + 2 * s .args .width * l .k) rows)
+    (two-read (s .args .width) (s .args .masks .now) (l .k) (omega (arith, s .pre .1)) (c .before .before .before .before .before .row-of .ensures .inside (omega (arith, s .pre .1, s .pre .3))) (c .before .before .before .before .row-of2 .ensures .inside (omega (arith, s .pre .1, s .pre .3)))))
+
+same-length : tie.Need-same-length Inv-loop μ-loop
+same-length c =
+    let a = c .before .before .before .before .args in
+    parts-long (a .words .now) (a .at) (2 * a .width * a .depths) (c .before .loop .inv)
+
+returns : tie.Need-returns Inv-loop μ-loop
+returns c =
+    let a = c .before .before .before .before .args in
+    parts-all (a .words .now) (a .at) (2 * a .width * a .depths) (c .before .loop .inv) refl (c .loop-test .left)
+
+pub put-back-spec : {M : Type 1} → statement M
+put-back-spec =
+    tie.close
+    (tie.spec
+    Inv-loop
+    μ-loop
+    mul-words
+    mul-words-2
+    mul-words-3
+    slice-write-words
+    loop-holds
+    mul-row-of
+    add-row-of
+    row-of-requires
+    mul-row-of-2
+    add-row-of-2
+    row-of-requires-2
+    add-put-two
+    mul-put-two
+    mul-put-two-2
+    add-put-two-2
+    put-two-requires
+    add-k
+    loop-less
+    loop-again
+    same-length
+    returns)

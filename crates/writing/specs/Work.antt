@@ -36,7 +36,7 @@ signText (suc (suc (suc k))) = bytes "+"
 abbrev pub tokenText : List ℕ → (W kind state : ℕ) → List ℕ
 tokenText ws W kind state =
     cond (ltb kind 4) (classWriting (classTo ws W state) ++ signText kind)
-    (cond (eqb kind 4) (bytes "(") (cond (eqb kind 5) (bytes "|") (cond (eqb kind 6) (bytes ")") (bytes ")?"))))
+    (cond (eqb kind 4) (bytes "(") (cond (eqb kind 5) (bytes "|") (cond (eqb kind 6) (bytes ")") (cond (eqb kind 7) (bytes ")?") (bytes ")*")))))
 
 -- n tokens from `from` on
 abbrev pub rangeText : List ℕ → ℕ → List ℕ → (n from : ℕ) → List ℕ

@@ -1,5 +1,5 @@
 // Each union's own mark: a close shows whether an edge leads over its union, and that edge is a `?` only where no alternative can be empty
-// (document 02, Wish 3: "a `?` on a group that can already be empty is dropped before the tree is made").
+// (document 02, Wish 3: "a `?` on a group that can already be empty is dropped before the tree is made"). A `*` is shown by a back edge, and stays.
 use scan::begin_scan;
 use scan::innermost;
 use scan::no_frame;
@@ -17,7 +17,7 @@ ghost use Rattle.writing.specs.Work.{OwnMarks};
 fn own_kind(kind: u8, empty: bool) -> u8
     ensures { λ r. ⌜ tokenOf (readKind r) ≡ own (tokenOf (readKind kind)) empty ⌝ }
 {
-    if (kind > 6) & empty { 6 } else { kind }
+    if (kind == 7) & empty { 6 } else { kind }
 }
 
 // A tree's tape, each close with its union's own mark: the scan knows at a close whether an alternative can be empty.

@@ -60,7 +60,8 @@ fn write_token(
     if kind == 6 {
         return at + 1;
     }
-    put(out, at + 1, b'?');
+    let sign = if kind == 7 { b'?' } else { b'*' };
+    put(out, at + 1, sign);
     at + 2
 }
 

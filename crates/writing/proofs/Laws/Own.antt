@@ -6,14 +6,14 @@ use mathlib.Core.List.{List, [], _∷_, _++_, append-nil}
 use Prim.Native.Nat.{ℕ, zero, suc, _+_, _≤_, _<_}
 use native.Mathlib.Numerals.{add-one}
 use native.Mathlib.Omega.{arith}
-use lib.Dec.{T, leb, leb→le, ltb}
+use lib.Dec.{T, eqb, leb, leb→le}
 use lib.ListN.{getD, length, length-set, set, take}
 use lib.Seq.{take-suc-set}
 use Rattle.model.specs.Models.LayOut.{begin, check, emptyIn, own, owns, valid}
 use Rattle.model.specs.Models.LayOut as model
 use Rattle.model.specs.Models.Tokens.{aClose, kept}
 use Rattle.model.specs.Models.Tokens as tokens
-use Rattle.model.proofs.Laws.Bool.{and-split, le-true}
+use Rattle.model.proofs.Laws.Bool.{and-split, unequal}
 use Rattle.scan.specs.Scans.{Innermost, Ready, ReadyAt, scanOf, StepSays, stackOf, withFrames}
 use Rattle.scan.specs.Tokens.{markOf, readKind, tokenOf}
 use Rattle.scan.specs.declared.Frame.{Frame}
@@ -28,7 +28,7 @@ use Rattle.tape.proofs.Along.{Along, along-begin, along-misfit, along-ready, al
 use Rattle.writing.specs.Work.{OwnMarks}
 
 -- ---- one kind
-with-own-mark : (k : ℕ) (e : Bool) → tokenOf (readKind (cond (ltb 6 k && e) 6 k)) ≡ own (tokenOf (readKind k)) e
+with-own-mark : (k : ℕ) (e : Bool) → tokenOf (readKind (cond (eqb k 7 && e) 6 k)) ≡ own (tokenOf (readKind k)) e
 with-own-mark zero e = refl
 with-own-mark (suc zero) e = refl
 with-own-mark (suc (suc zero)) e = refl
@@ -36,11 +36,12 @@ with-own-mark (suc (suc (suc zero))) e = refl
 with-own-mark (suc (suc (suc (suc zero)))) e = refl
 with-own-mark (suc (suc (suc (suc (suc zero))))) e = refl
 with-own-mark (suc (suc (suc (suc (suc (suc zero)))))) e = refl
-with-own-mark (suc (suc (suc (suc (suc (suc (suc k))))))) true = rw (le-true 7 (suc (suc (suc (suc (suc (suc (suc k))))))) (omega arith))
-with-own-mark (suc (suc (suc (suc (suc (suc (suc k))))))) false = rw (le-true 7 (suc (suc (suc (suc (suc (suc (suc k))))))) (omega arith))
+with-own-mark (suc (suc (suc (suc (suc (suc (suc zero))))))) true = refl
+with-own-mark (suc (suc (suc (suc (suc (suc (suc zero))))))) false = refl
+with-own-mark (suc (suc (suc (suc (suc (suc (suc (suc k)))))))) e = rw (unequal (suc (suc (suc (suc (suc (suc (suc (suc k)))))))) 7 (λ q. omega arith))
 
 -- by the test's outcome b
-pub own-kind : (k : ℕ) (e : Bool) {b : Bool} → (ltb 6 k && e) ≡ b → tokenOf (readKind (cond b 6 k)) ≡ own (tokenOf (readKind k)) e
+pub own-kind : (k : ℕ) (e : Bool) {b : Bool} → (eqb k 7 && e) ≡ b → tokenOf (readKind (cond b 6 k)) ≡ own (tokenOf (readKind k)) e
 own-kind k e h = subst (λ (b : Bool). tokenOf (readKind (cond b 6 k)) ≡ own (tokenOf (readKind k)) e) h (with-own-mark k e)
 
 -- where a token fits, the innermost frame tells whether an alternative can be empty

@@ -26,7 +26,7 @@ use Rattle.scan.specs.Tokens.{readKind, tokenOf}
 use Rattle.tape.specs.declared.Tape.{Tape}
 use Rattle.tape.proofs.Bare.{bares-own}
 use Rattle.writing.specs.Work.{classTo, OwnMarks, rangeText, tokenText}
-use Rattle.writing.proofs.Laws.Tokens.{optional-text}
+use Rattle.writing.proofs.Laws.Tokens.{starred-text}
 
 -- ---- a token of the tape, with the class c
 abbrev classed : ℕ → Token → Token
@@ -43,15 +43,16 @@ by-kind ws W (suc (suc (suc zero))) state = refl
 by-kind ws W (suc (suc (suc (suc zero)))) state = refl
 by-kind ws W (suc (suc (suc (suc (suc zero))))) state = refl
 by-kind ws W (suc (suc (suc (suc (suc (suc zero)))))) state = refl
-by-kind ws W (suc (suc (suc (suc (suc (suc (suc k))))))) state = optional-text ws W (suc (suc (suc (suc (suc (suc (suc k))))))) state (omega arith)
+by-kind ws W (suc (suc (suc (suc (suc (suc (suc zero))))))) state = refl
+by-kind ws W (suc (suc (suc (suc (suc (suc (suc (suc k)))))))) state = starred-text ws W (suc (suc (suc (suc (suc (suc (suc (suc k)))))))) state (omega arith)
 
 -- a token that the masks show has the class that they show, also with its union's own mark
-by-masks : (isLetter : Bool) (c : ℕ) (skips loops closes opens e : Bool)
-    → classed c (bare (own (tokenShown isLetter c skips loops closes opens) e)) ≡ own (tokenShown isLetter c skips loops closes opens) e
-by-masks true c s l k o e = refl
-by-masks false c s l true o e = refl
-by-masks false c s l false true e = refl
-by-masks false c s l false false e = refl
+by-masks : (isLetter : Bool) (c : ℕ) (skips loops closes opens returns e : Bool)
+    → classed c (bare (own (tokenShown isLetter c skips loops closes opens returns) e)) ≡ own (tokenShown isLetter c skips loops closes opens returns) e
+by-masks true c s l k o b e = refl
+by-masks false c s l true o b e = refl
+by-masks false c s l false true b e = refl
+by-masks false c s l false false b e = refl
 
 -- ---- rows of them
 getD-kinds : (ks : List ℕ) (i : ℕ) → i < length ks → getD (readKinds ks) i aBar ≡ tokenOf (readKind (getD ks i 0))
@@ -122,7 +123,7 @@ module _ (ws : List ℕ) (s : Tree) (I : ImageOf ws s) (t u : Tape) (A : TapeOf 
       let e = n .1 ∙ ap (λ (y : Token). own y (n .0)) (token-of i h) in
       by-kind ws W (getD (u .kinds) i 0) (suc i)
       ∙ ap tokenWriting
-      (ap (classed c) (kind-of i h ∙ ap bare e) ∙ by-masks (anyBelow 256 (λ b. bitOf W (lettersIn ws) b (suc i))) c _ _ _ _ (n .0) ∙ sym e)
+      (ap (classed c) (kind-of i h ∙ ap bare e) ∙ by-masks (anyBelow 256 (λ b. bitOf W (lettersIn ws) b (suc i))) c _ _ _ _ _ (n .0) ∙ sym e)
 
   pub all-written : rangeText ws W (u .kinds) (u .length) 0 ≡ writing s
   all-written =

@@ -1,5 +1,6 @@
 -- A TOKEN'S TEXT BY ITS KIND: the tests on the way choose one of the texts, and none is longer than a class's with a sign.
-use mathlib.Core.Path.{_≡_, refl}
+use mathlib.Core.Path.{_≡_, refl, sym, ap, _∙_}
+use mathlib.Core.Logic.{_⊎_, inl, inr}
 use mathlib.Core.Bool.{cond}
 use mathlib.Core.List.{List, [], _∷_, _++_}
 use Prim.Native.Nat.{ℕ, zero, suc, _≤_, _<_}
@@ -27,7 +28,9 @@ sign-short (suc (suc (suc k))) = omega arith
 -- ---- the choice, whatever a letter's text is
 module _ (kind : ℕ) (letter : List ℕ) where
   abbrev chosen : List ℕ
-  chosen = cond (ltb kind 4) letter (cond (eqb kind 4) (40 ∷ []) (cond (eqb kind 5) (124 ∷ []) (cond (eqb kind 6) (41 ∷ []) (41 ∷ 63 ∷ []))))
+  chosen =
+      cond (ltb kind 4) letter
+      (cond (eqb kind 4) (40 ∷ []) (cond (eqb kind 5) (124 ∷ []) (cond (eqb kind 6) (41 ∷ []) (cond (eqb kind 7) (41 ∷ 63 ∷ []) (41 ∷ 42 ∷ [])))))
 
   chosen-letter : kind < 4 → chosen ≡ letter
   chosen-letter h = rw (le-true (suc kind) 4 h)
@@ -41,16 +44,26 @@ module _ (kind : ℕ) (letter : List ℕ) where
   chosen-close : kind ≡ 6 → chosen ≡ 41 ∷ []
   chosen-close e = rw e
 
-  chosen-optional : 6 < kind → chosen ≡ 41 ∷ 63 ∷ []
-  chosen-optional h =
-      rw (le-false (suc kind) 4 (omega arith), unequal kind 4 (λ e. omega arith), unequal kind 5 (λ e. omega arith), unequal kind 6 (λ e. omega arith))
+  chosen-optional : kind ≡ 7 → chosen ≡ 41 ∷ 63 ∷ []
+  chosen-optional e = rw e
+
+  chosen-starred : 7 < kind → chosen ≡ 41 ∷ 42 ∷ []
+  chosen-starred h =
+      rw (
+        le-false (suc kind) 4 (omega arith),
+        unequal kind 4 (λ e. omega arith),
+        unequal kind 5 (λ e. omega arith),
+        unequal kind 6 (λ e. omega arith),
+        unequal kind 7 (λ e. omega arith),
+      )
 
   chosen-short : length letter ≤ 4096 → length chosen ≤ 4096
   chosen-short h =
       cond-cases (λ t. length t ≤ 4096) (ltb kind 4) (λ _. h) (λ _.
       cond-cases (λ t. length t ≤ 4096) (eqb kind 4) (λ _. omega arith) (λ _.
       cond-cases (λ t. length t ≤ 4096) (eqb kind 5) (λ _. omega arith) (λ _.
-      cond-cases (λ t. length t ≤ 4096) (eqb kind 6) (λ _. omega arith) (λ _. omega arith))))
+      cond-cases (λ t. length t ≤ 4096) (eqb kind 6) (λ _. omega arith) (λ _.
+      cond-cases (λ t. length t ≤ 4096) (eqb kind 7) (λ _. omega arith) (λ _. omega arith)))))
 
 module _ (ws : List ℕ) (W kind state : ℕ) where
   abbrev letterText : List ℕ
@@ -68,8 +81,14 @@ module _ (ws : List ℕ) (W kind state : ℕ) where
   pub close-text : kind ≡ 6 → tokenText ws W kind state ≡ 41 ∷ []
   close-text = chosen-close kind letterText
 
-  pub optional-text : 6 < kind → tokenText ws W kind state ≡ 41 ∷ 63 ∷ []
-  optional-text = chosen-optional kind letterText
+  pub starred-text : 7 < kind → tokenText ws W kind state ≡ 41 ∷ 42 ∷ []
+  starred-text = chosen-starred kind letterText
+
+  -- a close that keeps a sign, by the two ways of the test that chose it
+  pub marked-text : {A B : Type 0} {sign : ℕ} → 6 < kind → (A → (kind ≡ 7) × (sign ≡ 63)) → (B → (kind ≡ 7 → ⊥) × (sign ≡ 42)) → A ⊎ B
+      → 41 ∷ sign ∷ [] ≡ tokenText ws W kind state
+  marked-text h f g (inl w) = ap (λ (b : ℕ). 41 ∷ b ∷ []) (f w .1) ∙ sym (chosen-optional kind letterText (f w .0))
+  marked-text h f g (inr w) = ap (λ (b : ℕ). 41 ∷ b ∷ []) (g w .1) ∙ sym (starred-text (omega (arith, h, g w .0)))
 
   pub token-short : length (tokenText ws W kind state) ≤ 4096
   token-short =

@@ -1,11 +1,11 @@
--- By the kind: a letter, the one byte of a bar or a close, or the two of a close that has kept its `?`.
+-- By the kind: a letter, the one byte of a bar or a close, or the two of a close that has kept its `?` or `*`.
 use mathlib.Core.Path.{sym, _∙_}
 use mathlib.Core.List.{[], _∷_}
 use Prim.Native.Nat.{_+_, _<_}
 use native.Mathlib.Omega.{arith}
 use borrow.Author.Needs.{needs}
 use Rattle.plain.proofs.Laws.Texts.{writes-as, writes-next, writes-one}
-use Rattle.writing.proofs.Laws.Tokens.{bar-text, close-text, letter-text, optional-text}
+use Rattle.writing.proofs.Laws.Tokens.{bar-text, close-text, letter-text, marked-text}
 use Rattle.writing.proofs.ranges.write_token.Statement.{statement}
 use Rattle.writing.proofs.ranges.write_token.Tie as tie
 
@@ -61,17 +61,19 @@ add-result-3 : tie.Need-add-result-3
 add-result-3 c = search needs
 
 same-length-4 : tie.Need-same-length-4
-same-length-4 c = c .before .out4 .given ∙ c .before .before .before .before .before .before .out3 .given
+same-length-4 c = c .before .out4 .given ∙ c .before .before .before .before .before .before .before .out3 .given
 
 returns-4 : tie.Need-returns-4
 returns-4 c =
-    let closed = c .before .before .before .before .before .before .before in
+    let marked = c .before .before .before .before in
+    let closed = marked .before .before .before .before in
     let tests = closed .before .before in
     let s = tests .before .before .before .before in
     let a = s .args in
-    let h : 6 < a .kind = omega (arith, tests .before .if1 .left, s .pre .2, tests .if2 .left, c .before .before .before .before .if3 .left) in
-    writes-as (a .out .now) (a .at) (sym (optional-text (a .words .now) (a .width) (a .kind) (a .state) h))
-    (writes-next (a .out .now) (a .at) (41 ∷ []) 63 (a .at + 2) (writes-one (a .out .now) (a .at) 41 (closed .put2 .ensures)) (c .before .before .put3 .ensures) (omega arith))
+    let h : 6 < a .kind = omega (arith, tests .before .if1 .left, s .pre .2, tests .if2 .left, marked .before .if3 .left) in
+    writes-as (a .out .now) (a .at)
+    (marked-text (a .words .now) (a .width) (a .kind) (a .state) h (λ w. (w .0 .taken, w .1)) (λ w. (w .0 .left, w .1)) (marked .if4 .came))
+    (writes-next (a .out .now) (a .at) (41 ∷ []) _ (a .at + 2) (writes-one (a .out .now) (a .at) 41 (closed .put2 .ensures)) (c .before .before .put3 .ensures) (omega arith))
 
 pub write-token-spec : {M : Type 1} → statement M
 write-token-spec =

@@ -10,6 +10,6 @@ abbrev pub putRun : List ℕ → ℕ → ℕ → List ℕ
 putRun ws lo zero = ws
 putRun ws lo (suc n) = putRun (putBit ws lo) (suc lo) n
 
--- n, or all eight
+-- n, or all eight where n is more
 abbrev pub Upto : ℕ → ℕ → Type 0
-Upto n r = (r ≤ 8) × ((r ≡ n) ⊎ (r ≡ 8))
+Upto n r = (r ≤ 8) × ((r ≡ n) ⊎ (r ≡ 8)) × (r ≤ n)

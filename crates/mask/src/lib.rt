@@ -19,7 +19,7 @@ pub fn none() -> Mask
 }
 
 // How many of n words a mask has.
-fn upto(n: usize) -> usize
+pub fn upto(n: usize) -> usize
     ensures { λ r. ⌜ Upto n r ⌝ }
 {
     if n < 8 { n } else { 8 }

@@ -1,6 +1,7 @@
 // The four moves of the live states by whole words: "shift and letter mask for the move, then subtraction for scatter, addition for gather,
-// subtraction for propagate" (document 01). Each takes its masks by value and keeps the states that were live, but the move. Only the first n words
-// count: with n as a literal every loop over words becomes straight code.
+// subtraction for propagate" (document 01). Each takes its masks by value and keeps the states that were live, but the move. The fifth goes back along
+// the edges of repeated groups (document 02), which neither sum nor difference does. Only the first n words count: with n as a literal every loop over
+// words becomes straight code.
 use mask::Mask;
 use mask::logic::and;
 use mask::logic::or;
@@ -8,11 +9,14 @@ use mask::logic::xor;
 use mask::sums::add;
 use mask::sums::shift;
 use mask::sums::subtract;
+use mask::upto;
 ghost use mathlib.Core.Path.{_≡_};
 ghost use mathlib.Core.Bool.{false, true};
 ghost use lib.ListN.{take};
-ghost use Rattle.model.specs.Models.Run.{gatherWords, moveWords, propagateWords, scatterWords};
-ghost use Rattle.model.specs.Models.Words.{notWords, subtractWords, xorWords};
+ghost use Rattle.model.specs.Models.Run.{gatherWords, moveWords, propagateWords, returnWords, scatterWords};
+ghost use Rattle.model.specs.Models.Verdict.{sameWords};
+ghost use Rattle.model.specs.Models.Words.{notWords, orWords, subtractWords, xorWords};
+ghost use Rattle.moves.specs.Apart.{Apart};
 ghost use Rattle.moves.specs.Less.{lessOne, plusWords, startWords};
 
 // From each live union start to the starts of its alternatives: below the block's bit the difference sets all bits from the source on.
@@ -63,6 +67,66 @@ pub fn advance(live: Mask, letters: Mask, repeats: Mask, start: Mask, n: usize) 
     let stayed = and(live, repeats, n);
     let both = or(moved, stayed, n);
     or(both, start, n)
+}
+
+// The targets of the back edges whose sources are live. A target's source is the first one at or past it, so the words go from the highest down, and
+// each hands on whether the first source above is live.
+fn lead_back(live: Mask, source: Mask, target: Mask, n: usize) -> Mask
+    ensures { λ r. ⌜ take n (r .words) ≡ returnWords (take n (source .words)) (take n (target .words)) (take n (live .words)) ⌝ }
+{
+    let mut r = live;
+    let mut above = false;
+    let mut i = upto(n);
+    while i > 0 {
+        i -= 1;
+        let l = live.words[i];
+        let s = source.words[i];
+        let t = target.words[i];
+        r.words[i] = back::lead_back(l, s, t, above);
+        above = back::first_live(l, s, above);
+    }
+    r
+}
+
+// Whether a state is in both.
+fn meet(a: Mask, b: Mask, n: usize) -> bool
+    ensures { λ r. ⌜ (r ≡ false → Apart n (a .words) (b .words)) ⌝ }
+{
+    let stop = upto(n);
+    let mut i = 0;
+    while i < stop {
+        if a.words[i] & b.words[i] != 0 {
+            return true;
+        }
+        i += 1;
+    }
+    false
+}
+
+// With the targets of the back edges whose sources the passes reached: mostly there is none, and nothing is added.
+pub fn come_back(live: Mask, first: Mask, source: Mask, target: Mask, n: usize) -> Mask
+    ensures { λ r. ⌜ take n (r .words) ≡ orWords (take n (live .words)) (returnWords (take n (source .words)) (take n (target .words)) (take n (first .words))) ⌝ }
+{
+    if meet(first, source, n) {
+        let targets = lead_back(first, source, target, n);
+        return or(live, targets, n);
+    }
+    live
+}
+
+// Whether the same states are in both.
+pub fn same(a: Mask, b: Mask, n: usize) -> bool
+    ensures { λ r. ⌜ r ≡ sameWords (take n (a .words)) (take n (b .words)) ⌝ }
+{
+    let stop = upto(n);
+    let mut i = 0;
+    while i < stop {
+        if a.words[i] != b.words[i] {
+            return false;
+        }
+        i += 1;
+    }
+    true
 }
 
 // The mask of state 0.

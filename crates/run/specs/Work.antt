@@ -1,4 +1,5 @@
--- THE MASKS OF WORK: as they lie in the words of an image, with words of zeros above; by kinds; and the nine kinds side by side in one table.
+-- THE MASKS OF WORK: as they lie in the words of an image, with words of zeros above; by kinds; and in one table the nine kinds side by side, then the back
+-- edges' masks.
 use mathlib.Core.Path.{_≡_}
 use mathlib.Core.Logic.{_≢_}
 use mathlib.Core.Bool.{true, _&&_, cond}
@@ -6,8 +7,9 @@ use mathlib.Core.List.{List, [], _∷_, _++_}
 use Prim.Native.Nat.{ℕ, zero, suc, _+_, _-_, _*_, _≤_, _<_}
 use lib.Dec.{leb}
 use lib.ListN.{drop, getD, length, replicate, take}
-use Rattle.model.specs.Models.Apart.{depthWord, gatherAt, propagateAt, scatterAt, stateWord}
-use Rattle.model.specs.Models.Run.{endsWith, Masks, passWords, stepWords}
+use Rattle.model.specs.Models.Apart.{backAt, depthWord, gatherAt, propagateAt, scatterAt, stateWord}
+use Rattle.model.specs.Models.Run.{closeWords, endsWith, Masks, moveBy, passWords, returnsWords, stepWords}
+use Rattle.model.specs.Models.Verdict.{sameWords}
 use Rattle.moves.specs.Less.{lessOne, plusWords, startWords}
 use Rattle.word.specs.Ends.{Limits}
 use Rattle.word.specs.One.{ofNine}
@@ -28,6 +30,7 @@ masksOf ws =
       scatterMask = λ k j. rowAt ws (scatterAt W + W * (3 * k + j)) W;
       gatherMask = λ k j. rowAt ws (gatherAt W d + W * (3 * k + j)) W;
       propagateMask = λ k j. rowAt ws (propagateAt W d + W * (3 * k + j)) W;
+      backMask = λ k j. rowAt ws (backAt W d + W * (2 * k + j)) W;
       startMask = startWords;
     }
 
@@ -51,7 +54,8 @@ kindRow ws W d j k =
 abbrev pub KindOf : List ℕ → (W d j : ℕ) → List (List ℕ) → Type 0
 KindOf ws W d j masks = (k : ℕ) → k < 9 → getD masks k [] ≡ kindRow ws W d j k
 
--- ---- THE TABLE: the nine kinds side by side. What it is to put the first masks of one of them, and all
+-- ---- THE TABLE: the nine kinds side by side, and from row 81 on the source and the target of the back edges of each depth. What it is to put the first masks
+-- of a kind, and all; and to put the first rows of the back edges
 pub record PutTo (count j : ℕ) (masks table new : List (List ℕ)) : Type 0 where
   pub here : (k : ℕ) → k < count → getD new (9 * k + j) [] ≡ getD masks k []
   pub there : (k i : ℕ) → i < 9 → i ≢ j → getD new (9 * k + i) [] ≡ getD table (9 * k + i) []
@@ -63,13 +67,30 @@ Put = PutTo 9
 abbrev pub Entered : List ℕ → (W d : ℕ) → List (List ℕ) → Type 0
 Entered ws W d table = (k j : ℕ) → k < 9 → j < 9 → getD table (9 * k + j) [] ≡ kindRow ws W d j k
 
--- a depth's block, source and target
+pub record PutBacks (count : ℕ) (ws : List ℕ) (W d : ℕ) (table new : List (List ℕ)) : Type 0 where
+  pub here : (i : ℕ) → i < count → getD new (81 + i) [] ≡ rowAt ws (backAt W d + W * i) W
+  pub there : (i : ℕ) → i < 81 → getD new i [] ≡ getD table i []
+  pub long : length new ≡ length table
+
+pub record Tabled (ws : List ℕ) (W d : ℕ) (table : List (List ℕ)) : Type 0 where
+  pub passes : Entered ws W d table
+  pub backs : (i : ℕ) → i < 2 * d → getD table (81 + i) [] ≡ rowAt ws (backAt W d + W * i) W
+
+-- a rule without a back edge up to depth d
+abbrev pub NoBack : List (List ℕ) → ℕ → Type 0
+NoBack table d = (i : ℕ) → i < 2 * d → getD table (81 + i) [] ≡ replicate 8 0
+
+-- a depth's block, source and target; its back edges' source and target
 abbrev pub three : (block source target : List ℕ) → ℕ → List ℕ
 three block source target zero = block
 three block source target (suc zero) = source
 three block source target (suc (suc j)) = target
 
--- letters and repeats where they lie, W words to a mask, the passes' masks in the table
+abbrev pub two : (source target : List ℕ) → ℕ → List ℕ
+two source target zero = source
+two source target (suc j) = target
+
+-- letters and repeats where they lie, W words to a mask, the others in the table
 abbrev pub workMasks : List ℕ → ℕ → List (List ℕ) → Masks
 workMasks ws W table = record {
   letterMask = λ b. rowAt ws (5 + W * b) W;
@@ -77,6 +98,7 @@ workMasks ws W table = record {
   scatterMask = λ k. three (getD table (9 * k) []) (getD table (9 * k + 1) []) (getD table (9 * k + 2) []);
   gatherMask = λ k. three (getD table (9 * k + 3) []) (getD table (9 * k + 4) []) (getD table (9 * k + 5) []);
   propagateMask = λ k. three (getD table (9 * k + 6) []) (plusWords (getD table (9 * k + 7) []) true) (getD table (9 * k + 8) []);
+  backMask = λ k. two (getD table (81 + 2 * k) []) (getD table (82 + 2 * k) []);
   startMask = startWords;
 }
 
@@ -88,10 +110,11 @@ cutMasks n M = record {
   scatterMask = λ k j. take n (M .scatterMask k j);
   gatherMask = λ k j. take n (M .gatherMask k j);
   propagateMask = λ k j. take n (M .propagateMask k j);
+  backMask = λ k j. take n (M .backMask k j);
   startMask = take n (M .startMask);
 }
 
--- the masks of the passes alone, which look at no letter
+-- the masks of both rounds alone, which look at no letter
 abbrev pub passMasks : ℕ → List (List ℕ) → Masks
 passMasks n table = cutMasks n (workMasks [] 0 table)
 
@@ -99,8 +122,18 @@ passMasks n table = cutMasks n (workMasks [] 0 table)
 abbrev pub ruleMasks : List ℕ → ℕ → List (List ℕ) → Masks
 ruleMasks ws n table = cutMasks n (workMasks ws n table)
 
--- ONE BYTE on the first n words of eight
+-- what is left of two rounds after the first
+abbrev pub secondRound : Masks → ℕ → List ℕ → List ℕ
+secondRound M d first =
+    let more = returnsWords M d first first in
+    cond (sameWords more first) first (passWords M d more)
+
+-- ONE BYTE on the first n words of eight: with one round, and with two
 pub record Stepped (n : ℕ) (ws : List ℕ) (b d : ℕ) (table : List (List ℕ)) (live r : List ℕ) : Type 0 where
+  pub made : let M = ruleMasks ws n table in take n r ≡ passWords M d (moveBy M b (take n live))
+  pub eight : length r ≡ 8
+
+pub record SteppedOn (n : ℕ) (ws : List ℕ) (b d : ℕ) (table : List (List ℕ)) (live r : List ℕ) : Type 0 where
   pub made : take n r ≡ stepWords (ruleMasks ws n table) d b (take n live)
   pub eight : length r ≡ 8
 
@@ -109,7 +142,7 @@ abbrev pub noWords : List ℕ
 noWords = replicate 8 0
 
 abbrev pub beginWords : List ℕ → List ℕ
-beginWords ws = cond (shaped ws) (passWords (masksOf ws) (depthWord ws) startWords) noWords
+beginWords ws = cond (shaped ws) (closeWords (masksOf ws) (depthWord ws) startWords) noWords
 
 abbrev pub nextWords : List ℕ → ℕ → List ℕ → List ℕ
 nextWords ws b live = cond (shaped ws) (stepWords (masksOf ws) (depthWord ws) b live) noWords

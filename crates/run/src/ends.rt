@@ -1,7 +1,7 @@
 // The ends of a text and of a stretch: the places where the accepting state is live. A rule of at most 64 states runs on plain words.
+use crate::rounds::close;
 use crate::rows::row_at;
 use crate::shape::width;
-use crate::steps::pass;
 use crate::stretch::Ran;
 use crate::stretch::is_live;
 use crate::stretch::run_over;
@@ -37,7 +37,7 @@ fn scan(
     ensures { λ r. ⌜ Written (endsWith (ruleMasks (now (image .entry)) width (now (table .entry))) depth last (now (text .entry)))
         (now (places .entry)) r (now (places .exit)) ⌝ }
 {
-    let first = pass(start(), depth, 8, table);
+    let first = close(start(), depth, width, table);
     let live = first.words;
     let total = note(places, 0, 0, is_live(&live, last));
     let ran = run_over(

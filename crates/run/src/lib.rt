@@ -2,6 +2,7 @@
 // states and the ends.
 pub mod ends;
 pub mod live;
+pub mod rounds;
 pub mod rows;
 pub mod shape;
 pub mod steps;

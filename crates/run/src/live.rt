@@ -1,7 +1,7 @@
 // The live states: before any byte, and after a byte from any states that are live.
+use crate::rounds::close;
 use crate::shape::width;
 use crate::steps::moved;
-use crate::steps::pass;
 use crate::table::table;
 use mask::Mask;
 use moves::start;
@@ -11,19 +11,19 @@ ghost use mathlib.Core.Bool.{true};
 ghost use mathlib.Core.Path.{_≡_};
 ghost use lib.ListN.{take};
 ghost use Rattle.model.specs.Models.Apart.{depthWord};
-ghost use Rattle.model.specs.Models.Run.{passWords};
+ghost use Rattle.model.specs.Models.Run.{closeWords};
 ghost use Rattle.run.specs.Says.{BeginSays, StepSays};
 ghost use Rattle.word.specs.Shape.{shaped};
 ghost use Rattle.run.specs.Work.{beginWords, masksOf, nextWords};
 
-// Up and down with the table of the image, on all eight words.
-fn pass_of(image: &[u64], live: Mask) -> Mask
+// Both rounds with the table of the image, on all eight words.
+fn close_of(image: &[u64], live: Mask) -> Mask
     requires { ⌜ shaped (now image) ≡ true ⌝ }
-    ensures { λ r. ⌜ take 8 (r .words) ≡ take 8 (passWords (masksOf (now (image .entry))) (depthWord (now (image .entry))) (live .words)) ⌝ }
+    ensures { λ r. ⌜ take 8 (r .words) ≡ take 8 (closeWords (masksOf (now (image .entry))) (depthWord (now (image .entry))) (live .words)) ⌝ }
 {
     let deep = depth(image);
     let masks = table(image, width(image), deep);
-    pass(live, deep, 8, &masks)
+    close(live, deep, 8, &masks)
 }
 
 // "The live states before any byte"; none where the words have no shape.
@@ -33,7 +33,7 @@ pub fn begin(image: &[u64]) -> Mask
 {
     if has_shape(image) {
         let first = start();
-        return pass_of(image, first);
+        return close_of(image, first);
     }
     mask::none()
 }
@@ -46,7 +46,7 @@ pub fn step(image: &[u64], live: Mask, byte: u8) -> Mask
     if has_shape(image) {
         let w = width(image);
         let on = moved(live, image, w, 8, byte);
-        return pass_of(image, on);
+        return close_of(image, on);
     }
     mask::none()
 }

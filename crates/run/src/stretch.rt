@@ -1,13 +1,17 @@
 // The run over a stretch of bytes, from any live states and any place, for a rule of any size.
+use crate::rounds::again;
 use crate::table::Table;
+use crate::table::any_back;
 use crate::widths::step_by;
+use mask::Mask;
 use word::places::note;
+ghost use mathlib.Core.Bool.{false};
 ghost use mathlib.Core.Path.{_≡_};
 ghost use Prim.Native.Nat.{_/_, _≤_, _<_};
 ghost use lib.ListN.{length, take};
 ghost use Rattle.model.specs.Bits.{bit};
 ghost use Rattle.model.specs.Models.Words.{value};
-ghost use Rattle.run.specs.Work.{Overs, ruleMasks};
+ghost use Rattle.run.specs.Work.{NoBack, Overs, ruleMasks, SteppedOn, Steps};
 ghost use Rattle.word.specs.Ends.{RanOver};
 
 // The live states after a stretch, and the total of its ends with those found before.
@@ -32,7 +36,31 @@ pub fn is_live(live: &[u64], state: usize) -> bool
     (live[state / 64] >> (state % 64)) & 1 == 1
 }
 
-// With the table of work: a step for each byte, and its place in the whole text noted if the accepting state is then live.
+// One byte. Without a back edge the round that comes with the move is all; the second has the number of words as it comes, not as a literal, for it is
+// made for cycles alone.
+fn step_on(
+    live: &mut [u64; 8],
+    image: &[u64],
+    n: usize,
+    byte: u8,
+    depth: usize,
+    table: &Table,
+    cyclic: bool,
+)
+    requires { ⌜ Steps (now image) n depth × (cyclic ≡ false → NoBack (now table) depth) ⌝ }
+    ensures { λ _. ⌜ SteppedOn n (now (image .entry)) byte depth (now (table .entry)) (now (live .entry)) (now (live .exit)) ⌝ }
+{
+    step_by(live, image, n, byte, depth, table);
+    if cyclic {
+        let words = *live;
+        let closed = again(Mask { words }, depth, n, table);
+        let words = closed.words;
+        *live = words;
+    }
+}
+
+// With the table of work: a step for each byte, and its place in the whole text noted if the accepting state is then live. Whether there is any back edge
+// is asked once.
 pub fn run_over(
     image: &[u64],
     stretch: &[u8],
@@ -49,13 +77,14 @@ pub fn run_over(
     ensures { λ r. ⌜ RanOver (ruleMasks (now (image .entry)) width (now (table .entry))) width depth last place found (now (stretch .entry)) (take width first)
         (now (places .entry)) (r .words) (r .total) (now (places .exit)) ⌝ }
 {
+    let cyclic = any_back(table, depth);
     let mut live = first;
     let mut total = found;
     let mut p: usize = 0;
     while p < stretch.len() {
         let stop = portion(p, stretch.len());
         while p < stop {
-            step_by(&mut live, image, width, stretch[p], depth, table);
+            step_on(&mut live, image, width, stretch[p], depth, table, cyclic);
             p += 1;
             total = note(
                 places,

@@ -1,16 +1,19 @@
-// The masks of work: from the image's words kind by kind, and then laid side by side, so that one index steps through all that a depth needs.
+// The masks of work: from the image's words kind by kind, and then laid side by side, so that one index steps through all that a depth needs; and the
+// masks of the back edges after them.
 use crate::rows::row_at;
+use mask::bits::same_rows;
 use moves::less_one;
+ghost use mathlib.Core.Bool.{false};
 ghost use mathlib.Core.Path.{_≡_};
 ghost use Prim.Native.Nat.{_+_, _*_, _≤_, _<_};
 ghost use lib.ListN.{length};
-ghost use Rattle.run.specs.Work.{Entered, kindAt, KindOf, Lessened, Put, Tables};
+ghost use Rattle.run.specs.Work.{kindAt, KindOf, Lessened, NoBack, Put, PutBacks, Tabled, Tables};
 
 // The masks of a kind, block, source or target of a section, for depths 0 to 8.
 pub type Kind = [[u64; 8]; 9];
 
-// Nine kinds, nine masks to a depth.
-pub type Table = [[u64; 8]; 81];
+// Nine kinds, nine masks to a depth; then the source and the target of the back edges of depths 0 to 7.
+pub type Table = [[u64; 8]; 97];
 
 // Mask `which` of the three of each depth below count, from a section's first word on.
 fn kind_at(image: &[u64], at: usize, width: usize, count: usize, which: usize) -> Kind
@@ -75,7 +78,7 @@ fn kind(image: &[u64], width: usize, depth: usize, j: usize) -> Kind
 
 // The masks of kind j into their places.
 fn put_kind(table: &mut Table, j: usize, masks: Kind)
-    requires { ⌜ (j < 9) × (length (now table) ≡ 81) ⌝ }
+    requires { ⌜ (j < 9) × (length (now table) ≡ 97) ⌝ }
     ensures { λ _. ⌜ Put j masks (now (table .entry)) (now (table .exit)) ⌝ }
 {
     let mut k = 0;
@@ -86,17 +89,49 @@ fn put_kind(table: &mut Table, j: usize, masks: Kind)
     }
 }
 
-pub fn table(image: &[u64], width: usize, depth: usize) -> Table
-    requires { ⌜ Tables (now image) width depth ⌝ }
-    ensures { λ r. ⌜ Entered (now (image .entry)) width depth r ⌝ }
+// The masks of the back edges into theirs.
+fn put_backs(table: &mut Table, image: &[u64], width: usize, depth: usize)
+    requires { ⌜ Tables (now image) width depth × (length (now table) ≡ 97) ⌝ }
+    ensures { λ _. ⌜ PutBacks (2 * depth) (now (image .entry)) width depth (now (table .entry)) (now (table .exit)) ⌝ }
+{
+    let at = 10 + 515 * width + 9 * (width * depth);
+    let mut i = 0;
+    while i < 2 * depth {
+        let row = row_at(image, at + width * i, width);
+        table[81 + i] = row;
+        i += 1;
+    }
+}
+
+// Whether there is any back edge up to a depth.
+pub fn any_back(table: &Table, depth: usize) -> bool
+    requires { ⌜ depth ≤ 8 ⌝ }
+    ensures { λ r. ⌜ (r ≡ false → NoBack (now (table .entry)) depth) ⌝ }
 {
     let none = [0u64; 8];
-    let mut r = [none; 81];
+    let mut i = 0;
+    while i < 2 * depth {
+        let row = table[81 + i];
+        if !same_rows(row, none) {
+            return true;
+        }
+        i += 1;
+    }
+    false
+}
+
+pub fn table(image: &[u64], width: usize, depth: usize) -> Table
+    requires { ⌜ Tables (now image) width depth ⌝ }
+    ensures { λ r. ⌜ Tabled (now (image .entry)) width depth r ⌝ }
+{
+    let none = [0u64; 8];
+    let mut r = [none; 97];
     let mut j = 0;
     while j < 9 {
         let masks = kind(image, width, depth, j);
         put_kind(&mut r, j, masks);
         j += 1;
     }
+    put_backs(&mut r, image, width, depth);
     r
 }

@@ -7,9 +7,9 @@ use lib.ListN.{length}
 use Rattle.model.specs.Image.{width}
 use Rattle.model.specs.Models.Apart.{depthWord, stateWord}
 
--- whether words have the length that their shape asks: "The length is 9 + W(515 + 9d) words", for 2 to 512 states and a depth of at most 8
+-- whether words have the length that their shape asks: "The length is 9 + W(515 + 9d) words", to which "lengths grow by 1 + 2Wd", for 2 to 512 states and a depth of at most 8
 abbrev pub shapeLength : ℕ → ℕ → ℕ
-shapeLength W d = 9 + W * (515 + 9 * d)
+shapeLength W d = 10 + W * (515 + 11 * d)
 
 abbrev pub shaped : List ℕ → Bool
 shaped ws =

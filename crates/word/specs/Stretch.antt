@@ -7,7 +7,7 @@ use lib.ListN.{length}
 use Rattle.model.specs.Models.Apart.{depthWord}
 use Rattle.model.specs.Models.Run.{Masks}
 use Rattle.word.specs.Ends.{Limits, RanOver}
-use Rattle.word.specs.One.{Entered, NoChain}
+use Rattle.word.specs.One.{Backs, Entered, NoChain}
 use Rattle.word.specs.declared.stretch.From.{From}
 use Rattle.word.specs.declared.stretch.Ran.{Ran}
 
@@ -22,9 +22,10 @@ pub record Overs (ws stretch : List ℕ) (from : From) (last : ℕ) : Type 0 whe
   pub limits : Limits (from .place) (from .found) stretch
   pub few : last < 64
 
-pub record Chosen (ws stretch : List ℕ) (from : From) (last d : ℕ) (any : Bool) (table : List ℕ) : Type 0 where
+pub record Chosen (ws stretch : List ℕ) (from : From) (last d : ℕ) (any : Bool) (table backs : List ℕ) : Type 0 where
   pub overs : Overs ws stretch from last
   pub shallow : d ≤ 8
   pub deep : d ≡ depthWord ws
   pub entered : Entered ws d table
   pub none : NoChain table d any
+  pub edges : Backs ws d backs

@@ -1,14 +1,15 @@
 // The ends of a text and of a stretch for a rule of at most 64 states, from the words of its image.
 use crate::places::note;
+use crate::rounds::close;
 use crate::shape::depth;
 use crate::shape::has_shape;
 use crate::shape::states;
-use crate::steps::first;
 use crate::stretch::From;
 use crate::stretch::Ran;
 use crate::stretch::is_live;
 use crate::stretch::run_over;
 use crate::table::any_chain;
+use crate::table::backs;
 use crate::table::table;
 ghost use mathlib.Core.Bool.{true};
 ghost use mathlib.Core.List.{[], _∷_};
@@ -31,14 +32,15 @@ fn find_in(image: &[u64], text: &[u8], places: &mut [u32]) -> u64
     let last = states(image) - 1;
     let masks = table(image, deep);
     let any = any_chain(&masks, deep);
-    let live = first(deep, any, masks[6], masks[7], masks[8], &masks);
+    let edges = backs(image, deep);
+    let live = close(1, deep, any, &masks, &edges);
     let found = note(places, 0, 0, is_live(live, last));
     let from = From {
         live,
         place: 0,
         found,
     };
-    let ran = run_over(image, text, places, from, last, deep, any, &masks);
+    let ran = run_over(image, text, places, from, last, deep, any, &masks, &edges);
     ran.total
 }
 
@@ -67,10 +69,21 @@ pub fn go_on(image: &[u64], live: u64, place: u64, stretch: &[u8], places: &mut 
     let last = states(image) - 1;
     let masks = table(image, deep);
     let any = any_chain(&masks, deep);
+    let edges = backs(image, deep);
     let from = From {
         live,
         place,
         found: 0,
     };
-    run_over(image, stretch, places, from, last, deep, any, &masks)
+    run_over(
+        image,
+        stretch,
+        places,
+        from,
+        last,
+        deep,
+        any,
+        &masks,
+        &edges,
+    )
 }

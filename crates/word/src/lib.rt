@@ -3,6 +3,7 @@
 pub mod ends;
 pub mod passes;
 pub mod places;
+mod rounds;
 pub mod shape;
 mod steps;
 pub mod stretch;

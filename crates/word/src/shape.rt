@@ -7,7 +7,7 @@ ghost use Rattle.word.specs.Shape.{shaped};
 pub fn has_shape(image: &[u64]) -> bool
     ensures { λ r. ⌜ r ≡ shaped (now (image .entry)) ⌝ }
 {
-    if image.len() < 9 {
+    if image.len() < 10 {
         return false;
     }
     let states = image[1];
@@ -22,7 +22,7 @@ pub fn has_shape(image: &[u64]) -> bool
         return false;
     }
     let width = (states + 63) / 64;
-    image.len() as u64 == 9 + width * (515 + 9 * depth)
+    image.len() as u64 == 10 + width * (515 + 11 * depth)
 }
 
 // The words of the shape as they lie; 0 where there are none.

@@ -88,13 +88,13 @@ pub fn pass(
     fall(level, depth, any, table)
 }
 
-// The live states before any byte: up and down from state 0. Not by `pass`, which the compiler unfolds into the loop only where nothing else calls it.
-pub fn first(depth: usize, any: bool, block: u64, below: u64, target: u64, table: &[u64; 81]) -> u64
+// The same for all but the loops without back edges: the compiler unfolds `pass` into those only where nothing else calls it.
+pub fn reach(live: u64, depth: usize, any: bool, table: &[u64; 81]) -> u64
     requires { ⌜ depth ≤ 8 ⌝ }
-    ensures { λ r. ⌜ Passed any block below target (now (table .entry)) depth 1 r ⌝ }
+    ensures { λ r. ⌜ Passed any (getD (now (table .entry)) 6 0) (getD (now (table .entry)) 7 0) (getD (now (table .entry)) 8 0) (now (table .entry)) depth live r ⌝ }
 {
-    let up = rise(1, depth, any, table);
-    let level = along(up, any, block, below, target);
+    let up = rise(live, depth, any, table);
+    let level = along(up, any, table[6], table[7], table[8]);
     fall(level, depth, any, table)
 }
 

@@ -1,8 +1,10 @@
 // The run over a stretch of bytes, from any live states and any place, for a rule of at most 64 states. The loop stands once: where it is called with
 // the depth and the presence of chains as literals, the compiler makes a loop of its own for them.
 use crate::places::note;
+use crate::rounds::close;
 use crate::steps::moved;
 use crate::steps::pass;
+use crate::table::any_back;
 ghost use mathlib.Core.Bool.{false, true};
 ghost use mathlib.Core.List.{[], _∷_};
 ghost use mathlib.Core.Path.{_≡_};
@@ -10,7 +12,7 @@ ghost use Prim.Native.Nat.{_≤_, _<_};
 ghost use lib.ListN.{length};
 ghost use Rattle.model.specs.Bits.{bit};
 ghost use Rattle.model.specs.Models.Words.{value};
-ghost use Rattle.word.specs.One.{oneMasks, tableMasks};
+ghost use Rattle.word.specs.One.{oneMasks, tableMasks, workMasks};
 ghost use Rattle.word.specs.Ends.{Limits, RanOver};
 ghost use Rattle.word.specs.Stretch.{Chosen, Overs, RanFrom};
 
@@ -51,7 +53,7 @@ fn over(
     table: &[u64; 81],
 ) -> Ran
     requires { ⌜ (518 ≤ length (now image)) × (last < 64) × (depth ≤ 8) × Limits place found (now stretch) ⌝ }
-    ensures { λ r. ⌜ RanOver (tableMasks (now (image .entry)) any block below target (now (table .entry))) 1 depth last place found (now (stretch .entry)) (first ∷ [])
+    ensures { λ r. ⌜ RanOver (tableMasks (now (image .entry)) any block below target (now (table .entry)) []) 1 depth last place found (now (stretch .entry)) (first ∷ [])
         (now (ends .entry)) (r .live ∷ []) (r .total) (now (ends .exit)) ⌝ }
 {
     let mut live = first;
@@ -82,7 +84,7 @@ fn over_0(
     table: &[u64; 81],
 ) -> Ran
     requires { ⌜ Overs (now image) (now stretch) from last ⌝ }
-    ensures { λ r. ⌜ RanFrom (tableMasks (now (image .entry)) true block below target (now (table .entry))) 0 last (now (stretch .entry)) from
+    ensures { λ r. ⌜ RanFrom (tableMasks (now (image .entry)) true block below target (now (table .entry)) []) 0 last (now (stretch .entry)) from
         (now (ends .entry)) r (now (ends .exit)) ⌝ }
 {
     over(
@@ -114,7 +116,7 @@ fn over_0_plain(
     table: &[u64; 81],
 ) -> Ran
     requires { ⌜ Overs (now image) (now stretch) from last ⌝ }
-    ensures { λ r. ⌜ RanFrom (tableMasks (now (image .entry)) false block below target (now (table .entry))) 0 last (now (stretch .entry)) from
+    ensures { λ r. ⌜ RanFrom (tableMasks (now (image .entry)) false block below target (now (table .entry)) []) 0 last (now (stretch .entry)) from
         (now (ends .entry)) r (now (ends .exit)) ⌝ }
 {
     over(
@@ -146,7 +148,7 @@ fn over_1(
     table: &[u64; 81],
 ) -> Ran
     requires { ⌜ Overs (now image) (now stretch) from last ⌝ }
-    ensures { λ r. ⌜ RanFrom (tableMasks (now (image .entry)) true block below target (now (table .entry))) 1 last (now (stretch .entry)) from
+    ensures { λ r. ⌜ RanFrom (tableMasks (now (image .entry)) true block below target (now (table .entry)) []) 1 last (now (stretch .entry)) from
         (now (ends .entry)) r (now (ends .exit)) ⌝ }
 {
     over(
@@ -178,7 +180,7 @@ fn over_1_plain(
     table: &[u64; 81],
 ) -> Ran
     requires { ⌜ Overs (now image) (now stretch) from last ⌝ }
-    ensures { λ r. ⌜ RanFrom (tableMasks (now (image .entry)) false block below target (now (table .entry))) 1 last (now (stretch .entry)) from
+    ensures { λ r. ⌜ RanFrom (tableMasks (now (image .entry)) false block below target (now (table .entry)) []) 1 last (now (stretch .entry)) from
         (now (ends .entry)) r (now (ends .exit)) ⌝ }
 {
     over(
@@ -210,7 +212,7 @@ fn over_2(
     table: &[u64; 81],
 ) -> Ran
     requires { ⌜ Overs (now image) (now stretch) from last ⌝ }
-    ensures { λ r. ⌜ RanFrom (tableMasks (now (image .entry)) true block below target (now (table .entry))) 2 last (now (stretch .entry)) from
+    ensures { λ r. ⌜ RanFrom (tableMasks (now (image .entry)) true block below target (now (table .entry)) []) 2 last (now (stretch .entry)) from
         (now (ends .entry)) r (now (ends .exit)) ⌝ }
 {
     over(
@@ -230,8 +232,45 @@ fn over_2(
     )
 }
 
-// The loop is chosen once, before the stretch. The table is copied: no store through `ends` can change the copy, so the compiler reads it once.
-pub fn run_over(
+// The loop of a rule with back edges: each step closes in two rounds.
+fn over_back(
+    image: &[u64],
+    stretch: &[u8],
+    ends: &mut [u32],
+    from: From,
+    last: usize,
+    depth: usize,
+    any: bool,
+    table: &[u64; 81],
+    backs: &[u64; 16],
+) -> Ran
+    requires { ⌜ Overs (now image) (now stretch) from last × (depth ≤ 8) ⌝ }
+    ensures { λ r. ⌜ RanFrom (workMasks (now (image .entry)) any (now (table .entry)) (now (backs .entry))) depth last (now (stretch .entry)) from
+        (now (ends .entry)) r (now (ends .exit)) ⌝ }
+{
+    let mut live = from.live;
+    let mut total = from.found;
+    let mut p: usize = 0;
+    while p < stretch.len() {
+        let next = moved(live, image, stretch[p]);
+        live = close(next, depth, any, table, backs);
+        p += 1;
+        total = note(
+            ends,
+            total,
+            (from.place + p as u64) as u32,
+            is_live(live, last),
+        );
+    }
+    Ran {
+        live,
+        total: total as u64,
+    }
+}
+
+// The loop without back edges is chosen once, before the stretch. The table is copied: no store through `ends` can change the copy, so the compiler reads
+// it once.
+fn run_plain(
     image: &[u64],
     stretch: &[u8],
     ends: &mut [u32],
@@ -241,7 +280,7 @@ pub fn run_over(
     any: bool,
     table: &[u64; 81],
 ) -> Ran
-    requires { ⌜ Chosen (now image) (now stretch) from last depth any (now table) ⌝ }
+    requires { ⌜ Chosen (now image) (now stretch) from last depth any (now table) [] ⌝ }
     ensures { λ r. ⌜ RanFrom (oneMasks (now (image .entry))) depth last (now (stretch .entry)) from (now (ends .entry)) r (now (ends .exit)) ⌝ }
 {
     let t = *table;
@@ -278,4 +317,27 @@ pub fn run_over(
         target,
         &t,
     )
+}
+
+// With or without back edges: a rule without one pays nothing for them after this.
+pub fn run_over(
+    image: &[u64],
+    stretch: &[u8],
+    ends: &mut [u32],
+    from: From,
+    last: usize,
+    depth: usize,
+    any: bool,
+    table: &[u64; 81],
+    backs: &[u64; 16],
+) -> Ran
+    requires { ⌜ Chosen (now image) (now stretch) from last depth any (now table) (now backs) ⌝ }
+    ensures { λ r. ⌜ RanFrom (oneMasks (now (image .entry))) depth last (now (stretch .entry)) from (now (ends .entry)) r (now (ends .exit)) ⌝ }
+{
+    if any_back(backs, depth) {
+        let t = *table;
+        let b = *backs;
+        return over_back(image, stretch, ends, from, last, depth, any, &t, &b);
+    }
+    run_plain(image, stretch, ends, from, last, depth, any, table)
 }

@@ -1,8 +1,8 @@
-// The table of work: the masks of scatter, gather and propagate for each depth, from the image's words.
+// The table of work: the masks of scatter, gather and propagate for each depth, from the image's words; and beside it those of the back edges.
 ghost use mathlib.Core.Path.{_≡_};
 ghost use Prim.Native.Nat.{_+_, _*_, _≤_, _<_};
 ghost use lib.ListN.{length};
-ghost use Rattle.word.specs.One.{Entered, entryAt, NoChain};
+ghost use Rattle.word.specs.One.{Backs, Entered, entryAt, NoBack, NoChain};
 
 // Word j of the nine of depth k.
 fn entry(image: &[u64], depth: usize, k: usize, j: usize) -> u64
@@ -47,6 +47,35 @@ pub fn any_chain(table: &[u64; 81], depth: usize) -> bool
             return true;
         }
         k += 1;
+    }
+    false
+}
+
+// Source and target of the back edges of each depth below d, zeros after.
+pub fn backs(image: &[u64], depth: usize) -> [u64; 16]
+    requires { ⌜ (525 + 11 * depth ≤ length (now image)) × (depth ≤ 8) ⌝ }
+    ensures { λ r. ⌜ Backs (now (image .entry)) depth r ⌝ }
+{
+    let mut r = [0u64; 16];
+    let mut i = 0;
+    while i < 2 * depth {
+        r[i] = image[525 + 9 * depth + i];
+        i += 1;
+    }
+    r
+}
+
+// Whether some depth has a back edge.
+pub fn any_back(backs: &[u64; 16], depth: usize) -> bool
+    requires { ⌜ depth ≤ 8 ⌝ }
+    ensures { λ r. ⌜ NoBack (now (backs .entry)) depth r ⌝ }
+{
+    let mut i = 0;
+    while i < 2 * depth {
+        if backs[i] != 0 {
+            return true;
+        }
+        i += 1;
     }
     false
 }

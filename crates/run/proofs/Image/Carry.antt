@@ -12,11 +12,11 @@ use Rattle.model.specs.Answers.{ImageOf}
 use Rattle.model.specs.Bits.{bit}
 use Rattle.model.specs.Edges.{depth, states}
 use Rattle.model.specs.Image.{width}
-use Rattle.model.specs.Models.Apart.{chunk, gatherAt, gatherIn, lettersIn, propagateAt, propagateIn, repeatsIn, scatterAt, scatterIn}
+use Rattle.model.specs.Models.Apart.{backAt, backIn, chunk, gatherAt, gatherIn, lettersIn, propagateAt, propagateIn, repeatsIn, scatterAt, scatterIn}
 use Rattle.model.specs.Models.Words.{value}
 use Rattle.model.specs.Tree.{Tree}
 use Rattle.model.proofs.Ends.Run.{letterSet, loopSet, startSet}
-use Rattle.model.proofs.Image.Address.{chunk-at, gather-at, propagate-at, repeats-at, scatter-at, three-at}
+use Rattle.model.proofs.Image.Address.{back-at, chunk-at, gather-at, propagate-at, repeats-at, scatter-at, three-at, two-at}
 use Rattle.model.proofs.Image.OfEdges.{image-is}
 use Rattle.model.proofs.Image.Sections.{length-assembled}
 use Rattle.model.proofs.Image.Sets.{arcImage, treeSet}
@@ -82,11 +82,16 @@ module _ (t : Tree) where
     propagated : (k j : ℕ) (f : ℕ → Bool) → j < 3 → Holds m W (chunk W j (chunk (3 * W) k (propagateIn A))) f → Holds m 8 (masksOf A .propagateMask k j) f
     propagated k j f = placed (propagateIn A) (propagateAt W d) k j f (propagate-at A)
 
+    -- of the two of the back edges of depth k
+    returned : (k j : ℕ) (f : ℕ → Bool) → j < 2 → Holds m W (chunk W j (chunk (2 * W) k (backIn A))) f → Holds m 8 (masksOf A .backMask k j) f
+    returned k j f l = padded (chunk W j (chunk (2 * W) k (backIn A))) (backAt W d + W * (2 * k + j)) f (two-at W k j (backAt W d) (backIn A) A l (back-at A))
+
     arc-carry : Carry m 8 t (masksOf A)
     arc-carry =
         let C = image-carry t in
         record {
           room = few;
+          whole = C .whole;
           letters = λ b l. padded (chunk W b (lettersIn A)) (5 + W * b) (letterSet (arcs t 0 0) b) (chunk-at W b 5 (lettersIn A) A refl) (C .letters b l);
           loops = λ b l. padded (chunk W b (repeatsIn A)) (6 + W * (256 + b)) (loopSet (arcs t 0 0) b)
               (chunk-at W b (6 + W * 256) (repeatsIn A) A (repeats-at A)
@@ -100,6 +105,8 @@ module _ (t : Tree) where
           propagate-block = λ k l. propagated k 0 _ (omega arith) (C .propagate-block k l);
           propagate-source = λ k l. propagated k 1 _ (omega arith) (C .propagate-source k l);
           propagate-target = λ k l. propagated k 2 _ (omega arith) (C .propagate-target k l);
+          back-source = λ k l. returned k 0 _ (omega arith) (C .back-source k l);
+          back-target = λ k l. returned k 1 _ (omega arith) (C .back-target k l);
           start = start-holds m (omega arith);
         }
 

@@ -1,5 +1,5 @@
--- THE LIVE STATES of an image's words are those of document 01: the passes on words are the passes on sets (`passes-words`, `step-words`), which
--- give what the edges reach (`before-is`, `after-is`).
+-- THE LIVE STATES of an image's words are those of document 01: two rounds on words are two rounds on sets (`rounds-words`, `step-words`), which give
+-- what the edges reach (`before-is`, `after-is`).
 use mathlib.Core.Path.{_≡_, refl, sym, ap, _∙_, subst}
 use mathlib.Core.Logic.{_↔_}
 use mathlib.Core.Bool.{Bool, false, cond}
@@ -12,7 +12,7 @@ use Rattle.model.specs.Bits.{bit}
 use Rattle.model.specs.Edges.{depth, states}
 use Rattle.model.specs.Live.{After, Before}
 use Rattle.model.specs.Models.Apart.{depthWord}
-use Rattle.model.specs.Models.Run.{passWords, stepWords}
+use Rattle.model.specs.Models.Run.{closeWords, stepWords}
 use Rattle.model.specs.Models.Words.{Fit, value}
 use Rattle.model.specs.Tree.{Tree}
 use Rattle.model.proofs.Definitions.Live.{after-is, before-is}
@@ -21,8 +21,8 @@ use Rattle.model.proofs.Image.Decided.{rule-full}
 use Rattle.model.proofs.Language.Arcs.{arcs}
 use Rattle.model.proofs.Words.Full.{Full}
 use Rattle.model.proofs.Words.Holds.{Holds}
-use Rattle.model.proofs.Words.Passes.{passed}
-use Rattle.model.proofs.Words.Run.{passes-words, step-words}
+use Rattle.model.proofs.Words.Rounds.{closed}
+use Rattle.model.proofs.Words.Run.{rounds-words, step-words}
 use Rattle.run.specs.Says.{BeginSays, StatesAre, StepSays}
 use Rattle.moves.specs.Less.{startWords}
 use Rattle.run.specs.Work.{beginWords, masksOf, nextWords, noWords}
@@ -42,17 +42,17 @@ module _ (ws : List ℕ) (t : Tree) (I : ImageOf ws t) where
   pub depth-is : depthWord ws ≡ depth t
   depth-is = ap depthWord (as-arcs ws t I)
 
-  begun : beginWords ws ≡ passWords (masksOf ws) (depth t) startWords
+  begun : beginWords ws ≡ closeWords (masksOf ws) (depth t) startWords
   begun =
-      ap (λ (b : Bool). cond b (passWords (masksOf ws) (depthWord ws) startWords) noWords) (image-shaped ws t I)
-      ∙ ap (λ (n : ℕ). passWords (masksOf ws) n startWords) depth-is
+      ap (λ (b : Bool). cond b (closeWords (masksOf ws) (depthWord ws) startWords) noWords) (image-shaped ws t I)
+      ∙ ap (λ (n : ℕ). closeWords (masksOf ws) n startWords) depth-is
 
   -- BEFORE ANY BYTE
   pub begin-is : StatesAre t (beginWords ws) (Before t)
   begin-is =
       subst (λ (xs : List ℕ). StatesAre t xs (Before t)) (sym begun)
-      (states-are t (passWords (masksOf ws) (depth t) startWords) (passed t F (depth t) startSet) (Before t) (before-is t F)
-      (passes-words (states t) 8 t F (masksOf ws) (carried ws t I) startWords startSet (carried ws t I .start)))
+      (states-are t (closeWords (masksOf ws) (depth t) startWords) (closed t F startSet) (Before t) (before-is t F)
+      (rounds-words (states t) 8 t F (masksOf ws) (carried ws t I) startWords startSet (carried ws t I .start)))
 
   -- AFTER A BYTE, from any mask of the tree's states
   module _ (b : ℕ) (byte : b < 256) (live : List ℕ) (eight : length live ≡ 8) (fit : Fit live) (none : (q : ℕ) → states t ≤ q → bit (value live) q ≡ false) where
@@ -68,7 +68,7 @@ module _ (ws : List ℕ) (t : Tree) (I : ImageOf ws t) where
     next-is =
         let held : Holds (states t) 8 live alive = record { near = record { len = eight; fit = fit; bits = λ x l. refl }; none = none } in
         subst (λ (xs : List ℕ). StatesAre t xs (After t b (λ q. T (bit (value live) q)))) (sym stepped)
-        (states-are t (stepWords (masksOf ws) (depth t) b live) (passed t F (depth t) (moved (arcs t 0 0) b alive)) (After t b (λ q. T (alive q))) (after-is t F b alive)
+        (states-are t (stepWords (masksOf ws) (depth t) b live) (closed t F (moved (arcs t 0 0) b alive)) (After t b (λ q. T (alive q))) (after-is t F b alive)
         (step-words (states t) 8 t F (masksOf ws) (carried ws t I) b byte live alive held))
 
 -- WHAT `begin` AND `step` SAY

@@ -5,6 +5,7 @@ use mathlib.Core.Logic.{_⊎_, inl, inr}
 use mathlib.Core.Bool.{Bool, false}
 use mathlib.Core.List.{List, [], _∷_}
 use Prim.Native.Nat.{ℕ, _-_, _*_, _≤_, _<_}
+use native.Mathlib.Nat.{le-refl}
 use native.Mathlib.Omega.{arith}
 use lib.ListN.{getD, length, replicate, set, take}
 use lib.Seq.{length-take-le, sets, take-all, take-at}
@@ -30,16 +31,17 @@ use Rattle.model.proofs.Words.Holds.{Holds}
 use Rattle.model.proofs.Words.RowBits.{row-past}
 use Rattle.model.proofs.Words.Run.{Bytes, Carry}
 use Rattle.word.specs.Ends.{RanOver}
+use Rattle.word.proofs.Laws.Back.{BackCut}
 use Rattle.word.proofs.Laws.Cut.{Cut, take-bit}
 use Rattle.word.specs.One.{oneMasks}
 use Rattle.word.specs.Shape.{widthOf}
 use Rattle.word.proofs.Laws.Shape.{shape-of}
 use Rattle.run.specs.Says.{Gone, StatesAre}
-use Rattle.run.specs.Work.{Entered, masksOf, rowAt, ruleMasks}
+use Rattle.run.specs.Work.{masksOf, rowAt, ruleMasks, Tabled}
 use Rattle.run.proofs.Image.Carry.{as-arcs, carried, image-shaped}
 use Rattle.run.proofs.Image.Live.{depth-is}
-use Rattle.run.proofs.Laws.One.{mask-cut, one as one-wide}
-use Rattle.run.proofs.Laws.Table.{work-cut}
+use Rattle.run.proofs.Laws.One.{mask-back, mask-cut, one as one-wide}
+use Rattle.run.proofs.Laws.Table.{back-cut, work-cut}
 
 -- ---- the first W words of eight
 module _ (m : ℕ) (few : m ≤ 512) where
@@ -62,13 +64,14 @@ module _ (m : ℕ) (few : m ≤ 512) where
       go x l (inl h) = row-past (take W xs) x fits (omega (arith, long))
       go x l (inr h) = sym (take-bit W xs x h) ∙ H .none x l
 
-  module _ (t : Tree) (M N : Masks) (C : Carry m 8 t M) (K : Cut W (depth t) M N) where
+  module _ (t : Tree) (M N : Masks) (C : Carry m 8 t M) (K : Cut W (depth t) M N) (B : BackCut W (depth t) M N) where
     one : (xs ys : List ℕ) (f : ℕ → Bool) → take W xs ≡ ys → Holds m 8 xs f → Holds m W ys f
     one xs ys f e H = subst (λ (l : List ℕ). Holds m W l f) e (first-holds xs f H)
 
     pub first-carry : Carry m W t N
     first-carry = record {
       room = room m;
+      whole = C .whole;
       letters = λ b l. one _ _ _ (K .letters b l) (C .letters b l);
       loops = λ b l. one _ _ _ (K .loops b l) (C .loops b l);
       scatter-block = λ k l. one _ _ _ (K .scatters k 0 l (omega arith)) (C .scatter-block k l);
@@ -80,8 +83,14 @@ module _ (m : ℕ) (few : m ≤ 512) where
       propagate-block = λ k l. one _ _ _ (K .propagates k 0 l (omega arith)) (C .propagate-block k l);
       propagate-source = λ k l. one _ _ _ (K .propagates k 1 l (omega arith)) (C .propagate-source k l);
       propagate-target = λ k l. one _ _ _ (K .propagates k 2 l (omega arith)) (C .propagate-target k l);
+      back-source = λ k l. one _ _ _ (B .backs k 0 l (omega arith)) (C .back-source k l);
+      back-target = λ k l. one _ _ _ (B .backs k 1 l (omega arith)) (C .back-target k l);
       start = one _ _ _ (K .start) (C .start);
     }
+
+-- masks of which the first n words are others', the back edges' too
+abbrev Cuts : (n d : ℕ) (M N : Masks) → Type 0
+Cuts n d M N = Cut n d M N × BackCut n d M N
 
 -- a row that has the states of S is the mask of S, of its first words
 pub states-mask : (t : Tree) → states t ≤ 512 → (words : List ℕ) (S : ℕ → Type 0) → length words ≡ 8 → Fit words → StatesAre t words S
@@ -112,25 +121,26 @@ gone t F W d last N C long deep ends mask fits I place stretch B live before wor
     }
 
 -- ---- words that are an image, with what code has read of them and the table that it has made
-module _ (ws : List ℕ) (t : Tree) (I : ImageOf ws t) (fits : Fit ws) (table : List (List ℕ)) (E : Entered ws (widthOf ws) (depthWord ws) table) where
+module _ (ws : List ℕ) (t : Tree) (I : ImageOf ws t) (fits : Fit ws) (table : List (List ℕ)) (E : Tabled ws (widthOf ws) (depthWord ws) table) where
   abbrev wide : ℕ
   wide = width (states t)
 
   wide-is : widthOf ws ≡ wide
   wide-is = ap widthOf (as-arcs ws t I)
 
-  work : Cut wide (depth t) (masksOf ws) (ruleMasks ws wide table)
+  work : Cuts wide (depth t) (masksOf ws) (ruleMasks ws wide table)
   work =
-      subst (λ (n : ℕ). Cut wide n (masksOf ws) (ruleMasks ws wide table)) (depth-is ws t I)
-      (subst (λ (n : ℕ). Cut n (depthWord ws) (masksOf ws) (ruleMasks ws n table)) wide-is
-      (work-cut ws fits (shape-of ws (image-shaped ws t I)) table E (widthOf ws)))
+      let S = shape-of ws (image-shaped ws t I) in
+      subst (λ (n : ℕ). Cuts wide n (masksOf ws) (ruleMasks ws wide table)) (depth-is ws t I)
+      (subst (λ (n : ℕ). Cuts n (depthWord ws) (masksOf ws) (ruleMasks ws n table)) wide-is
+      (work-cut ws fits S table E (widthOf ws), back-cut ws fits S table E (widthOf ws) (le-refl (widthOf ws))))
 
   pub went : {read deep count : ℕ} → read ≡ widthOf ws → deep ≡ depthWord ws → count ≡ stateWord ws → (mask : List ℕ) → Fit mask → IsMask (states t) mask
       → (place : ℕ) (stretch : List ℕ) → Bytes stretch → (first before words : List ℕ) (total : ℕ) (after : List ℕ) → first ≡ rowAt mask 0 read
       → RanOver (ruleMasks ws read table) read deep (count - 1) place 0 stretch (take read first) before words total after
       → Gone t mask place stretch before words total after
   went {read} {deep} {count} ew ed em mask fit M place stretch B first before words total after e G =
-      gone t (rule-full t (I .is-rule)) wide deep (count - 1) (ruleMasks ws wide table) (first-carry (states t) (I .few) t (masksOf ws) (ruleMasks ws wide table) (carried ws t I) work) refl
+      gone t (rule-full t (I .is-rule)) wide deep (count - 1) (ruleMasks ws wide table) (first-carry (states t) (I .few) t (masksOf ws) (ruleMasks ws wide table) (carried ws t I) (work .0) (work .1)) refl
       (ed ∙ depth-is ws t I) last-is mask fit M place stretch B (take wide first) before words total after row-is
       (subst (λ (n : ℕ). RanOver (ruleMasks ws n table) n deep (count - 1) place 0 stretch (take n first) before words total after) w G)
     where
@@ -159,17 +169,18 @@ module _ (ws : List ℕ) (t : Tree) (I : ImageOf ws t) (few : stateWord ws ≤ 6
   one-is : 1 ≡ wide₁
   one-is = sym (one-wide ws (shape-of ws (image-shaped ws t I)) few) ∙ ap widthOf (as-arcs ws t I)
 
-  word-work : Cut wide₁ (depth t) (masksOf ws) (oneMasks ws)
+  word-work : Cuts wide₁ (depth t) (masksOf ws) (oneMasks ws)
   word-work =
-      subst (λ (n : ℕ). Cut wide₁ n (masksOf ws) (oneMasks ws)) (depth-is ws t I)
-      (subst (λ (n : ℕ). Cut n (depthWord ws) (masksOf ws) (oneMasks ws)) one-is (mask-cut ws (shape-of ws (image-shaped ws t I)) few))
+      let S = shape-of ws (image-shaped ws t I) in
+      subst (λ (n : ℕ). Cuts wide₁ n (masksOf ws) (oneMasks ws)) (depth-is ws t I)
+      (subst (λ (n : ℕ). Cuts n (depthWord ws) (masksOf ws) (oneMasks ws)) one-is (mask-cut ws S few, mask-back ws S few))
 
   pub went-word : (mask : List ℕ) → Fit mask → IsMask (states t) mask → (place : ℕ) (stretch : List ℕ) → Bytes stretch → {r : ℕ} (before : List ℕ) (total : ℕ) (after : List ℕ)
       → RanOver (oneMasks ws) 1 (depthWord ws) (stateWord ws - 1) place 0 stretch (getD mask 0 0 ∷ []) before (r ∷ []) total after
       → Gone t mask place stretch before (set (replicate 8 0) 0 r) total after
   went-word mask fit M place stretch B {r} before total after G =
       gone t (rule-full t (I .is-rule)) wide₁ (depthWord ws) (stateWord ws - 1) (oneMasks ws)
-      (first-carry (states t) (I .few) t (masksOf ws) (oneMasks ws) (carried ws t I) word-work) refl (depth-is ws t I) last-is mask fit M place stretch B
+      (first-carry (states t) (I .few) t (masksOf ws) (oneMasks ws) (carried ws t I) (word-work .0) (word-work .1)) refl (depth-is ws t I) last-is mask fit M place stretch B
       (getD mask 0 0 ∷ []) before (set (replicate 8 0) 0 r) total after (one-word mask (M .long ∙ sym one-is))
       (subst (λ (n : ℕ). RanOver (oneMasks ws) n (depthWord ws) (stateWord ws - 1) place 0 stretch (getD mask 0 0 ∷ []) before (set (replicate 8 0) 0 r) total after) one-is
       (record { counted = G .counted; stored = G .stored; runs = G .runs }))

@@ -36,7 +36,13 @@ row-more ws at i h l =
     one : suc i ≡ i + 1
     one = omega arith
 
-take-short : (n : ℕ) (xs : List ℕ) → length (take n xs) ≤ n
+-- a word of zeros
+pub no-word : (n i : ℕ) → getD (replicate {A = ℕ} n 0) i 0 ≡ 0
+no-word zero i = refl
+no-word (suc n) zero = refl
+no-word (suc n) (suc i) = no-word n i
+
+pub take-short : (n : ℕ) (xs : List ℕ) → length (take n xs) ≤ n
 take-short zero xs = omega arith
 take-short (suc n) [] = omega arith
 take-short (suc n) (x ∷ xs) = let l = take-short n xs in omega arith
@@ -44,6 +50,24 @@ take-short (suc n) (x ∷ xs) = let l = take-short n xs in omega arith
 pub row-short : (ws : List ℕ) (at W : ℕ) → W ≤ 8 → length (rowAt ws at W) ≤ 8
 row-short ws at W h =
     omega (arith, length-append (take W (drop at ws)) (replicate (8 - W) 0), take-short W (drop at ws), length-replicate {A = ℕ} (8 - W) 0)
+
+pub row-long : (ws : List ℕ) (at W : ℕ) → W ≤ 8 → at + W ≤ length ws → length (rowAt ws at W) ≡ 8
+row-long ws at W h l =
+    omega (
+      arith,
+      length-append (take W (drop at ws)) (replicate (8 - W) 0),
+      length-take-le W (drop at ws) (omega (arith, length-drop at ws)),
+      length-replicate {A = ℕ} (8 - W) 0,
+    )
+
+-- zeros above
+pub row-clear : (ws : List ℕ) (at W i : ℕ) → W ≤ i → getD (rowAt ws at W) i 0 ≡ 0
+row-clear ws at W i h = go (take W (drop at ws)) i (omega (arith, take-short W (drop at ws)))
+  where
+    go : (own : List ℕ) (i : ℕ) → length own ≤ i → getD (own ++ replicate (8 - W) 0) i 0 ≡ 0
+    go [] i l = no-word (8 - W) i
+    go (x ∷ own) zero l = absurd (omega arith)
+    go (x ∷ own) (suc i) l = go own i (omega arith)
 
 -- ---- the words of an image fit in 64 bits, and so do those of its masks
 fit-drop : (n : ℕ) (xs : List ℕ) → Fit xs → Fit (drop n xs)

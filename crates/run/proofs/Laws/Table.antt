@@ -1,29 +1,31 @@
--- THE TABLE OF WORK HOLDS THE IMAGE'S MASKS: each kind has the masks where they lie, propagate's source less one; so the run on the table's first words
--- finds the ends of the image's masks.
+-- THE TABLE OF WORK HOLDS THE IMAGE'S MASKS: each kind has the masks where they lie, propagate's source less one, and the back edges have theirs; so the
+-- run on the table's first words finds the ends of the image's masks.
 use mathlib.Core.Path.{_≡_, refl, sym, ap, ap₂, _∙_, subst}
 use mathlib.Core.Bool.{true}
 use mathlib.Core.List.{List, []}
 use Prim.Native.Nat.{ℕ, zero, suc, _+_, _-_, _*_, _≤_, _<_}
-use native.Mathlib.Nat.{not-suc-le-zero}
+use native.Mathlib.Nat.{le-refl, not-suc-le-zero}
 use native.Mathlib.Omega.{arith}
 use borrow.Author.Count.{below-more}
 use lib.ListN.{getD, length, length-set, set, take}
 use lib.Seq.{getD-set-other, getD-set-same}
-use Rattle.model.specs.Models.Apart.{depthWord, gatherAt, propagateAt, scatterAt, stateWord}
-use Rattle.model.specs.Models.Run.{endsWith, Masks, passWords}
+use Rattle.model.specs.Models.Apart.{backAt, depthWord, gatherAt, propagateAt, scatterAt, stateWord}
+use Rattle.model.specs.Models.Run.{closeWords, endsWith, Masks}
 use Rattle.model.specs.Models.Words.{Fit}
 use Rattle.model.proofs.Words.Run.{Bytes}
 use Rattle.moves.specs.Less.{lessOne, plusWords}
 use Rattle.moves.proofs.Laws.Less.{plus-less}
 use Rattle.word.specs.Shape.{widthOf}
-use Rattle.word.proofs.Laws.Cut.{Cut, ends-cut, pass-cut}
+use Rattle.word.proofs.Laws.Back.{BackCut}
+use Rattle.word.proofs.Laws.Cut.{close-cut, Cut, ends-cut}
 use Rattle.word.proofs.Laws.Nine.{nine-scatter}
 use Rattle.word.proofs.Laws.Shape.{Shape}
-use Rattle.run.specs.Work.{cutMasks, Entered, kindAt, masksOf, passMasks, Put, PutTo, rowAt, ruleMasks, workMasks}
-use Rattle.run.proofs.Laws.Passes.{pass-letters}
+use Rattle.run.specs.Work.{cutMasks, kindAt, masksOf, passMasks, Put, PutTo, rowAt, ruleMasks, Tabled, workMasks}
+use Rattle.run.proofs.Laws.Backs.{masks-low}
+use Rattle.run.proofs.Laws.Rounds.{close-letters}
 use Rattle.run.proofs.Laws.Rows.{fit-at, kind-row, row-short}
 
-module _ (ws : List ℕ) (fits : Fit ws) (S : Shape ws) (table : List (List ℕ)) (I : Entered ws (widthOf ws) (depthWord ws) table) where
+module _ (ws : List ℕ) (fits : Fit ws) (S : Shape ws) (table : List (List ℕ)) (I : Tabled ws (widthOf ws) (depthWord ws) table) where
   abbrev W : ℕ
   W = widthOf ws
 
@@ -34,7 +36,7 @@ module _ (ws : List ℕ) (fits : Fit ws) (S : Shape ws) (table : List (List ℕ)
   narrow = omega (arith, S .few-states)
 
   scattered : (k j : ℕ) → k < d → j < 3 → getD table (9 * k + j) [] ≡ masksOf ws .scatterMask k j
-  scattered k j h l = I k j (omega (arith, S .shallow)) (omega arith) ∙ sym (nine-scatter j _ _ _ _ l) ∙ kind-row ws (scatterAt W) W j d k h
+  scattered k j h l = I .passes k j (omega (arith, S .shallow)) (omega arith) ∙ sym (nine-scatter j _ _ _ _ l) ∙ kind-row ws (scatterAt W) W j d k h
 
   -- where the number of the kind is written out, so is the section
   gathered : (k j : ℕ) → k < d → j < 3 → getD (kindAt ws (gatherAt W d) W d j) k [] ≡ masksOf ws .gatherMask k j
@@ -46,7 +48,7 @@ module _ (ws : List ℕ) (fits : Fit ws) (S : Shape ws) (table : List (List ℕ)
   source : (k : ℕ) → k ≤ d → plusWords (getD table (9 * k + 7) []) true ≡ masksOf ws .propagateMask k 1
   source k h =
       let at = propagateAt W d + W * (3 * k + 1) in
-      ap (λ (x : List ℕ). plusWords x true) (I k 7 (omega (arith, S .shallow)) (omega arith) ∙ ap lessOne (propagated k 1 h))
+      ap (λ (x : List ℕ). plusWords x true) (I .passes k 7 (omega (arith, S .shallow)) (omega arith) ∙ ap lessOne (propagated k 1 h))
       ∙ plus-less (rowAt ws at W) (row-short ws at W narrow) (fit-at ws at W fits)
 
   abbrev N : ℕ → Masks
@@ -71,36 +73,49 @@ module _ (ws : List ℕ) (fits : Fit ws) (S : Shape ws) (table : List (List ℕ)
       scatters k (suc (suc (suc j))) h l = absurd (omega arith)
 
       gathers : (k j : ℕ) → k < d → j < 3 → take n (masksOf ws .gatherMask k j) ≡ N n .gatherMask k j
-      gathers k zero h l = ap (take n) (sym (I k 3 (omega (arith, S .shallow)) (omega arith) ∙ gathered k 0 h l))
-      gathers k (suc zero) h l = ap (take n) (sym (I k 4 (omega (arith, S .shallow)) (omega arith) ∙ gathered k 1 h l))
-      gathers k (suc (suc zero)) h l = ap (take n) (sym (I k 5 (omega (arith, S .shallow)) (omega arith) ∙ gathered k 2 h l))
+      gathers k zero h l = ap (take n) (sym (I .passes k 3 (omega (arith, S .shallow)) (omega arith) ∙ gathered k 0 h l))
+      gathers k (suc zero) h l = ap (take n) (sym (I .passes k 4 (omega (arith, S .shallow)) (omega arith) ∙ gathered k 1 h l))
+      gathers k (suc (suc zero)) h l = ap (take n) (sym (I .passes k 5 (omega (arith, S .shallow)) (omega arith) ∙ gathered k 2 h l))
       gathers k (suc (suc (suc j))) h l = absurd (omega arith)
 
       propagates : (k j : ℕ) → k ≤ d → j < 3 → take n (masksOf ws .propagateMask k j) ≡ N n .propagateMask k j
-      propagates k zero h l = ap (take n) (sym (I k 6 (omega (arith, S .shallow)) (omega arith) ∙ propagated k 0 h))
+      propagates k zero h l = ap (take n) (sym (I .passes k 6 (omega (arith, S .shallow)) (omega arith) ∙ propagated k 0 h))
       propagates k (suc zero) h l = ap (take n) (sym (source k h))
-      propagates k (suc (suc zero)) h l = ap (take n) (sym (I k 8 (omega (arith, S .shallow)) (omega arith) ∙ propagated k 2 h))
+      propagates k (suc (suc zero)) h l = ap (take n) (sym (I .passes k 8 (omega (arith, S .shallow)) (omega arith) ∙ propagated k 2 h))
       propagates k (suc (suc (suc j))) h l = absurd (omega arith)
 
-  -- a pass of eight words is the whole pass's
-  pub pass-eight : {deep : ℕ} → deep ≡ d → (live r : List ℕ) → take 8 r ≡ passWords (passMasks 8 table) deep (take 8 live) → take 8 r ≡ take 8 (passWords (masksOf ws) d live)
-  pass-eight {deep} q live r e =
-      e ∙ pass-letters 8 [] ws 0 W table deep (take 8 live)
-      ∙ ap (λ (i : ℕ). passWords (N 8) i (take 8 live)) q
-      ∙ sym (pass-cut 8 d (masksOf ws) (N 8) (work-cut 8) live)
+  pub back-cut : (n : ℕ) → W ≤ n → BackCut n d (masksOf ws) (N n)
+  back-cut n h = record { backs = backs; low = masks-low ws S n h }
+    where
+      backs : (k j : ℕ) → k < d → j < 2 → take n (masksOf ws .backMask k j) ≡ N n .backMask k j
+      backs k zero m l =
+          let e : 2 * k + 0 ≡ 2 * k = omega arith in
+          ap (take n) (ap (λ (i : ℕ). rowAt ws (backAt W d + W * i) W) e ∙ sym (I .backs (2 * k) (omega arith)))
+      backs k (suc zero) m l =
+          let e : 81 + (2 * k + 1) ≡ 82 + 2 * k = omega arith in
+          ap (take n) (sym (I .backs (2 * k + 1) (omega arith)) ∙ ap (λ (i : ℕ). getD table i []) e)
+      backs k (suc (suc j)) m l = absurd (omega arith)
+
+  -- both rounds of eight words are the whole ones
+  pub close-eight : {deep : ℕ} → deep ≡ d → (live r : List ℕ) → length live ≤ 8 → take 8 r ≡ closeWords (passMasks 8 table) deep (take 8 live)
+      → take 8 r ≡ take 8 (closeWords (masksOf ws) d live)
+  close-eight {deep} q live r h e =
+      e ∙ close-letters 8 [] ws 0 W table deep (take 8 live)
+      ∙ ap (λ (i : ℕ). closeWords (N 8) i (take 8 live)) q
+      ∙ sym (close-cut 8 d (masksOf ws) (N 8) (work-cut 8) (back-cut 8 narrow) live h)
 
   -- THE SAME ENDS, with what code has read of the shape
   pub work-ends : {wide deep count : ℕ} → wide ≡ W → deep ≡ d → count ≡ stateWord ws → (text : List ℕ) → Bytes text
       → endsWith (ruleMasks ws wide table) deep (count - 1) text ≡ endsWith (masksOf ws) d (stateWord ws - 1) text
   work-ends {wide} {deep} {count} ew ed em text B =
       ap (λ (n : ℕ). endsWith (ruleMasks ws n table) deep (count - 1) text) ew ∙ ap₂ (λ (i k : ℕ). endsWith (N W) i (k - 1) text) ed em
-      ∙ sym (ends-cut W d (masksOf ws) (N W) (work-cut W) (stateWord ws - 1) (omega (arith, S .some-states)) text B)
+      ∙ sym (ends-cut W d (masksOf ws) (N W) (work-cut W) (back-cut W (le-refl W)) (stateWord ws - 1) (omega (arith, S .some-states)) text B)
 
 -- ---- the table made: a kind put, one mask more and one kind more
 pub put-begin : (j : ℕ) (masks table : List (List ℕ)) → PutTo 0 j masks table table
 put-begin j masks table = record { here = λ k h. absurd (not-suc-le-zero h); there = λ k i h q. refl; long = refl }
 
-pub put-more : {c j : ℕ} {masks table new : List (List ℕ)} → PutTo c j masks table new → c < 9 → j < 9 → length table ≡ 81
+pub put-more : {c j : ℕ} {masks table new : List (List ℕ)} → PutTo c j masks table new → c < 9 → j < 9 → length table ≡ 97
     → PutTo (c + 1) j masks table (set new (9 * c + j) (getD masks c []))
 put-more {c} {j} {masks} {table} {new} P h l long = record {
   here = below-more (λ (k : ℕ). getD (set new (9 * c + j) v) (9 * k + j) [] ≡ getD masks k []) c
@@ -120,6 +135,6 @@ kind-entered {c} rows {masks} {table} {new} I h P M k j l =
     (λ i m. P .there k i (omega arith) (λ q. let e : i ≡ c = q in absurd (omega arith)) ∙ I k i l m) (P .here k l ∙ M k l) j
 
 -- the table that code has made, with the width and the depth that it has read
-pub entered-of : (ws : List ℕ) (table : List (List ℕ)) {W d : ℕ} → W ≡ widthOf ws → d ≡ depthWord ws → Entered ws W d table → Entered ws (widthOf ws) (depthWord ws) table
-entered-of ws table {W} {d} ew ed I =
-    subst (λ (x : ℕ). Entered ws (widthOf ws) x table) ed (subst (λ (x : ℕ). Entered ws x d table) ew I)
+pub tabled-of : (ws : List ℕ) (table : List (List ℕ)) {W d : ℕ} → W ≡ widthOf ws → d ≡ depthWord ws → Tabled ws W d table → Tabled ws (widthOf ws) (depthWord ws) table
+tabled-of ws table {W} {d} ew ed I =
+    subst (λ (x : ℕ). Tabled ws (widthOf ws) x table) ed (subst (λ (x : ℕ). Tabled ws x d table) ew I)

@@ -1,65 +1,36 @@
--- PASSES OF FEWER WORDS: a pass of m words is one of the first n; and with eight words nothing is lost.
-use mathlib.Core.Path.{_≡_, refl, sym, ap, ap₂, _∙_}
-use mathlib.Core.List.{List, [], _∷_}
+-- WITH EIGHT WORDS NOTHING IS LOST, for nothing grows longer.
+use mathlib.Core.Path.{_≡_, sym, ap, ap₂, _∙_}
+use mathlib.Core.List.{List}
 use Prim.Native.Nat.{ℕ, zero, suc, _+_, _*_, _≤_}
-use native.Mathlib.Nat.{le-trans}
-use native.Mathlib.Omega.{arith}
+use native.Mathlib.Nat.{le-refl, le-trans}
+use lib.Bits.{bitOr}
 use lib.ListN.{length, take}
 use lib.Seq.{take-all}
-use Rattle.model.specs.Models.Run.{fallWords, gatherBy, Masks, moveWords, passWords, propagateBy, riseWords, scatterBy}
-use Rattle.model.specs.Models.Words.{eachWord}
-use Rattle.word.proofs.Laws.Cut.{Cut, pass-cut}
+use Rattle.model.specs.Models.Run.{closeWords, Masks, moveWords, passWords, returnsWords, returnWords}
+use Rattle.model.specs.Models.Verdict.{sameWords}
+use Rattle.model.specs.Models.Words.{orWords}
+use Rattle.model.proofs.Laws.Bool.{cond-cases}
+use Rattle.word.proofs.Laws.Back.{each-short, pass-short}
 use Rattle.moves.specs.Less.{startWords}
-use Rattle.run.specs.Work.{cutMasks, rowAt}
+use Rattle.run.specs.Work.{rowAt}
 use Rattle.run.proofs.Laws.Rows.{row-short}
 
--- ---- fewer words of fewer words
-take-take : (n m : ℕ) (xs : List ℕ) → n ≤ m → take n (take m xs) ≡ take n xs
-take-take zero m xs h = refl
-take-take (suc n) zero xs h = absurd (omega arith)
-take-take (suc n) (suc m) [] h = refl
-take-take (suc n) (suc m) (x ∷ xs) h = ap (λ (l : List ℕ). x ∷ l) (take-take n m xs (omega arith))
+returns-short : (M : Masks) (k : ℕ) (first live : List ℕ) → length (returnsWords M k first live) ≤ length live
+returns-short M zero first live = le-refl (length live)
+returns-short M (suc k) first live =
+    let led = returnWords (M .backMask k 0) (M .backMask k 1) first in
+    le-trans (returns-short M k first (orWords live led)) (each-short bitOr live led)
 
-cut-cut : (n m d : ℕ) (M : Masks) → n ≤ m → Cut n d (cutMasks m M) (cutMasks n M)
-cut-cut n m d M h = record {
-  letters = λ b l. take-take n m (M .letterMask b) h;
-  loops = λ b l. take-take n m (M .loopMask b) h;
-  scatters = λ k j l i. take-take n m (M .scatterMask k j) h;
-  gathers = λ k j l i. take-take n m (M .gatherMask k j) h;
-  propagates = λ k j l i. take-take n m (M .propagateMask k j) h;
-  start = take-take n m (M .startMask) h;
-}
+close-short : (M : Masks) (d : ℕ) (live : List ℕ) → length (closeWords M d live) ≤ length live
+close-short M d live =
+    let first = passWords M d live in
+    let more = returnsWords M d first first in
+    let once = pass-short M d live in
+    cond-cases (λ (r : List ℕ). length r ≤ length live) (sameWords more first) (λ t. once)
+    (λ t. le-trans (pass-short M d more) (le-trans (returns-short M d first first) once))
 
--- a pass of m words is one of n
-pub pass-fewer : (n m d : ℕ) (M : Masks) → n ≤ m → (live r : List ℕ) → take m r ≡ passWords (cutMasks m M) d (take m live) → take n r ≡ passWords (cutMasks n M) d (take n live)
-pass-fewer n m d M h live r e =
-    sym (take-take n m r h) ∙ ap (take n) e ∙ pass-cut n d (cutMasks m M) (cutMasks n M) (cut-cut n m d M h) (take m live)
-    ∙ ap (passWords (cutMasks n M) d) (take-take n m live h)
-
--- ---- nothing grows longer
-each-short : (f : ℕ → ℕ → ℕ) (xs ys : List ℕ) → length (eachWord f xs ys) ≤ length xs
-each-short f [] ys = omega arith
-each-short f (x ∷ xs) [] = omega arith
-each-short f (x ∷ xs) (y ∷ ys) = let l = each-short f xs ys in omega arith
-
-rise-short : (M : Masks) (k : ℕ) (live : List ℕ) → length (riseWords M k live) ≤ length live
-rise-short M zero live = each-short _ live _
-rise-short M (suc k) live =
-    le-trans (rise-short M k (gatherBy M k (propagateBy M (suc k) live)))
-    (le-trans (each-short _ (propagateBy M (suc k) live) _) (each-short _ live _))
-
-fall-short : (M : Masks) (n k : ℕ) (live : List ℕ) → length (fallWords M n k live) ≤ length live
-fall-short M zero k live = omega arith
-fall-short M (suc n) k live =
-    le-trans (fall-short M n (suc k) (propagateBy M (suc k) (scatterBy M k live)))
-    (le-trans (each-short _ (scatterBy M k live) _) (each-short _ live _))
-
-pass-short : (M : Masks) (d : ℕ) (live : List ℕ) → length (passWords M d live) ≤ length live
-pass-short M d live = le-trans (fall-short M d 0 (riseWords M d live)) (rise-short M d live)
-
--- ---- with eight words nothing is lost
-pub pass-whole : (M : Masks) (d : ℕ) (live r : List ℕ) → length live ≤ 8 → length r ≤ 8 → take 8 r ≡ take 8 (passWords M d live) → r ≡ passWords M d live
-pass-whole M d live r hl hr e = sym (take-all 8 r hr) ∙ e ∙ take-all 8 (passWords M d live) (le-trans (pass-short M d live) hl)
+pub close-whole : (M : Masks) (d : ℕ) (live r : List ℕ) → length live ≤ 8 → length r ≤ 8 → take 8 r ≡ take 8 (closeWords M d live) → r ≡ closeWords M d live
+close-whole M d live r hl hr e = sym (take-all 8 r hr) ∙ e ∙ take-all 8 (closeWords M d live) (le-trans (close-short M d live) hl)
 
 pub move-whole : (ws : List ℕ) (W b : ℕ) (live r : List ℕ) → W ≤ 8 → length live ≤ 8 → length r ≤ 8
     → take 8 r ≡ moveWords (take 8 (rowAt ws (5 + W * b) W)) (take 8 (rowAt ws (6 + W * (256 + b)) W)) startWords (take 8 live)

@@ -1,19 +1,20 @@
--- THE RUN ON THE FIRST n WORDS OF EACH MASK: nothing goes down from a word to the one below, so its words are the first n of the whole run, and it
--- finds the same ends where the accepting state is among them.
+-- THE RUN ON THE FIRST n WORDS OF EACH MASK: only back edges lead down from a word to the one below, so where none stands above them its words are the
+-- first n of the whole run, and it finds the same ends where the accepting state is among them.
 use mathlib.Core.Path.{_≡_, refl, ap, ap₂, _∙_}
 use mathlib.Core.Bool.{Bool, false}
 use mathlib.Core.List.{List, [], _∷_, _++_}
 use Prim.Native.Nat.{ℕ, zero, suc, _+_, _*_, _^_, _≤_, _<_}
 use native.Mathlib.Nat.{mul-left-comm}
 use native.Mathlib.Omega.{arith}
-use lib.ListN.{drop, take}
+use lib.ListN.{drop, length, take}
 use lib.Pow.{pow-add}
 use Rattle.model.specs.Bits.{bit}
-use Rattle.model.specs.Models.Run.{endsAfter, endsWith, fallWords, gatherBy, gatherWords, Masks, moveBy, moveWords, noted, passWords, propagateBy, propagateWords, riseWords, runFrom, scatterBy, scatterWords, stepWords}
+use Rattle.model.specs.Models.Run.{closeWords, endsAfter, endsWith, fallWords, gatherBy, gatherWords, Masks, moveBy, moveWords, noted, passWords, propagateBy, propagateWords, riseWords, runFrom, scatterBy, scatterWords, stepWords}
 use Rattle.model.specs.Models.Words.{addWords, andWords, notWords, orWords, shiftWords, subtractWords, value, xorWords}
 use Rattle.model.proofs.Words.RowBits.{low-bit}
 use Rattle.mask.proofs.Laws.Take.{take-each, take-not, take-ripple, take-shift}
 use Rattle.model.proofs.Words.Run.{Bytes}
+use Rattle.word.proofs.Laws.Back.{BackCut, move-short, rounds-cut}
 
 -- ---- the four moves
 take-scatter : (n : ℕ) (b s t live : List ℕ) → take n (scatterWords b s t live) ≡ scatterWords (take n b) (take n s) (take n t) (take n live)
@@ -113,24 +114,28 @@ module _ (n d : ℕ) (M N : Masks) (C : Cut n d M N) where
   pub pass-cut : (live : List ℕ) → take n (passWords M d live) ≡ passWords N d (take n live)
   pass-cut live = fallen d 0 (omega arith) (riseWords M d live) ∙ ap (fallWords N d 0) (risen d (omega arith) live)
 
-  stepped : (b : ℕ) → b < 256 → (live : List ℕ) → take n (stepWords M d b live) ≡ stepWords N d b (take n live)
-  stepped b h live = pass-cut (moveBy M b live) ∙ ap (passWords N d) (moved b h live)
+  -- THE SAME ENDS AND THE SAME WORDS, after a stretch and of a whole text, where the back edges stand among the first n words too
+  module _ (B : BackCut n d M N) where
+    pub close-cut : (live : List ℕ) → length live ≤ length (M .startMask) → take n (closeWords M d live) ≡ closeWords N d (take n live)
+    close-cut = rounds-cut n d M N B pass-cut
 
-  -- THE SAME ENDS AND THE SAME WORDS, after a stretch and of a whole text
-  pub after-cut : (last : ℕ) → last < 64 * n → (p : ℕ) (live rest : List ℕ) → Bytes rest → endsAfter M d last p live rest ≡ endsAfter N d last p (take n live) rest
-  after-cut last l p live [] B = refl
-  after-cut last l p live (b ∷ rest) B =
-      let e = stepped b (B .0) live in
-      ap₂ (λ (h : Bool) (ps : List ℕ). noted h (p + 1) ++ ps) (take-bit n (stepWords M d b live) last l ∙ ap (λ (w : List ℕ). bit (value w) last) e)
-      (after-cut last l (p + 1) (stepWords M d b live) rest (B .1) ∙ ap (λ (w : List ℕ). endsAfter N d last (p + 1) w rest) e)
+    stepped : (b : ℕ) → b < 256 → (live : List ℕ) → take n (stepWords M d b live) ≡ stepWords N d b (take n live)
+    stepped b h live = close-cut (moveBy M b live) (move-short M b live) ∙ ap (closeWords N d) (moved b h live)
 
-  pub run-cut : (live rest : List ℕ) → Bytes rest → take n (runFrom M d live rest) ≡ runFrom N d (take n live) rest
-  run-cut live [] B = refl
-  run-cut live (b ∷ rest) B = run-cut (stepWords M d b live) rest (B .1) ∙ ap (λ (w : List ℕ). runFrom N d w rest) (stepped b (B .0) live)
+    pub after-cut : (last : ℕ) → last < 64 * n → (p : ℕ) (live rest : List ℕ) → Bytes rest → endsAfter M d last p live rest ≡ endsAfter N d last p (take n live) rest
+    after-cut last l p live [] bs = refl
+    after-cut last l p live (b ∷ rest) bs =
+        let e = stepped b (bs .0) live in
+        ap₂ (λ (h : Bool) (ps : List ℕ). noted h (p + 1) ++ ps) (take-bit n (stepWords M d b live) last l ∙ ap (λ (w : List ℕ). bit (value w) last) e)
+        (after-cut last l (p + 1) (stepWords M d b live) rest (bs .1) ∙ ap (λ (w : List ℕ). endsAfter N d last (p + 1) w rest) e)
 
-  pub ends-cut : (last : ℕ) → last < 64 * n → (text : List ℕ) → Bytes text → endsWith M d last text ≡ endsWith N d last text
-  ends-cut last l text B =
-      let first = passWords M d (M .startMask) in
-      let e = pass-cut (M .startMask) ∙ ap (passWords N d) (C .start) in
-      ap₂ (λ (h : Bool) (ps : List ℕ). noted h 0 ++ ps) (take-bit n first last l ∙ ap (λ (w : List ℕ). bit (value w) last) e)
-      (after-cut last l 0 first text B ∙ ap (λ (w : List ℕ). endsAfter N d last 0 w text) e)
+    pub run-cut : (live rest : List ℕ) → Bytes rest → take n (runFrom M d live rest) ≡ runFrom N d (take n live) rest
+    run-cut live [] bs = refl
+    run-cut live (b ∷ rest) bs = run-cut (stepWords M d b live) rest (bs .1) ∙ ap (λ (w : List ℕ). runFrom N d w rest) (stepped b (bs .0) live)
+
+    pub ends-cut : (last : ℕ) → last < 64 * n → (text : List ℕ) → Bytes text → endsWith M d last text ≡ endsWith N d last text
+    ends-cut last l text bs =
+        let first = closeWords M d (M .startMask) in
+        let e = close-cut (M .startMask) (omega arith) ∙ ap (closeWords N d) (C .start) in
+        ap₂ (λ (h : Bool) (ps : List ℕ). noted h 0 ++ ps) (take-bit n first last l ∙ ap (λ (w : List ℕ). bit (value w) last) e)
+        (after-cut last l 0 first text bs ∙ ap (λ (w : List ℕ). endsAfter N d last 0 w text) e)

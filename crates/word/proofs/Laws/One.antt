@@ -5,24 +5,25 @@ use mathlib.Core.Logic.{_⊎_, inl, inr}
 use mathlib.Core.Bool.{Bool, true, false, _&&_, and-false, cond}
 use mathlib.Core.List.{List, [], _∷_}
 use Prim.Native.Nat.{ℕ, zero, suc, _+_, _-_, _*_, _%_, _^_, _≤_, _<_}
-use native.Mathlib.Nat.{eq-or-lt-of-le}
+use native.Mathlib.Nat.{eq-or-lt-of-le, not-suc-le-zero}
 use native.Mathlib.Omega.{arith}
 use lib.Dec.{leb}
 use lib.ListN.{getD, length, take}
 use lib.Seq.{sets}
 use Rattle.model.specs.Image.{width}
 use Rattle.model.specs.Models.Apart.{depthWord, stateWord}
-use Rattle.model.specs.Models.Run.{endsAfter, endsWith, Masks, passWords, runFrom}
+use Rattle.model.specs.Models.Run.{closeWords, endsAfter, endsWith, Masks, runFrom}
 use Rattle.model.specs.Models.Words.{wrapAdd, wrapSub}
 use Rattle.model.proofs.Laws.Bool.{le-false, le-true}
 use Rattle.model.proofs.Words.Run.{Bytes}
 use Rattle.word.specs.Ends.{Limits, RanOver}
-use Rattle.word.specs.One.{chain, endsOfOne, Entered, entryAt, NoChain, oneMasks, tableMasks, wordAt}
+use Rattle.word.specs.One.{Backs, chain, endsOfOne, Entered, entryAt, NoChain, oneMasks, wordAt, workMasks}
 use Rattle.word.specs.Shape.{shaped}
 use Rattle.word.specs.Stretch.{Chosen, RanFrom}
 use Rattle.word.specs.declared.stretch.From.{From}
 use Rattle.word.specs.declared.stretch.Ran.{Ran}
-use Rattle.word.proofs.Laws.Cut.{after-cut, Cut, pass-cut, run-cut}
+use Rattle.word.proofs.Laws.Back.{BackCut, Zeros}
+use Rattle.word.proofs.Laws.Cut.{after-cut, close-cut, Cut, run-cut}
 use Rattle.word.proofs.Laws.Nine.{entered-at, nine-gather, nine-scatter}
 use Rattle.word.proofs.Laws.Shape.{Shape, shape-of}
 
@@ -41,7 +42,7 @@ empty-more table k I e x h = go (eq-or-lt-of-le h)
     go (inr q) = I x q
 
 -- ---- THE TABLE'S MASKS ARE THE IMAGE'S
-module _ (ws table : List ℕ) (d : ℕ) (any : Bool) (deep : d ≡ depthWord ws) (I : Entered ws d table) (N : NoChain table d any)
+module _ (ws table backs : List ℕ) (d : ℕ) (any : Bool) (deep : d ≡ depthWord ws) (I : Entered ws d table) (N : NoChain table d any) (B : Backs ws d backs)
     (fit : (i : ℕ) → getD ws i 0 < 2 ^ 64) where
   entry : (k j : ℕ) → k ≤ d → j < 9 → getD table (9 * k + j) 0 ≡ entryAt ws d k j
   entry = entered-at 0 (entryAt ws d) table d I
@@ -90,7 +91,7 @@ module _ (ws table : List ℕ) (d : ℕ) (any : Bool) (deep : d ≡ depthWord ws
   chained k (suc (suc (suc j))) h l = absurd (omega arith)
 
   abbrev T : Masks
-  T = tableMasks ws any (getD table 6 0) (getD table 7 0) (getD table 8 0) table
+  T = workMasks ws any table backs
 
   one-cut : Cut 1 d T (oneMasks ws)
   one-cut = record {
@@ -122,23 +123,33 @@ module _ (ws table : List ℕ) (d : ℕ) (any : Bool) (deep : d ≡ depthWord ws
       propagates (suc k) (suc zero) h l = chained (suc k) 1 h l
       propagates (suc k) (suc (suc j)) h l = chained (suc k) (suc (suc j)) h l
 
+  one-back : BackCut 1 d T (oneMasks ws)
+  one-back = record { backs = edges; low = record { clear = λ k j h l. none (getD backs (2 * k + j) 0); long = λ k j h l. omega arith } }
+    where
+      edges : (k j : ℕ) → k < d → j < 2 → take 1 (T .backMask k j) ≡ oneMasks ws .backMask k j
+      edges k j h l = ap (λ (x : ℕ). x ∷ []) (B (2 * k + j) (omega arith) ∙ ap (λ (n : ℕ). getD ws (525 + 9 * n + (2 * k + j)) 0) deep)
+
+      none : (w : ℕ) → Zeros 1 (w ∷ [])
+      none w zero h = absurd (not-suc-le-zero h)
+      none w (suc i) h = refl
+
   -- the first words, and the run over a stretch with the depth as a literal or not
-  pub one-first : {first : ℕ} → first ∷ [] ≡ passWords T d (1 ∷ []) → first ∷ [] ≡ passWords (oneMasks ws) d (1 ∷ [])
-  one-first e = ap (take 1) e ∙ pass-cut 1 d T (oneMasks ws) one-cut (1 ∷ [])
+  pub one-first : {first : ℕ} → first ∷ [] ≡ closeWords T d (1 ∷ []) → first ∷ [] ≡ closeWords (oneMasks ws) d (1 ∷ [])
+  one-first e = ap (take 1) e ∙ close-cut 1 d T (oneMasks ws) one-cut one-back (1 ∷ []) (omega arith)
 
   pub one-over : (n : ℕ) → d ≡ n → {last : ℕ} → last < 64 → {stretch : List ℕ} → Bytes stretch → {place found first r total : ℕ} {before after : List ℕ}
       → RanOver T 1 n last place found stretch (first ∷ []) before (r ∷ []) total after
       → RanOver (oneMasks ws) 1 d last place found stretch (first ∷ []) before (r ∷ []) total after
-  one-over n q {last} l {stretch} B {place} {found} {first} {r} {total} {before} {after} G = record {
+  one-over n q {last} l {stretch} bs {place} {found} {first} {r} {total} {before} {after} G = record {
     counted = G .counted ∙ ap (λ (ps : List ℕ). found + length ps) e;
     stored = G .stored ∙ ap (sets before found) e;
-    runs = ap (take 1) (G .runs ∙ ap (λ (i : ℕ). runFrom T i (first ∷ []) stretch) (sym q)) ∙ run-cut 1 d T (oneMasks ws) one-cut (first ∷ []) stretch B;
+    runs = ap (take 1) (G .runs ∙ ap (λ (i : ℕ). runFrom T i (first ∷ []) stretch) (sym q)) ∙ run-cut 1 d T (oneMasks ws) one-cut one-back (first ∷ []) stretch bs;
   }
     where
       e : endsAfter T n last place (first ∷ []) stretch ≡ endsAfter (oneMasks ws) d last place (first ∷ []) stretch
       e =
           ap (λ (i : ℕ). endsAfter T i last place (first ∷ []) stretch) (sym q)
-          ∙ after-cut 1 d T (oneMasks ws) one-cut last (omega arith) place (first ∷ []) stretch B
+          ∙ after-cut 1 d T (oneMasks ws) one-cut one-back last (omega arith) place (first ∷ []) stretch bs
 
 -- ---- the list found, by the three tests
 module _ (ws text : List ℕ) where
@@ -162,23 +173,34 @@ module _ (ws text : List ℕ) where
       sym (ap (found (shaped ws) (leb (stateWord ws) 64)) (le-false (length text) 65535 h)
       ∙ ap (λ (b : Bool). cond b (found true true true) []) (and-false (shaped ws && leb (stateWord ws) 64)))
 
--- ---- the choice of a loop: each runs as the image's masks do, with the depth and the presence of chains as literals or not
-pub chosen : {ws stretch : List ℕ} {from : From} {last d : ℕ} {any : Bool} {table : List ℕ} → Chosen ws stretch from last d any table → ((i : ℕ) → getD ws i 0 < 2 ^ 64) → Bytes stretch
-    → (flag : Bool) → NoChain table d flag → (n : ℕ) → d ≡ n → (r : Ran) {before after : List ℕ}
-    → RanFrom (tableMasks ws flag (getD table 6 0) (getD table 7 0) (getD table 8 0) table) n last stretch from before r after
-    → RanFrom (oneMasks ws) d last stretch from before r after
-chosen {ws} {d = d} {table = table} C fit B flag N n e r = one-over ws table d flag (C .deep) (C .entered) N fit n e (C .overs .few) B
+-- ---- the choice of a loop: each runs as the image's masks do, with the depth and the presence of chains as literals or not, with the back edges' masks
+-- or, where there is none, without
+pub chosen : {ws stretch : List ℕ} {from : From} {last d : ℕ} {any : Bool} {table backs : List ℕ} → Chosen ws stretch from last d any table backs → ((i : ℕ) → getD ws i 0 < 2 ^ 64)
+    → Bytes stretch → (flag : Bool) → NoChain table d flag → (edges : List ℕ) → Backs ws d edges → (n : ℕ) → d ≡ n → (r : Ran) {before after : List ℕ}
+    → RanFrom (workMasks ws flag table edges) n last stretch from before r after → RanFrom (oneMasks ws) d last stretch from before r after
+chosen {ws} {d = d} {table = table} C fit bs flag N edges B n e r = one-over ws table edges d flag (C .deep) (C .entered) N B fit n e (C .overs .few) bs
 
--- words with a shape of one word to a mask are 524 and nine for each depth
-pub one-long : (ws : List ℕ) → Shape ws → stateWord ws ≤ 64 → length ws ≡ 524 + 9 * depthWord ws
+pub no-back : {ws stretch : List ℕ} {from : From} {last d : ℕ} {any : Bool} {table backs : List ℕ} → Chosen ws stretch from last d any table backs
+    → ((i : ℕ) → i < 2 * d → getD backs i 0 ≡ 0) → Chosen ws stretch from last d any table []
+no-back C z = record {
+  overs = C .overs;
+  shallow = C .shallow;
+  deep = C .deep;
+  entered = C .entered;
+  none = C .none;
+  edges = λ i h. sym (z i h) ∙ C .edges i h;
+}
+
+-- words with a shape of one word to a mask are 525 and eleven for each depth
+pub one-long : (ws : List ℕ) → Shape ws → stateWord ws ≤ 64 → length ws ≡ 525 + 11 * depthWord ws
 one-long ws S h =
     let e : width (stateWord ws) ≡ 1 = omega (arith, S .some-states) in
-    S .long ∙ ap (λ (w : ℕ). 9 + w * (515 + 9 * depthWord ws)) e ∙ (let q : 9 + 1 * (515 + 9 * depthWord ws) ≡ 524 + 9 * depthWord ws = omega arith in q)
+    S .long ∙ ap (λ (w : ℕ). 10 + w * (515 + 11 * depthWord ws)) e ∙ (let q : 10 + 1 * (515 + 11 * depthWord ws) ≡ 525 + 11 * depthWord ws = omega arith in q)
 
 -- words with a shape of at most 64 states, with what code has read of it and the table that it has made, have what the choice of a loop asks
-pub may-choose : {ws : List ℕ} → shaped ws ≡ true → stateWord ws ≤ 64 → {d count : ℕ} → d ≡ depthWord ws → count ≡ stateWord ws → {any : Bool} {table : List ℕ} → Entered ws d table
-    → NoChain table d any → (from : From) {stretch : List ℕ} → Limits (from .place) (from .found) stretch → Chosen ws stretch from (count - 1) d any table
-may-choose {ws} e h ed em E N from L =
+pub may-choose : {ws : List ℕ} → shaped ws ≡ true → stateWord ws ≤ 64 → {d count : ℕ} → d ≡ depthWord ws → count ≡ stateWord ws → {any : Bool} {table backs : List ℕ} → Entered ws d table
+    → NoChain table d any → Backs ws d backs → (from : From) {stretch : List ℕ} → Limits (from .place) (from .found) stretch → Chosen ws stretch from (count - 1) d any table backs
+may-choose {ws} e h ed em E N B from L =
     let S = shape-of ws e in
     record {
       overs = record { long = omega (arith, one-long ws S h); limits = L; few = omega (arith, em, h, S .some-states) };
@@ -186,4 +208,5 @@ may-choose {ws} e h ed em E N from L =
       deep = ed;
       entered = E;
       none = N;
+      edges = B;
     }

@@ -83,9 +83,9 @@ advance-one letters repeats live =
     ap (λ (x : ℕ). bitOr (bitOr (bitAnd x letters) (bitAnd live repeats)) 1 ∷ []) e
 
 -- ---- one turn of the loops over the depths, with the nine words of depth k
-module _ (ws : List ℕ) (any : Bool) (block below target : ℕ) (table : List ℕ) where
+module _ (ws : List ℕ) (any : Bool) (block below target : ℕ) (table backs : List ℕ) where
   abbrev M : Masks
-  M = tableMasks ws any block below target table
+  M = tableMasks ws any block below target table backs
 
   abbrev alongAt : ℕ → List ℕ → List ℕ
   alongAt k live = propagateWords (cond any (getD table (9 * k + 6) 0) 0 ∷ []) (wrapAdd (getD table (9 * k + 7) 0) 1 ∷ []) (wordAt table (9 * k + 8)) live
@@ -122,5 +122,5 @@ module _ (ws : List ℕ) (any : Bool) (block below target : ℕ) (table : List �
 -- ---- up, along depth 0's own chains and down: a pass
 pub up-and-down : (any : Bool) (block below target : ℕ) (table : List ℕ) (d live : ℕ) {level r : ℕ} (up : ℕ) → Risen any table d live up
     → level ∷ [] ≡ propagateWords (cond any block 0 ∷ []) (wrapAdd below 1 ∷ []) (target ∷ []) (up ∷ []) → Fallen any table d level r → Passed any block below target table d live r
-up-and-down any block below target table d live up R A F ws =
-    F ws block below target ∙ ap (fallWords (tableMasks ws any block below target table) d 0) (A ∙ R ws block below target)
+up-and-down any block below target table d live up R A F ws backs =
+    F ws backs block below target ∙ ap (fallWords (tableMasks ws any block below target table backs) d 0) (A ∙ R ws backs block below target)

@@ -7,7 +7,7 @@ use native.Mathlib.Nat.{mul-add, mul-assoc, mul-le-mul, mul-left-comm}
 use native.Mathlib.Omega.{arith}
 use lib.Dec.{T, eqb, eqb-refl, eqb→eq, leb, leb→le, le→leb}
 use lib.ListN.{length}
-use Rattle.model.specs.Models.Apart.{depthWord, gatherAt, propagateAt, scatterAt, stateWord}
+use Rattle.model.specs.Models.Apart.{backAt, depthWord, gatherAt, propagateAt, scatterAt, stateWord}
 use Rattle.model.proofs.Laws.Bool.{and-both, and-split, is-not, is-true, le-true}
 use Rattle.word.specs.Shape.{shaped, shapeLength, widthOf}
 
@@ -61,18 +61,21 @@ module _ (ws : List ℕ) where
       ∙ ap (λ (b : Bool). b && longEnough) (le-true d 8 l))
 
 -- ---- the sections
-pub length-small : (W d : ℕ) → W ≤ 8 → d ≤ 8 → shapeLength W d ≤ 4705
-length-small W d h l = let k : 515 + 9 * d ≤ 587 = omega arith in omega (arith, mul-le-mul h k)
+pub length-small : (W d : ℕ) → W ≤ 8 → d ≤ 8 → shapeLength W d ≤ 4834
+length-small W d h l = let k : 515 + 11 * d ≤ 603 = omega arith in omega (arith, mul-le-mul h k)
 
 three-times : (W n : ℕ) → W * (3 * n) ≡ 3 * (W * n)
 three-times W n = mul-left-comm W 3 n
 
--- the last two begin where code looks for them
+-- the last three begin where code looks for them
 pub gather-place : (W d : ℕ) → 8 + 512 * W + 3 * (W * d) ≡ gatherAt W d
 gather-place W d = omega (arith, mul-assoc 3 W d)
 
 pub propagate-place : (W d : ℕ) → 9 + 512 * W + 6 * (W * d) ≡ propagateAt W d
 propagate-place W d = omega (arith, mul-assoc 3 W d)
+
+pub back-place : (W d : ℕ) → 10 + 515 * W + 9 * (W * d) ≡ backAt W d
+back-place W d = omega (arith, mul-assoc 3 W d)
 
 -- what W words to a mask and depth d ask of n words
 pub record Sections (W d n : ℕ) : Type 0 where
@@ -83,6 +86,7 @@ pub record Sections (W d n : ℕ) : Type 0 where
   pub scatters : scatterAt W + W * (3 * d) ≤ n
   pub gathers : gatherAt W d + W * (3 * d) ≤ n
   pub propagates : propagateAt W d + W * (3 * (d + 1)) ≤ n
+  pub backs : backAt W d + W * (2 * d) ≤ n
 
 sections : (W d n : ℕ) → W ≤ 8 → d ≤ 8 → n ≡ shapeLength W d → Sections W d n
 sections W d n h k e = record {
@@ -93,11 +97,12 @@ sections W d n h k e = record {
   scatters = omega (arith, words, three-times W d);
   gathers = omega (arith, words, three-times W d, mul-assoc 3 W d);
   propagates = omega (arith, words, three-times W (d + 1), mul-add W d 1, mul-assoc 3 W d);
+  backs = omega (arith, words, mul-left-comm W 2 d, mul-assoc 3 W d, three-times W (d + 1), mul-add W d 1);
 }
   where
     -- with W * d as one number
-    words : n ≡ 9 + 515 * W + 9 * (W * d)
-    words = omega (arith, e, mul-add W 515 (9 * d), mul-left-comm W 9 d)
+    words : n ≡ 10 + 515 * W + 11 * (W * d)
+    words = omega (arith, e, mul-add W 515 (11 * d), mul-left-comm W 11 d)
 
 -- for the width and the depth as code has read them
 pub sections-of : (ws : List ℕ) → shaped ws ≡ true → {w d : ℕ} → w ≡ widthOf ws → d ≡ depthWord ws → Sections w d (length ws)

@@ -9,7 +9,7 @@ use native.Mathlib.Omega.{arith}
 use lib.ListN.{drop, drop-of-length-le, getD, length, length-append, take}
 use lib.Seq.{drop-cons, length-sets, sets}
 use Rattle.model.specs.Bits.{bit}
-use Rattle.model.specs.Models.Run.{endsAfter, endsWith, Masks, noted, passWords, runFrom, stepWords}
+use Rattle.model.specs.Models.Run.{closeWords, endsAfter, endsWith, Masks, noted, runFrom, stepWords}
 use Rattle.model.specs.Models.Words.{value}
 use Rattle.model.proofs.Laws.Stores.{sets-append}
 use Rattle.word.specs.Ends.{RanOver, Written}
@@ -103,7 +103,7 @@ module _ (M : Masks) (d last place : ℕ) (stretch : List ℕ) where
       }
 
 -- ---- A BEGINNING AND ONE STRETCH: place 0 noted, and then the places after it
-pub begun : (M : Masks) (W d last : ℕ) (text live before : List ℕ) → live ≡ passWords M d (M .startMask) → (hit : Bool) → hit ≡ bit (value live) last → {count total : ℕ} {places words after : List ℕ}
+pub begun : (M : Masks) (W d last : ℕ) (text live before : List ℕ) → live ≡ closeWords M d (M .startMask) → (hit : Bool) → hit ≡ bit (value live) last → {count total : ℕ} {places words after : List ℕ}
     → count ≡ (0 + length (noted hit 0)) % 2 ^ 64 → places ≡ sets before 0 (noted hit 0) → RanOver M W d last 0 count text live places words total after
     → Written (endsWith M d last text) before total after
 begun M W d last text live before e hit looked {count} {total} {places} {words} {after} counts writes G = record {

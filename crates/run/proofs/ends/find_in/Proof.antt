@@ -7,7 +7,7 @@ use Rattle.mask.proofs.Laws.Bits.{fit-row}
 use Rattle.word.specs.Ends.{Written}
 use Rattle.word.proofs.Laws.Bytes.{all-bytes}
 use Rattle.word.proofs.Laws.Shape.{sections-of, shape-of}
-use Rattle.run.proofs.Laws.Table.{entered-of, work-ends}
+use Rattle.run.proofs.Laws.Table.{tabled-of, work-ends}
 use borrow.Author.Needs.{needs}
 use Rattle.run.proofs.ends.find_in.Statement.{statement}
 use Rattle.run.proofs.ends.find_in.Tie as tie
@@ -58,7 +58,7 @@ returns c =
     let ws = a .image .now in
     subst (λ (ends : List ℕ). Written ends (a .places .now) (r .scan .result) (r .scan .last .1 .1 .0))
     (work-ends ws (fit-row ws (w .before .before .before .shared-slice-known .given)) (shape-of ws (s .pre .0)) (t .table .result)
-    (entered-of ws (t .table .result) (w .width .ensures) (d .depth .ensures) (t .table .ensures)) (w .width .ensures) (d .depth .ensures) (m .states .ensures) (a .text .now)
+    (tabled-of ws (t .table .result) (w .width .ensures) (d .depth .ensures) (t .table .ensures)) (w .width .ensures) (d .depth .ensures) (m .states .ensures) (a .text .now)
     (all-bytes (a .text .now) (λ i. omega (arith, w .before .before .shared-slice-known2 .given i))))
     (r .scan .ensures)
 

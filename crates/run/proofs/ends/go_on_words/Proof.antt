@@ -4,7 +4,7 @@ use Rattle.mask.proofs.Laws.Bits.{fit-row}
 use Rattle.word.proofs.Laws.Bytes.{all-bytes}
 use Rattle.word.proofs.Laws.Shape.{sections-of, shape-of}
 use Rattle.run.proofs.Image.Stretch.{went}
-use Rattle.run.proofs.Laws.Table.{entered-of}
+use Rattle.run.proofs.Laws.Table.{tabled-of}
 use borrow.Author.Needs.{needs}
 use Rattle.run.proofs.ends.go_on_words.Statement.{statement}
 use Rattle.run.proofs.ends.go_on_words.Tie as tie
@@ -63,7 +63,7 @@ returns c t I M =
     let a = s .args in
     let ws = a .image .now in
     went ws t I (fit-row ws (w .before .before .before .before .shared-slice-known .given)) (b .table .result)
-    (entered-of ws (b .table .result) (w .width .ensures) (d .depth .ensures) (b .table .ensures)) (w .width .ensures) (d .depth .ensures) (m .states .ensures) (a .mask .now)
+    (tabled-of ws (b .table .result) (w .width .ensures) (d .depth .ensures) (b .table .ensures)) (w .width .ensures) (d .depth .ensures) (m .states .ensures) (a .mask .now)
     (fit-row (a .mask .now) (w .before .before .before .shared-slice-known2 .given)) M (a .place) (a .stretch .now)
     (all-bytes (a .stretch .now) (λ i. omega (arith, w .before .before .shared-slice-known3 .given i))) (f .row-at .result) (a .places .now) (r .run-over .result .words) (r .run-over .result .total)
     (r .run-over .last .1 .1 .0) (f .row-at .ensures) (r .run-over .ensures)

@@ -4,13 +4,11 @@ use mathlib.Core.List.{List, []}
 use Prim.Native.Nat.{ℕ}
 use native.Mathlib.Omega.{arith}
 use lib.ListN.{length, take}
-use Rattle.model.specs.Models.Run.{passWords}
+use Rattle.model.specs.Models.Run.{closeWords}
 use Rattle.word.proofs.Laws.Cut.{take-bit}
-use Rattle.word.proofs.Laws.Stretch.{begun}
-use Rattle.word.proofs.Laws.Stretch.{noted-few}
-use Rattle.run.specs.Work.{ruleMasks, workMasks}
-use Rattle.run.proofs.Laws.Passes.{pass-letters}
-use Rattle.run.proofs.Laws.Widths.{pass-fewer}
+use Rattle.word.proofs.Laws.Stretch.{begun, noted-few}
+use Rattle.run.specs.Work.{ruleMasks}
+use Rattle.run.proofs.Laws.Rounds.{close-letters}
 use borrow.Author.Needs.{needs}
 use Rattle.run.proofs.ends.scan.Statement.{statement}
 use Rattle.run.proofs.ends.scan.Tie as tie
@@ -18,8 +16,8 @@ use Rattle.run.proofs.ends.scan.Tie as tie
 start-requires : tie.Need-start-requires
 start-requires c κs = search needs
 
-pass-requires : tie.Need-pass-requires
-pass-requires c κs = c .before .before .before .before .pre .steps .shallow
+close-requires : tie.Need-close-requires
+close-requires c κs = c .before .before .before .before .pre .steps .shallow
 
 slice-aggregate-is-live : tie.Need-slice-aggregate-is-live
 slice-aggregate-is-live c = search needs
@@ -27,7 +25,7 @@ slice-aggregate-is-live c = search needs
 is-live-requires : tie.Need-is-live-requires
 is-live-requires c κs =
     let s = c .before .before .before .before .before .before .before .before in
-    let eight : length (c .before .before .before .pass .result .words) ≡ 8 = search needs in
+    let eight : length (c .before .before .before .close .result .words) ≡ 8 = search needs in
     omega (arith, eight, s .pre .within, s .pre .steps .narrow)
 
 note-requires : tie.Need-note-requires
@@ -51,7 +49,7 @@ returns c =
     let g = c .before .before in
     let n = g .before .before .before .before in
     let h = n .before in
-    let q = h .before .before .before .before .pass in
+    let q = h .before .before .before .before .close in
     let f = h .before .before .before .before .before .start in
     let s = h .before .before .before .before .before .before .before .before .before in
     let a = s .args in
@@ -60,9 +58,8 @@ returns c =
     let table = a .table .now in
     let M = ruleMasks ws w table in
     let live = take w (q .result .words) in
-    let first : live ≡ passWords M (a .depth) (M .startMask) =
-    pass-fewer w 8 (a .depth) (workMasks [] 0 table) (s .pre .steps .narrow) (f .result .words) (q .result .words) (q .ensures)
-    ∙ pass-letters w [] ws 0 w table (a .depth) (take w (f .result .words)) ∙ ap (λ (x : List ℕ). passWords M (a .depth) (take w x)) (f .ensures) in
+    let first : live ≡ closeWords M (a .depth) (M .startMask) =
+    q .ensures ∙ close-letters w [] ws 0 w table (a .depth) (take w (f .result .words)) ∙ ap (λ (x : List ℕ). closeWords M (a .depth) (take w x)) (f .ensures) in
     begun M w (a .depth) (a .last) (a .text .now) live (a .places .now) first (h .is-live .result)
     (h .is-live .ensures ∙ take-bit w (q .result .words) (a .last) (s .pre .within)) (n .note .ensures .0) (n .note .ensures .1) (g .run-over .ensures)
 
@@ -71,7 +68,7 @@ scan-spec =
     tie.close
     (tie.spec
     start-requires
-    pass-requires
+    close-requires
     slice-aggregate-is-live
     is-live-requires
     note-requires

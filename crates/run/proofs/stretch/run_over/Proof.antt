@@ -12,22 +12,25 @@ use Rattle.run.proofs.stretch.run_over.Statement.{statement}
 use Rattle.run.proofs.stretch.run_over.Tie as tie
 
 abbrev Inv-loop2 : tie.InvT-loop2
-Inv-loop2 image stretch places₀ place found width depth last table live₀ total₀ p₀ stop places live total p =
+Inv-loop2 image stretch places₀ place found width depth last table cyclic live₀ total₀ p₀ stop places live total p =
     Since (ruleMasks image width table) depth last place stretch places₀ (take width live₀) total₀ p₀ places (take width live) total p
 
 abbrev μ-loop2 : tie.MeasureT-loop2
-μ-loop2 image stretch places₀ place found width depth last table live₀ total₀ p₀ stop places live total p = stop - p
+μ-loop2 image stretch places₀ place found width depth last table cyclic live₀ total₀ p₀ stop places live total p = stop - p
 
 abbrev Inv-loop : tie.InvT-loop
-Inv-loop image stretch places₀ place found width depth last table live₀ total₀ p₀ places live total p =
+Inv-loop image stretch places₀ place found width depth last table cyclic live₀ total₀ p₀ places live total p =
     Since (ruleMasks image width table) depth last place stretch places₀ (take width live₀) total₀ p₀ places (take width live) total p
 
 abbrev μ-loop : tie.MeasureT-loop
-μ-loop image stretch places₀ place found width depth last table live₀ total₀ p₀ places live total p = length stretch - p
+μ-loop image stretch places₀ place found width depth last table cyclic live₀ total₀ p₀ places live total p = length stretch - p
+
+any-back-requires : tie.Need-any-back-requires Inv-loop2 μ-loop2 Inv-loop μ-loop
+any-back-requires c κs = c .before .before .before .pre .steps .shallow
 
 loop-holds : tie.Need-loop-holds Inv-loop2 μ-loop2 Inv-loop μ-loop
 loop-holds c =
-    let s = c .before .before .before in
+    let s = c .before .before .before .before in
     let a = s .args in
     since-now (ruleMasks (a .image .now) (a .width) (a .table .now)) (a .depth) (a .last) (a .place) (a .stretch .now) (a .places .now) (take (a .width) (a .first)) (a .found) 0 (omega arith) (omega (arith, s .pre .limits .few))
 
@@ -36,7 +39,7 @@ portion-requires c κs = c .before .loop .inv .within
 
 loop2-holds : tie.Need-loop2-holds Inv-loop2 μ-loop2 Inv-loop μ-loop
 loop2-holds c =
-    let a = c .before .before .before .before .before .before .args in
+    let a = c .before .before .before .before .before .before .before .args in
     let l = c .before .before .loop in
     since-now (ruleMasks (a .image .now) (a .width) (a .table .now)) (a .depth) (a .last) (a .place) (a .stretch .now) (l .places) (take (a .width) (l .live)) (l .total) (l .p) (l .inv .within) (l .inv .few)
 
@@ -47,31 +50,31 @@ loop-less c =
 
 loop-again : tie.Need-loop-again Inv-loop2 μ-loop2 Inv-loop μ-loop
 loop-again c =
-    let a = c .before .before .before .before .before .before .before .before .args in
+    let a = c .before .before .before .before .before .before .before .before .before .args in
     since-then (ruleMasks (a .image .now) (a .width) (a .table .now)) (a .depth) (a .last) (a .place) (a .stretch .now) (c .before .before .before .before .loop .inv) (c .before .loop2 .inv)
 
-shared-slice-read-step-by : tie.Need-shared-slice-read-step-by Inv-loop2 μ-loop2 Inv-loop μ-loop
-shared-slice-read-step-by c = omega (arith, c .before .before .loop2-test .taken, c .before .before .before .before .portion .ensures .1)
+shared-slice-read-step-on : tie.Need-shared-slice-read-step-on Inv-loop2 μ-loop2 Inv-loop μ-loop
+shared-slice-read-step-on c = omega (arith, c .before .before .loop2-test .taken, c .before .before .before .before .portion .ensures .1)
 
-step-by-requires : tie.Need-step-by-requires Inv-loop2 μ-loop2 Inv-loop μ-loop
-step-by-requires c κs = c .before .before .before .before .before .before .before .before .before .before .pre .steps
+step-on-requires : tie.Need-step-on-requires Inv-loop2 μ-loop2 Inv-loop μ-loop
+step-on-requires c κs = let b = c .before .before .before .before .before .before .before in (b .before .before .before .before .pre .steps, b .any-back .ensures)
 
 add-p : tie.Need-add-p Inv-loop2 μ-loop2 Inv-loop μ-loop
-add-p c = omega (arith, c .before .before .before .loop2-test .taken, c .before .before .before .before .before .portion .ensures .1, c .before .before .before .before .before .before .before .before .before .before .before .pre .limits .small)
+add-p c = omega (arith, c .before .before .before .loop2-test .taken, c .before .before .before .before .before .portion .ensures .1, c .before .before .before .before .before .before .before .before .before .before .before .before .pre .limits .small)
 
 add-note : tie.Need-add-note Inv-loop2 μ-loop2 Inv-loop μ-loop
-add-note c = omega (arith, c .before .before .before .before .loop2-test .taken, c .before .before .before .before .before .before .portion .ensures .1, c .before .before .before .before .before .before .before .before .before .before .before .before .pre .limits .near)
+add-note c = omega (arith, c .before .before .before .before .loop2-test .taken, c .before .before .before .before .before .before .portion .ensures .1, c .before .before .before .before .before .before .before .before .before .before .before .before .before .pre .limits .near)
 
 cast-note : tie.Need-cast-note Inv-loop2 μ-loop2 Inv-loop μ-loop
-cast-note c = omega (arith, c .before .before .before .before .loop2-test .taken, c .before .before .before .before .before .before .portion .ensures .1, c .before .before .before .before .before .before .before .before .before .before .before .before .pre .limits .near)
+cast-note c = omega (arith, c .before .before .before .before .loop2-test .taken, c .before .before .before .before .before .before .portion .ensures .1, c .before .before .before .before .before .before .before .before .before .before .before .before .before .pre .limits .near)
 
 slice-aggregate-is-live : tie.Need-slice-aggregate-is-live Inv-loop2 μ-loop2 Inv-loop μ-loop
-slice-aggregate-is-live c = sym (c .before .before .step-by .ensures .eight)
+slice-aggregate-is-live c = sym (c .before .before .step-on .ensures .eight)
 
 is-live-requires : tie.Need-is-live-requires Inv-loop2 μ-loop2 Inv-loop μ-loop
 is-live-requires c κs =
-    let s = c .before .before .before .before .before .before .before .before .before .before .before .before .before in
-    omega (arith, c .before .before .step-by .ensures .eight, s .pre .within, s .pre .steps .narrow)
+    let s = c .before .before .before .before .before .before .before .before .before .before .before .before .before .before in
+    omega (arith, c .before .before .step-on .ensures .eight, s .pre .within, s .pre .steps .narrow)
 
 note-requires : tie.Need-note-requires Inv-loop2 μ-loop2 Inv-loop μ-loop
 note-requires c κs = search needs
@@ -83,10 +86,10 @@ loop2-again : tie.Need-loop2-again Inv-loop2 μ-loop2 Inv-loop μ-loop
 loop2-again c =
     let n = c .before .before in
     let h = n .before in
-    let b = h .before .before .before .step-by in
+    let b = h .before .before .before .step-on in
     let t = h .before .before .before .before .before .before in
     let l = t .before .loop2 in
-    let s = t .before .before .before .before .before .before .before .before in
+    let s = t .before .before .before .before .before .before .before .before .before in
     let a = s .args in
     at-next (ruleMasks (a .image .now) (a .width) (a .table .now)) (a .depth) (a .last) (a .place) (a .stretch .now) (s .pre .limits .small) (take (a .width) (b .last .0)) (l .inv)
     (omega (arith, t .loop2-test .taken, t .before .before .portion .ensures .1)) (b .ensures .made) (h .is-live .result)
@@ -97,7 +100,7 @@ same-length c = c .before .loop .inv .long
 
 returns : tie.Need-returns Inv-loop2 μ-loop2 Inv-loop μ-loop
 returns c =
-    let a = c .before .before .before .before .before .args in
+    let a = c .before .before .before .before .before .before .args in
     let l = c .before .loop in
     at-end (ruleMasks (a .image .now) (a .width) (a .table .now)) (a .depth) (a .last) (a .place) (a .stretch .now) (a .width) (a .found) (a .places .now) (take (a .width) (a .first)) (l .live) (l .inv)
     (c .loop-test .left)
@@ -110,13 +113,14 @@ run-over-spec =
     μ-loop2
     Inv-loop
     μ-loop
+    any-back-requires
     loop-holds
     portion-requires
     loop2-holds
     loop-less
     loop-again
-    shared-slice-read-step-by
-    step-by-requires
+    shared-slice-read-step-on
+    step-on-requires
     add-p
     add-note
     cast-note

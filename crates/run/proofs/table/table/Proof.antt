@@ -1,17 +1,18 @@
--- `table`: the kinds put so far are there, and each turn puts one more (`kind-entered`).
+-- `table`: the kinds put so far are there, and each turn puts one more (`kind-entered`); then the back edges' masks (`tabled`).
 use mathlib.Core.Path.{_≡_, refl, _∙_}
 use mathlib.Core.List.{[]}
 use native.Mathlib.Omega.{arith}
 use Prim.Native.Nat.{ℕ, _+_, _-_, _*_, _<_}
 use lib.ListN.{getD, length}
 use Rattle.run.specs.Work.{kindRow}
+use Rattle.run.proofs.Laws.Backs.{tabled}
 use Rattle.run.proofs.Laws.Table.{kind-entered}
 use borrow.Author.Needs.{needs}
 use Rattle.run.proofs.table.table.Statement.{statement}
 use Rattle.run.proofs.table.table.Tie as tie
 
 abbrev Inv-loop : tie.InvT-loop
-Inv-loop image width depth r₀ j₀ r j = (length r ≡ 81) × ((k i : ℕ) → k < 9 → i < j → getD r (9 * k + i) [] ≡ kindRow image width depth i k)
+Inv-loop image width depth r₀ j₀ r j = (length r ≡ 97) × ((k i : ℕ) → k < 9 → i < j → getD r (9 * k + i) [] ≡ kindRow image width depth i k)
 
 abbrev μ-loop : tie.MeasureT-loop
 μ-loop image width depth r₀ j₀ r j = 9 - j
@@ -39,8 +40,13 @@ loop-again c =
     let p = c .put-kind .ensures in
     (p .long ∙ l .inv .0, kind-entered (kindRow (a .image .now) (a .width) (a .depth)) (l .inv .1) (t .loop-test .taken) p (c .before .before .kind .ensures))
 
+put-backs-requires : tie.Need-put-backs-requires Inv-loop μ-loop
+put-backs-requires c κs = (c .before .before .before .before .pre, c .before .before .loop .inv .0)
+
 returns : tie.Need-returns Inv-loop μ-loop
-returns c = λ k j h l. c .before .loop .inv .1 k j h (omega (arith, c .loop-test .left))
+returns c =
+    let t = c .before .before in
+    tabled (λ k j h l. t .before .loop .inv .1 k j h (omega (arith, t .loop-test .left))) (c .put-backs .ensures)
 
 pub table-spec : {M : Type 1} → statement M
 table-spec =
@@ -54,4 +60,5 @@ table-spec =
     add-j
     loop-less
     loop-again
+    put-backs-requires
     returns)

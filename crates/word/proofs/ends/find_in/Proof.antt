@@ -34,24 +34,22 @@ any-chain-requires c κs =
     let s = d .before .before .before .before in
     omega (arith, d .depth .ensures, shape-of (s .args .image .now) (s .pre .0) .shallow)
 
-array-read-first : tie.Need-array-read-first
-array-read-first c = search needs
+backs-requires : tie.Need-backs-requires
+backs-requires c κs =
+    let d = c .before .before .before .before in
+    let s = d .before .before .before .before in
+    let S = shape-of (s .args .image .now) (s .pre .0) in
+    (omega (arith, d .depth .ensures, one-long (s .args .image .now) S (s .pre .1)), omega (arith, d .depth .ensures, S .shallow))
 
-array-read-first-2 : tie.Need-array-read-first-2
-array-read-first-2 c = search needs
-
-array-read-first-3 : tie.Need-array-read-first-3
-array-read-first-3 c = search needs
-
-first-requires : tie.Need-first-requires
-first-requires c κs =
-    let d = c .before .before .before .before .before in
+close-requires : tie.Need-close-requires
+close-requires c κs =
+    let d = c .before .before .before .before .before .before .before in
     let s = d .before .before .before .before in
     omega (arith, d .depth .ensures, shape-of (s .args .image .now) (s .pre .0) .shallow)
 
 is-live-requires : tie.Need-is-live-requires
 is-live-requires c κs =
-    let m = c .before .before .before .before .before .before in
+    let m = c .before .before .before .before .before .before .before .before in
     let s = m .before .before .before .before .before in
     omega (arith, m .states .ensures, s .pre .1, shape-of (s .args .image .now) (s .pre .0) .some-states)
 
@@ -60,14 +58,16 @@ note-requires c κs = search needs
 
 run-over-requires : tie.Need-run-over-requires
 run-over-requires c κs =
-    let n = c .before .before .before .before in
-    let y = n .before .before .before .before .before in
+    let n = c .before .before .before .before .before in
+    let q = n .before .before .before in
+    let e = q .before .before .before in
+    let y = e .before in
     let b = y .before .before in
     let m = b .before in
     let d = m .before in
     let s = d .before .before .before .before in
-    may-choose (s .pre .0) (s .pre .1) (d .depth .ensures) (m .states .ensures) (b .table .ensures) (y .any-chain .ensures)
-    (record { live = n .before .before .before .first .result; place = 0; found = n .note .result })
+    may-choose (s .pre .0) (s .pre .1) (d .depth .ensures) (m .states .ensures) (b .table .ensures) (y .any-chain .ensures) (e .backs .ensures)
+    (record { live = q .close .result; place = 0; found = n .note .result })
     (record { small = s .pre .2; near = omega (arith, s .pre .2); few = omega (arith, n .note .ensures .0, noted-few (n .before .is-live .result) 0) })
 
 same-length : tie.Need-same-length
@@ -76,10 +76,11 @@ same-length c = search needs
 returns : tie.Need-returns
 returns c =
     let r = c .before .before .run-over in
-    let n = c .before .before .before .before .before .before .before in
+    let n = c .before .before .before .before .before .before .before .before in
     let h = n .before in
     let q = h .before .before in
-    let y = q .before .before in
+    let e = q .before .before .before in
+    let y = e .before in
     let b = y .before .before in
     let m = b .before in
     let d = m .before in
@@ -89,9 +90,9 @@ returns c =
     let deep = d .depth .result in
     subst (λ (ps : List ℕ). Written ps (a .places .now) (r .result .total) (r .last .1 .1 .0))
     (ap₂ (λ (i k : ℕ). endsWith (oneMasks ws) i (k - 1) (a .text .now)) (d .depth .ensures) (m .states .ensures))
-    (begun (oneMasks ws) 1 deep (m .states .result - 1) (a .text .now) (q .first .result ∷ []) (a .places .now)
-    (one-first ws (b .table .result) deep (y .any-chain .result) (d .depth .ensures) (b .table .ensures) (y .any-chain .ensures) (λ i. d .before .before .before .shared-slice-known .given i .fits)
-    (q .first .ensures ws)) (h .is-live .result) (h .is-live .ensures) (n .note .ensures .0) (n .note .ensures .1) (r .ensures))
+    (begun (oneMasks ws) 1 deep (m .states .result - 1) (a .text .now) (q .close .result ∷ []) (a .places .now)
+    (one-first ws (b .table .result) (e .backs .result) deep (y .any-chain .result) (d .depth .ensures) (b .table .ensures) (y .any-chain .ensures) (e .backs .ensures)
+    (λ i. d .before .before .before .shared-slice-known .given i .fits) (q .close .ensures ws)) (h .is-live .result) (h .is-live .ensures) (n .note .ensures .0) (n .note .ensures .1) (r .ensures))
 
 pub find-in-spec : {M : Type 1} → statement M
 find-in-spec =
@@ -102,10 +103,8 @@ find-in-spec =
     sub-last
     table-requires
     any-chain-requires
-    array-read-first
-    array-read-first-2
-    array-read-first-3
-    first-requires
+    backs-requires
+    close-requires
     is-live-requires
     note-requires
     run-over-requires

@@ -33,14 +33,22 @@ any-chain-requires c κs =
     let s = d .before .before .before .before in
     omega (arith, d .depth .ensures, shape-of (s .args .image .now) (s .pre .0) .shallow)
 
+backs-requires : tie.Need-backs-requires
+backs-requires c κs =
+    let d = c .before .before .before .before in
+    let s = d .before .before .before .before in
+    let S = shape-of (s .args .image .now) (s .pre .0) in
+    (omega (arith, d .depth .ensures, one-long (s .args .image .now) S (s .pre .1)), omega (arith, d .depth .ensures, S .shallow))
+
 run-over-requires : tie.Need-run-over-requires
 run-over-requires c κs =
-    let y = c .before .before in
+    let e = c .before .before .before in
+    let y = e .before in
     let b = y .before .before in
     let m = b .before in
     let d = m .before in
     let s = d .before .before .before .before in
-    may-choose (s .pre .0) (s .pre .1) (d .depth .ensures) (m .states .ensures) (b .table .ensures) (y .any-chain .ensures)
+    may-choose (s .pre .0) (s .pre .1) (d .depth .ensures) (m .states .ensures) (b .table .ensures) (y .any-chain .ensures) (e .backs .ensures)
     (record { live = s .args .live; place = s .args .place; found = 0 }) (s .pre .2)
 
 same-length : tie.Need-same-length
@@ -49,7 +57,7 @@ same-length c = search needs
 returns : tie.Need-returns
 returns c =
     let r = c .before .before .run-over in
-    let m = c .before .before .before .before .before .before .before .before in
+    let m = c .before .before .before .before .before .before .before .before .before .before in
     let d = m .before in
     let a = d .before .before .before .before .args in
     let Ran : ℕ → ℕ → Type 0 = λ i k. RanOver (oneMasks (a .image .now)) 1 i (k - 1) (a .place) 0 (a .stretch .now) (a .live ∷ []) (a .places .now) (r .result .live ∷ []) (r .result .total) (r .last .1 .1 .0) in
@@ -64,6 +72,7 @@ go-on-spec =
     sub-last
     table-requires
     any-chain-requires
+    backs-requires
     run-over-requires
     same-length
     returns)

@@ -12,7 +12,7 @@ use Rattle.word.proofs.steps.fall.Tie as tie
 
 abbrev Inv-loop : tie.InvT-loop
 Inv-loop live depth any table r₀ k₀ r k =
-    (k ≤ depth) × ((ws : List ℕ) (b s t : ℕ) → fallWords (tableMasks ws any b s t table) (depth - k) k (r ∷ []) ≡ fallWords (tableMasks ws any b s t table) depth 0 (live ∷ []))
+    (k ≤ depth) × ((ws backs : List ℕ) (b s t : ℕ) → fallWords (tableMasks ws any b s t table backs) (depth - k) k (r ∷ []) ≡ fallWords (tableMasks ws any b s t table backs) depth 0 (live ∷ []))
 
 abbrev μ-loop : tie.MeasureT-loop
 μ-loop live depth any table r₀ k₀ r k = depth - k
@@ -21,7 +21,7 @@ loop-holds : tie.Need-loop-holds Inv-loop μ-loop
 loop-holds c =
     let a = c .args in
     let e : a .depth - 0 ≡ a .depth = omega arith in
-    (omega arith, λ ws b s t. ap (λ (n : ℕ). fallWords (tableMasks ws (a .any) b s t (a .table .now)) n 0 (a .live ∷ [])) e)
+    (omega arith, λ ws backs b s t. ap (λ (n : ℕ). fallWords (tableMasks ws (a .any) b s t (a .table .now) backs) n 0 (a .live ∷ [])) e)
 
 add-scatter-at : tie.Need-add-scatter-at Inv-loop μ-loop
 add-scatter-at c = search needs
@@ -46,16 +46,16 @@ loop-again c =
     let l = c .before .before .before .loop in
     let a = c .before .before .before .before .args in (
       omega arith,
-      λ ws b s t. fall-again ws (a .any) b s t (a .table .now) (a .depth) (l .k) (a .live) (l .r) (c .before .before .loop-test .taken) (l .inv .1 ws b s t)
+      λ ws backs b s t. fall-again ws (a .any) b s t (a .table .now) backs (a .depth) (l .k) (a .live) (l .r) (c .before .before .loop-test .taken) (l .inv .1 ws backs b s t)
           (c .before .scatter-at .ensures) (c .along-at .ensures),
     )
 
 returns : tie.Need-returns Inv-loop μ-loop
-returns c = λ ws b s t.
+returns c = λ ws backs b s t.
     let l = c .before .loop in
     let a = c .before .before .args in
     let e : 0 ≡ a .depth - l .k = omega arith in
-    ap (λ (n : ℕ). fallWords (tableMasks ws (a .any) b s t (a .table .now)) n (l .k) (l .r ∷ [])) e ∙ l .inv .1 ws b s t
+    ap (λ (n : ℕ). fallWords (tableMasks ws (a .any) b s t (a .table .now) backs) n (l .k) (l .r ∷ [])) e ∙ l .inv .1 ws backs b s t
 
 pub fall-spec : {M : Type 1} → statement M
 fall-spec =

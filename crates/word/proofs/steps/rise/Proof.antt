@@ -12,13 +12,13 @@ use Rattle.word.proofs.steps.rise.Tie as tie
 
 abbrev Inv-loop : tie.InvT-loop
 Inv-loop live depth any table r₀ k₀ r k =
-    (k ≤ depth) × ((ws : List ℕ) (b s t : ℕ) → riseWords (tableMasks ws any b s t table) k (r ∷ []) ≡ riseWords (tableMasks ws any b s t table) depth (live ∷ []))
+    (k ≤ depth) × ((ws backs : List ℕ) (b s t : ℕ) → riseWords (tableMasks ws any b s t table backs) k (r ∷ []) ≡ riseWords (tableMasks ws any b s t table backs) depth (live ∷ []))
 
 abbrev μ-loop : tie.MeasureT-loop
 μ-loop live depth any table r₀ k₀ r k = k
 
 loop-holds : tie.Need-loop-holds Inv-loop μ-loop
-loop-holds c = (omega arith, λ ws b s t. refl)
+loop-holds c = (omega arith, λ ws backs b s t. refl)
 
 along-at-requires : tie.Need-along-at-requires Inv-loop μ-loop
 along-at-requires c κs = search needs
@@ -37,16 +37,16 @@ loop-again c =
     let l = c .before .before .before .loop in
     let a = c .before .before .before .before .args in (
       omega arith,
-      λ ws b s t. rise-again ws (a .any) b s t (a .table .now) (a .depth) (l .k) (a .live) (l .r) (c .before .before .loop-test .taken) (l .inv .1 ws b s t)
+      λ ws backs b s t. rise-again ws (a .any) b s t (a .table .now) backs (a .depth) (l .k) (a .live) (l .r) (c .before .before .loop-test .taken) (l .inv .1 ws backs b s t)
           (c .before .along-at .ensures) (c .gather-at .ensures),
     )
 
 returns : tie.Need-returns Inv-loop μ-loop
-returns c = λ ws b s t.
+returns c = λ ws backs b s t.
     let l = c .before .loop in
     let a = c .before .before .args in
     let e : 0 ≡ l .k = omega arith in
-    ap (λ (k : ℕ). riseWords (tableMasks ws (a .any) b s t (a .table .now)) k (l .r ∷ [])) e ∙ l .inv .1 ws b s t
+    ap (λ (k : ℕ). riseWords (tableMasks ws (a .any) b s t (a .table .now) backs) k (l .r ∷ [])) e ∙ l .inv .1 ws backs b s t
 
 pub rise-spec : {M : Type 1} → statement M
 rise-spec =

@@ -4,8 +4,9 @@ use mathlib.Core.List.{[], _∷_}
 use Prim.Native.Nat.{_-_}
 use native.Mathlib.Omega.{arith}
 use lib.ListN.{length}
-use Rattle.model.specs.Models.Run.{passWords}
+use Rattle.model.specs.Models.Run.{closeWords}
 use Rattle.word.specs.One.{tableMasks}
+use Rattle.word.proofs.Laws.Rounds.{no-edges}
 use Rattle.word.proofs.Laws.Stretch.{at-end, at-next, Since, since-now}
 use borrow.Author.Needs.{needs}
 use Rattle.word.proofs.stretch.over.Statement.{statement}
@@ -13,7 +14,7 @@ use Rattle.word.proofs.stretch.over.Tie as tie
 
 abbrev Inv-loop : tie.InvT-loop
 Inv-loop image stretch ends₀ first place found last depth any block below target table live₀ total₀ p₀ ends live total p =
-    Since (tableMasks image any block below target table) depth last place stretch ends₀ (live₀ ∷ []) total₀ 0 ends (live ∷ []) total p
+    Since (tableMasks image any block below target table []) depth last place stretch ends₀ (live₀ ∷ []) total₀ 0 ends (live ∷ []) total p
 
 abbrev μ-loop : tie.MeasureT-loop
 μ-loop image stretch ends₀ first place found last depth any block below target table live₀ total₀ p₀ ends live total p = length stretch - p
@@ -57,8 +58,10 @@ loop-again c =
     let t = m .before .before in
     let s = t .before .before .before .before .before in
     let a = s .args in
+    let ws = a .image .now in
     at-next _ _ _ _ _ (s .pre .3 .small) (q .pass .result ∷ []) (t .before .loop .inv) (t .loop-test .taken)
-    (q .pass .ensures (a .image .now) ∙ ap (passWords (tableMasks (a .image .now) (a .any) (a .block) (a .below) (a .target) (a .table .now)) (a .depth)) (m .moved .ensures)) (h .is-live .result) (h .is-live .ensures)
+    (q .pass .ensures ws [] ∙ no-edges ws (a .any) (a .block) (a .below) (a .target) (a .table .now) (a .depth) (m .moved .result)
+    ∙ ap (closeWords (tableMasks ws (a .any) (a .block) (a .below) (a .target) (a .table .now) []) (a .depth)) (m .moved .ensures)) (h .is-live .result) (h .is-live .ensures)
     (n .note .ensures .0) (n .note .ensures .1)
 
 same-length : tie.Need-same-length Inv-loop μ-loop

@@ -10,13 +10,13 @@ use Rattle.model.specs.Bits.{bit}
 use Rattle.model.specs.Edges.{states}
 use Rattle.model.specs.Live.{Takes}
 use Rattle.model.specs.Models.Apart.{depthWord}
-use Rattle.model.specs.Models.Run.{moveWords, passWords}
+use Rattle.model.specs.Models.Run.{closeWords, moveWords}
 use Rattle.model.specs.Models.Words.{andWords, orWords, putBit, value}
 use Rattle.model.specs.Tree.{Tree}
 use Rattle.model.specs.Spelling.{Reaches}
 use Rattle.word.specs.Shape.{shaped, widthOf}
 use Rattle.run.specs.Says.{StatesAre}
-use Rattle.run.specs.Work.{Entered, masksOf, noWords, rowAt}
+use Rattle.run.specs.Work.{masksOf, noWords, rowAt, Tabled}
 
 -- each state back by one: the lowest bit of each word goes into the one before
 abbrev pub unshiftWords : List ℕ → List ℕ
@@ -25,11 +25,11 @@ unshiftWords (x ∷ xs) = (x / 2 + getD xs 0 0 % 2 * 2 ^ 63) ∷ unshiftWords xs
 
 -- the masks of work of words with a shape
 abbrev pub WorkOf : List ℕ → List (List ℕ) → Type 0
-WorkOf ws table = shaped ws ≡ true → Entered ws (widthOf ws) (depthWord ws) table
+WorkOf ws table = shaped ws ≡ true → Tabled ws (widthOf ws) (depthWord ws) table
 
 -- ---- as words; none where there is no shape
 abbrev pub reachWords : List ℕ → ℕ → List ℕ
-reachWords ws q = cond (shaped ws) (passWords (masksOf ws) (depthWord ws) (putBit noWords q)) noWords
+reachWords ws q = cond (shaped ws) (closeWords (masksOf ws) (depthWord ws) (putBit noWords q)) noWords
 
 abbrev pub lettersOf : List ℕ → ℕ → List ℕ
 lettersOf ws b = let W = widthOf ws in rowAt ws (5 + W * b) W

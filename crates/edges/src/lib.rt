@@ -5,9 +5,9 @@ use mask::bits::with_bit;
 use mask::logic::and;
 use mask::logic::or;
 use moves::advance;
+use run::rounds::close;
 use run::rows::row_at;
 use run::shape::width;
-use run::steps::pass;
 use run::table::Table;
 use run::table::table;
 use word::shape::depth;
@@ -34,7 +34,7 @@ fn unshift(a: [u64; 8]) -> [u64; 8]
     r
 }
 
-// The masks of work, made once for passes from many states; none where the words have no shape.
+// The masks of work, made once to reach from many states; none where the words have no shape.
 pub fn work(image: &[u64]) -> Work
     ensures { λ r. ⌜ WorkOf (now (image .entry)) r ⌝ }
 {
@@ -42,7 +42,7 @@ pub fn work(image: &[u64]) -> Work
         return table(image, width(image), depth(image));
     }
     let none = [0u64; 8];
-    [none; 81]
+    [none; 97]
 }
 
 // All that a state reaches without a letter.
@@ -53,7 +53,7 @@ pub fn reach(image: &[u64], masks: &Work, q: usize) -> Mask
 {
     if has_shape(image) {
         let one = with_bit(mask::none(), q);
-        return pass(one, depth(image), 8, masks);
+        return close(one, depth(image), 8, masks);
     }
     mask::none()
 }

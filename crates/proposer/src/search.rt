@@ -1,6 +1,6 @@
 // The latest start of a spelling that stops at a place.
-use crate::back::back;
-use crate::back::ending;
+use crate::earlier::back;
+use crate::earlier::ending;
 use crate::origins::Origins;
 use mask::bits::row_has_bit;
 use mask::bits::same_rows;

@@ -1,6 +1,6 @@
 // The states of a spelling, from its start to its end: stretch by stretch of at most 256 bytes, whose sets are computed anew from a kept one.
-use crate::back::back;
-use crate::back::ending;
+use crate::earlier::back;
+use crate::earlier::ending;
 use crate::origins::Origins;
 use crate::search::Kept;
 use crate::sets::lowest;

@@ -12,7 +12,7 @@ use Rattle.model.specs.Bits.{bit}
 use Rattle.model.specs.Edges.{depth, states}
 use Rattle.model.specs.Live.{Takes}
 use Rattle.model.specs.Models.Apart.{depthWord}
-use Rattle.model.specs.Models.Run.{moveWords, passWords}
+use Rattle.model.specs.Models.Run.{closeWords, moveWords}
 use Rattle.model.specs.Models.Words.{andWords, Fit, orWords, putBit, value}
 use Rattle.model.specs.Tree.{Tree}
 use Rattle.model.proofs.Ends.Run.{letterSet, loopSet}
@@ -24,7 +24,7 @@ use Rattle.model.proofs.Words.Holds.{Holds, holds-as, Near}
 use Rattle.model.proofs.Words.Operations.{near-and, near-or, next, none-and-l}
 use Rattle.model.proofs.Words.PassHolds.{move-holds}
 use Rattle.model.proofs.Words.Put.{put-bit, put-fit, put-length}
-use Rattle.model.proofs.Words.Run.{passes-words}
+use Rattle.model.proofs.Words.Run.{rounds-words}
 use Rattle.mask.proofs.Laws.Bits.{none-bit, none-fit}
 use Rattle.model.proofs.Words.RowBits.{row-past}
 use Rattle.model.specs.Spelling.{Reaches}
@@ -69,16 +69,16 @@ module _ (ws : List ℕ) (t : Tree) (I : ImageOf ws t) where
             go true e = let z = eqb→eq x q (subst T (sym e) tt) in absurd (omega arith)
             go false e = e
 
-    reach-row : reachWords ws q ≡ passWords (masksOf ws) (depth t) (putBit noWords q)
+    reach-row : reachWords ws q ≡ closeWords (masksOf ws) (depth t) (putBit noWords q)
     reach-row =
-        ap (λ (b : Bool). cond b (passWords (masksOf ws) (depthWord ws) (putBit noWords q)) noWords) (image-shaped ws t I)
-        ∙ ap (λ (n : ℕ). passWords (masksOf ws) n (putBit noWords q)) (depth-is ws t I)
+        ap (λ (b : Bool). cond b (closeWords (masksOf ws) (depthWord ws) (putBit noWords q)) noWords) (image-shaped ws t I)
+        ∙ ap (λ (n : ℕ). closeWords (masksOf ws) n (putBit noWords q)) (depth-is ws t I)
 
     reach-is : StatesAre t (reachWords ws q) (Reaches t q)
     reach-is =
         subst (λ (xs : List ℕ). StatesAre t xs (Reaches t q)) (sym reach-row)
-        (states-are (passWords (masksOf ws) (depth t) (putBit noWords q)) (reachSet t F q) (Reaches t q) (reach-set t F q)
-        (passes-words (states t) 8 t F (masksOf ws) (carried ws t I) (putBit noWords q) one one-holds))
+        (states-are (closeWords (masksOf ws) (depth t) (putBit noWords q)) (reachSet t F q) (Reaches t q) (reach-set t F q)
+        (rounds-words (states t) 8 t F (masksOf ws) (carried ws t I) (putBit noWords q) one one-holds))
 
   -- ---- ENTERED AND LEFT by a byte
   module _ (b : ℕ) (byte : b < 256) (live : List ℕ) (eight : length live ≡ 8) (fit : Fit live) (inside : Inside t live) where

@@ -7,22 +7,22 @@ use native.Mathlib.Omega.{arith}
 use lib.ListN.{length, take}
 use lib.Seq.{take-all}
 use Rattle.model.specs.Models.Apart.{depthWord}
-use Rattle.model.specs.Models.Run.{moveWords, passWords}
+use Rattle.model.specs.Models.Run.{closeWords, moveWords}
 use Rattle.model.specs.Models.Words.{andWords, orWords, putBit}
 use Rattle.word.specs.Shape.{shaped}
 use Rattle.edges.specs.Reach.{enterWords, leaveWords, lettersOf, reachWords, repeatsOf, unshiftWords}
 use Rattle.run.specs.Work.{masksOf, noWords}
-use Rattle.run.proofs.Laws.Widths.{pass-whole}
+use Rattle.run.proofs.Laws.Widths.{close-whole}
 
 -- ---- REACHED
 module _ (ws : List ℕ) (q : ℕ) (r : List ℕ) where
   abbrev whole : List ℕ
-  whole = passWords (masksOf ws) (depthWord ws) (putBit noWords q)
+  whole = closeWords (masksOf ws) (depthWord ws) (putBit noWords q)
 
   pub reach-whole : (one : List ℕ) → length one ≡ 8 → length r ≡ 8 → shaped ws ≡ true → one ≡ putBit noWords q
-      → take 8 r ≡ take 8 (passWords (masksOf ws) (depthWord ws) one) → r ≡ reachWords ws q
+      → take 8 r ≡ take 8 (closeWords (masksOf ws) (depthWord ws) one) → r ≡ reachWords ws q
   reach-whole one ho hr s eo e =
-      pass-whole (masksOf ws) (depthWord ws) one r (omega arith) (omega arith) e ∙ ap (passWords (masksOf ws) (depthWord ws)) eo
+      close-whole (masksOf ws) (depthWord ws) one r (omega arith) (omega arith) e ∙ ap (closeWords (masksOf ws) (depthWord ws)) eo
       ∙ sym (ap (λ (v : Bool). cond v whole noWords) s)
 
   pub reach-none : shaped ws ≡ false → r ≡ noWords → r ≡ reachWords ws q

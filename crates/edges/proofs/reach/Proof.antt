@@ -1,4 +1,4 @@
--- `reach`: a pass from the state alone, with the masks of work lent.
+-- `reach`: both rounds from the state alone, with the masks of work lent.
 use mathlib.Core.Path.{_≡_, sym, ap, _∙_}
 use native.Mathlib.Omega.{arith}
 use lib.ListN.{length}
@@ -8,7 +8,7 @@ use Rattle.word.proofs.Laws.Shape.{shape-of}
 use Rattle.edges.specs.Reach.{reachWords}
 use Rattle.edges.proofs.Laws.Image.{reach-says}
 use Rattle.edges.proofs.Laws.Reached.{reach-none, reach-whole}
-use Rattle.run.proofs.Laws.Table.{pass-eight}
+use Rattle.run.proofs.Laws.Table.{close-eight}
 use borrow.Author.Needs.{needs}
 use Rattle.edges.proofs.reach.Statement.{statement}
 use Rattle.edges.proofs.reach.Tie as tie
@@ -25,8 +25,8 @@ with-bit-requires c κs = search needs
 depth-requires : tie.Need-depth-requires
 depth-requires c κs = search needs
 
-pass-requires : tie.Need-pass-requires
-pass-requires c κs =
+close-requires : tie.Need-close-requires
+close-requires c κs =
     let h = c .before .before .before in
     let a = h .before .before .before .args in
     omega (arith, c .depth .ensures, shape-of (a .image .now) (sym (h .before .has-shape .ensures) ∙ h .if1 .taken) .shallow)
@@ -39,13 +39,13 @@ returns c =
     let ws = a .image .now in
     let o = c .before .before .with-bit in
     let d = c .before .depth in
-    let r = c .pass .result .words in
+    let r = c .close .result .words in
     let shape = sym (h .before .has-shape .ensures) ∙ h .if1 .taken in
     let ho : length (o .result .words) ≡ 8 = search needs in
     let hr : length r ≡ 8 = search needs in
     let e : r ≡ reachWords ws (a .q) =
     reach-whole ws (a .q) r (o .result .words) ho hr shape (o .ensures ∙ ap (λ w. putBit w (a .q)) (c .before .before .before .none .ensures))
-    (pass-eight ws (fit-row ws (h .before .before .shared-slice-known .given)) (shape-of ws shape) (a .masks .now) (s .pre shape) (d .ensures) (o .result .words) r (c .pass .ensures)) in
+    (close-eight ws (fit-row ws (h .before .before .shared-slice-known .given)) (shape-of ws shape) (a .masks .now) (s .pre shape) (d .ensures) (o .result .words) r (omega (arith, ho)) (c .close .ensures)) in
     (e, reach-says ws (a .q) r e)
 
 none-requires-2 : tie.Need-none-requires-2
@@ -63,4 +63,4 @@ returns-2 c =
 pub reach-spec : {M : Type 1} → statement M
 reach-spec =
     tie.close
-    (tie.spec has-shape-requires none-requires with-bit-requires depth-requires pass-requires returns none-requires-2 returns-2)
+    (tie.spec has-shape-requires none-requires with-bit-requires depth-requires close-requires returns none-requires-2 returns-2)

@@ -1,7 +1,7 @@
 -- `work`: where there is a shape, the table of it.
 use mathlib.Core.Path.{sym, subst, _∙_}
 use lib.Dec.{T}
-use Rattle.run.proofs.Laws.Table.{entered-of}
+use Rattle.run.proofs.Laws.Table.{tabled-of}
 use borrow.Author.Needs.{needs}
 use Rattle.edges.proofs.work.Statement.{statement}
 use Rattle.edges.proofs.work.Tie as tie
@@ -21,7 +21,7 @@ table-requires c κs = record { shape = sym (c .before .before .before .has-shap
 returns : tie.Need-returns
 returns c s =
     let ws = c .before .before .before .before .before .before .args .image .now in
-    entered-of ws (c .table .result) (c .before .before .width .ensures) (c .before .depth .ensures) (c .table .ensures)
+    tabled-of ws (c .table .result) (c .before .before .width .ensures) (c .before .depth .ensures) (c .table .ensures)
 
 returns-2 : tie.Need-returns-2
 returns-2 c s = absurd (subst T (sym (sym (c .if1 .left) ∙ c .before .has-shape .ensures ∙ s)) tt)

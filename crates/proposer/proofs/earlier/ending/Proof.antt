@@ -1,8 +1,8 @@
 -- `ending`: what reaches the accepting state.
 use Rattle.proposer.proofs.Laws.Back.{ending-says}
 use borrow.Author.Needs.{needs}
-use Rattle.proposer.proofs.back.ending.Statement.{statement}
-use Rattle.proposer.proofs.back.ending.Tie as tie
+use Rattle.proposer.proofs.earlier.ending.Statement.{statement}
+use Rattle.proposer.proofs.earlier.ending.Tie as tie
 
 with-state-requires : tie.Need-with-state-requires
 with-state-requires c κs = search needs

@@ -1,8 +1,8 @@
 -- `back`: what reaches a state that the byte leaves into the set.
 use Rattle.proposer.proofs.Laws.Back.{back-says}
 use borrow.Author.Needs.{needs}
-use Rattle.proposer.proofs.back.back.Statement.{statement}
-use Rattle.proposer.proofs.back.back.Tie as tie
+use Rattle.proposer.proofs.earlier.back.Statement.{statement}
+use Rattle.proposer.proofs.earlier.back.Tie as tie
 
 leave-requires : tie.Need-leave-requires
 leave-requires c κs = search needs

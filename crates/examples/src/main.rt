@@ -1,5 +1,5 @@
-// The examples of document 01 through build, read back and match: what the desk program writes about a rule and a text, and the masks that the
-// document prints.
+// The examples of document 01, and those of repeated groups, through build, read back and match: what the desk program writes about a rule and a text,
+// and the masks that the document prints.
 use report::report;
 use watcher::build;
 
@@ -24,14 +24,23 @@ fn show_three(label: &[u8], block: u64, source: u64, target: u64) {
     io::write_all(1, b"\n");
 }
 
-// The masks of a rule of at most 64 states and depth 1: its image has 533 words, and the last sections start after words 518, 522 and 526.
+fn show_two(label: &[u8], source: u64, target: u64) {
+    io::write_all(1, label);
+    io::print_decimal(1, source);
+    io::write_all(1, b" ");
+    io::print_decimal(1, target);
+    io::write_all(1, b"\n");
+}
+
+// The masks of a rule of at most 64 states and depth 1: its image has 536 words, and the last sections start after words 518, 522, 526 and 533.
 fn show_masks(rule: &[u8]) {
-    let mut image = [0u64; 533];
+    let mut image = [0u64; 536];
     build(rule, &mut image);
     show_three(b"scatter 0: ", image[519], image[520], image[521]);
     show_three(b"gather 0: ", image[523], image[524], image[525]);
     show_three(b"propagate 0: ", image[527], image[528], image[529]);
     show_three(b"propagate 1: ", image[530], image[531], image[532]);
+    show_two(b"back 0: ", image[534], image[535]);
 }
 
 fn show_letters() {
@@ -54,11 +63,21 @@ fn show_unions() {
     show(b"[ba]", b"b");
 }
 
+fn show_repeated() {
+    show(b"(ab)*", b"ababb");
+    show_masks(b"(ab)*");
+    show(b"(a|b)*", b"ab");
+    show(b"(a|b)+", b"ab");
+    show(b"(a?)+", b"ab");
+    show_masks(b"(a?)+");
+    show(b"((a)+)+", b"aab");
+}
+
 fn show_refusals() {
     show(b"", b"");
     show(b"()", b"");
     show(b"a||b", b"a");
-    show(b"(a)*", b"a");
+    show(b"(a){2}", b"aa");
     show(b"[c-ab]", b"a");
     show(b"a{0}", b"a");
     show(b"a{3,}", b"aaa");
@@ -70,5 +89,6 @@ fn show_refusals() {
 fn main() {
     show_letters();
     show_unions();
+    show_repeated();
     show_refusals();
 }

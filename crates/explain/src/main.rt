@@ -121,7 +121,7 @@ fn answer(rule: &[u8], journal: &[u8], request: &[u8], text: &mut [u8]) -> usize
     requires { ⌜ 2162687 ≤ length (now text) ⌝ }
     ensures { λ r. ⌜ r ≤ 2162687 ⌝ }
 {
-    let mut image = [0u64; 4705];
+    let mut image = [0u64; 4834];
     let built = build(rule, &mut image);
     match built {
         Built::TooLong => refuse(text, 1),

@@ -44,7 +44,7 @@ fn follow(image: &[u64], first: Watching) {
 fn main() {
     let mut rule = [0u8; 1025];
     let rule_length = read_file(b"rule", &mut rule);
-    let mut image = [0u64; 4705];
+    let mut image = [0u64; 4834];
     let mut text = [0u8; 11];
     let opened = open(&rule[..rule_length], &mut image, &mut text);
     let said = opened.said;

@@ -55,9 +55,9 @@ pub data Writes (words : List ℕ) : (stretches : List (List ℕ)) → Next → 
       → Writes words (s ∷ stretches) (on kept) (first ++ rest)
   nothing : {stretches : List (List ℕ)} → Writes words stretches stopped []
 
--- ALL THAT IS WRITTEN, one piece after another, with room for an image of 4,705 words
+-- ALL THAT IS WRITTEN, one piece after another, with room for an image of 4,834 words
 pub data FollowSays (rule : List ℕ) (stretches : List (List ℕ)) : (text : List ℕ) → Type 0 where
-  follows : {n : ℕ} {after : List ℕ} {next : Next} {first rest : List ℕ} → Opens rule (replicate 4705 0) n after next first → Writes (take n after) stretches next rest
+  follows : {n : ℕ} {after : List ℕ} {next : Next} {first rest : List ℕ} → Opens rule (replicate 4834 0) n after next first → Writes (take n after) stretches next rest
       → FollowSays rule stretches (first ++ rest)
 
 -- ---- WHAT IT IS TO COME TO (proofs/Promise.antt)

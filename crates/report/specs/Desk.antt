@@ -25,7 +25,7 @@ pub data ReadsBack (words journal text : List ℕ) : Type 0 where
   refused : (a : Answer) → ReadBackSays words (replicate 16384 0) a → 0 < a .number → text ≡ refusedText (a .number) → ReadsBack words journal text
   written : (a : Answer) → ReadBackSays words (replicate 16384 0) a → a .number ≡ 0 → Matches words journal (put a) text → ReadsBack words journal text
 
--- "It .. builds with room for the longest image (here 4,705 words)"
+-- "It .. builds with room for the longest image", which has 4,834 words with the back edges of Wish 12
 pub data DeskSays (rule journal text : List ℕ) : Type 0 where
-  refused : (a : Answer) → BuildSays rule (replicate 4705 0) a → 0 < a .number → text ≡ refusedText (a .number) → DeskSays rule journal text
-  built : (a : Answer) → BuildSays rule (replicate 4705 0) a → a .number ≡ 0 → ReadsBack (put a) journal text → DeskSays rule journal text
+  refused : (a : Answer) → BuildSays rule (replicate 4834 0) a → 0 < a .number → text ≡ refusedText (a .number) → DeskSays rule journal text
+  built : (a : Answer) → BuildSays rule (replicate 4834 0) a → a .number ≡ 0 → ReadsBack (put a) journal text → DeskSays rule journal text

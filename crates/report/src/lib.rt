@@ -55,7 +55,7 @@ fn report_image(image: &[u64], journal: &[u8], text: &mut [u8]) -> usize
 pub fn report(rule: &[u8], journal: &[u8], text: &mut [u8]) -> usize
     ensures { λ r. ⌜ Reports (DeskSays (now (rule .entry)) (now (journal .entry))) (now (text .entry)) r (now (text .exit)) ⌝ }
 {
-    let mut image = [0u64; 4705];
+    let mut image = [0u64; 4834];
     let built = build(rule, &mut image);
     match built {
         Built::TooLong => refuse(text, 1),

@@ -1,4 +1,4 @@
--- BUILD'S COUNT FITS: an image within 512 states and depth 8 is at most 4,705 words long.
+-- BUILD'S COUNT FITS: an image within 512 states and depth 8 is at most 4,834 words long.
 use mathlib.Core.Path.{_≡_, refl, ap}
 use mathlib.Core.List.{List, []}
 use Prim.Native.Nat.{ℕ, _+_, _*_, _/_, _%_, _^_, _≤_, _<_}
@@ -17,14 +17,14 @@ use Rattle.watcher.specs.declared.Built.the-variants.{Done, NoRoom, NotARule, T
 use Rattle.panel.specs.Says.{Gives}
 use Rattle.panel.proofs.Laws.Given.{count-is, number-is, one-given}
 
-image-small : (t : Tree) → states t ≤ 512 → depth t ≤ 8 → length (image t) ≤ 4705
+image-small : (t : Tree) → states t ≤ 512 → depth t ≤ 8 → length (image t) ≤ 4834
 image-small t m d =
     let narrow : width (states t) ≤ 8 = omega arith in
-    let deep : 515 + 9 * depth t ≤ 587 = omega arith in
+    let deep : 515 + 11 * depth t ≤ 603 = omega arith in
     omega (arith, length-image t, mul-le-mul narrow deep)
 
 module _ {rule before : List ℕ} where
-  pub count-small : {a : Answer} → BuildSays rule before a → a .count ≤ 4705
+  pub count-small : {a : Answer} → BuildSays rule before a → a .count ≤ 4834
   count-small (rule-too-long l e) = omega (arith, ap (λ (a : Answer). a .count) e)
   count-small (not-a-rule l f e) = omega (arith, ap (λ (a : Answer). a .count) e)
   count-small (too-many-states t l d m e) = omega (arith, ap (λ (a : Answer). a .count) e)

@@ -7,7 +7,7 @@ use lib.ListN.{length, length-append}
 use Rattle.model.specs.Answers.{Answer, ImageOf, no-room, not-an-image, ReadBackSays, written}
 use Rattle.model.specs.Models.LayOut.{begin, owns}
 use Rattle.model.specs.Models.Tokens.{aBar, aClose, aLetter, anOpen, Token, tokens}
-use Rattle.model.specs.Tree.{once, option, optional, plus, Repeat, star, Tree, unmarked}
+use Rattle.model.specs.Tree.{once, option, optional, plus, Repeat, star, starred, Tree, unmarked}
 use Rattle.model.specs.Writing.{classWriting, repeatWriting, writing}
 use Rattle.model.proofs.Answers.ReadBack.{read-back-one}
 use Rattle.model.proofs.Image.Tokens.{length-tokens}
@@ -33,6 +33,7 @@ token-short anOpen = omega arith
 token-short aBar = omega arith
 token-short (aClose unmarked) = omega arith
 token-short (aClose optional) = omega arith
+token-short (aClose starred) = omega arith
 
 tokens-short : (xs : List Token) → length (tokensWriting xs) ≤ 2307 * length xs
 tokens-short [] = omega arith

@@ -36,7 +36,7 @@ module _ {words journal : List ℕ} {a : Answer} (R : ReadBackSays words (replic
   pub read-back-refused : (n : ℕ) → a .number ≡ n → 0 < n → ReadsBack words journal (refusedText n)
   read-back-refused n e l = ReadsBack.refused a R (omega (arith, e)) (ap refusedText (sym e))
 
-module _ {rule journal : List ℕ} {a : Answer} (B : BuildSays rule (replicate 4705 0) a) where
+module _ {rule journal : List ℕ} {a : Answer} (B : BuildSays rule (replicate 4834 0) a) where
   pub build-refused : (n : ℕ) → a .number ≡ n → 0 < n → DeskSays rule journal (refusedText n)
   build-refused n e l = DeskSays.refused a B (omega (arith, e)) (ap refusedText (sym e))
 
@@ -54,12 +54,12 @@ module _ {words : List ℕ} (m : Written) (after : List ℕ) {n : ℕ} (R : Read
   pub writing-goes-on : {journal before later : List ℕ} {r : ℕ} → Reports (Matches words journal (take n after)) before r later → Reports (ReadsBack words journal) before r later
   writing-goes-on P = record { text = P .text; says = written (writtenAnswer (writes.Done n) after) says-done refl (P .says); long = P .long; lent = P .lent }
 
-module _ {rule : List ℕ} (m : Built) (after : List ℕ) {n : ℕ} (B : BuildSays rule (replicate 4705 0) (builtAnswer m after)) (d : m ≡ builds.Done n) where
-  says-built : BuildSays rule (replicate 4705 0) (builtAnswer (builds.Done n) after)
-  says-built = subst (λ (q : Built). BuildSays rule (replicate 4705 0) (builtAnswer q after)) d B
+module _ {rule : List ℕ} (m : Built) (after : List ℕ) {n : ℕ} (B : BuildSays rule (replicate 4834 0) (builtAnswer m after)) (d : m ≡ builds.Done n) where
+  says-built : BuildSays rule (replicate 4834 0) (builtAnswer (builds.Done n) after)
+  says-built = subst (λ (q : Built). BuildSays rule (replicate 4834 0) (builtAnswer q after)) d B
 
-  pub image-first : length after ≡ 4705 → First n after
-  image-first e = first (build-fits says-built .1) (e ∙ sym (length-replicate {A = ℕ} 4705 0))
+  pub image-first : length after ≡ 4834 → First n after
+  image-first e = first (build-fits says-built .1) (e ∙ sym (length-replicate {A = ℕ} 4834 0))
 
   pub image-goes-on : {journal before later : List ℕ} {r : ℕ} → Reports (ReadsBack (take n after) journal) before r later → Reports (DeskSays rule journal) before r later
   image-goes-on P = record { text = P .text; says = built (builtAnswer (builds.Done n) after) says-built refl (P .says); long = P .long; lent = P .lent }

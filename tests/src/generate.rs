@@ -1,6 +1,6 @@
-//! Rules made by a fixed generator: valid ones in every way of writing, small, large and deep, and broken ones.
+//! Rules made by a fixed generator: valid ones in every way of writing, small, large and deep, and broken ones; and trees with another mark.
 
-use crate::independent::{can_be_empty, parse, states, Sequence};
+use crate::independent::{can_be_empty, parse, states, Item, Mark, Sequence};
 
 /// Numbers from a seed (splitmix64).
 pub struct Random(u64);
@@ -124,17 +124,28 @@ pub fn sequence(r: &mut Random, size: usize, depth: usize, out: &mut Vec<u8>) {
     }
 }
 
-/// Several alternatives with `?` or without, or one with it, which is dropped where one of them can be empty. One more `?` round such a group is always
-/// dropped.
+/// Several alternatives with a sign or without, or one with a sign; a `?` is dropped where one of them can be empty. One more `?` round a group with `?`
+/// or `*` is always dropped.
 fn group(r: &mut Random, size: usize, depth: usize, out: &mut Vec<u8>) {
     let (start, count) = (out.len(), *r.pick(&[1, 2, 2, 3, 4]));
-    alternatives(r, size, count, depth, out);
-    if count == 1 || r.one_in(2) {
-        out.push(b'?');
-        if r.one_in(6) {
-            out.insert(start, b'(');
-            out.extend(b")?");
-        }
+    let sign: &[u8] = if count == 1 || r.one_in(2) { *r.pick(&[&b"?"[..], b"?", b"*", b"*", b"+"]) } else { b"" };
+    match sign {
+        b"*" | b"+" => body(r, if sign == b"+" { size / 2 } else { size }, count, depth, out),
+        _ => alternatives(r, size, count, depth, out),
+    }
+    out.extend(sign);
+    if matches!(sign, b"?" | b"*") && r.one_in(6) {
+        out.insert(start, b'(');
+        out.extend(b")?");
+    }
+}
+
+/// The same before `*` or `+`: several alternatives are a union in the body, one deeper.
+fn body(r: &mut Random, size: usize, count: usize, depth: usize, out: &mut Vec<u8>) {
+    if count == 1 || depth == 0 {
+        alternatives(r, size, 1, depth, out);
+    } else {
+        alternatives(r, size, count, depth - 1, out);
     }
 }
 
@@ -173,7 +184,11 @@ pub fn nested(r: &mut Random, depth: usize) -> Vec<u8> {
     let mut out = Vec::new();
     short(r, &mut out);
     for _ in 0..depth {
-        out = if r.one_in(3) { optional(r, &out) } else { union(r, &out) };
+        out = match r.below(5) {
+            0 | 1 => union(r, &out),
+            2 => optional(r, &out),
+            _ => repeated(r, &out),
+        };
     }
     out
 }
@@ -205,6 +220,21 @@ fn optional(r: &mut Random, inner: &[u8]) -> Vec<u8> {
     [b"(", parts[0], parts[1], b")?"].concat()
 }
 
+/// This sequence in the body of a repeated group; with `+`, which doubles the states, as long as they are few.
+fn repeated(r: &mut Random, inner: &[u8]) -> Vec<u8> {
+    let mut out = vec![b'('];
+    if r.one_in(3) {
+        short(r, &mut out);
+    }
+    out.extend(inner);
+    if r.one_in(3) {
+        short(r, &mut out);
+    }
+    let close = if count(inner) < 30 && r.one_in(3) { b")+" } else { b")*" };
+    out.extend(close);
+    out
+}
+
 /// A rule of just so many states, in at most 1,024 bytes: parts as long as they fit, then one letter repeated.
 pub fn sized(r: &mut Random, wanted: usize, depth: usize) -> Vec<u8> {
     let mut rule = nested(r, depth);
@@ -233,9 +263,9 @@ fn count(rule: &[u8]) -> usize {
     states(&tree(rule))
 }
 
-/// A small rule in so many brackets, with `?` or without, that it has about 1,024 bytes.
+/// A small rule in so many brackets, with a sign or without, that it has about 1,024 bytes.
 pub fn long(r: &mut Random) -> Vec<u8> {
-    let (rule, wanted, close) = (small(r), r.between(1020, 1028), *r.pick(&[&b")"[..], b")?"]));
+    let (rule, wanted, close) = (small(r), r.between(1020, 1028), *r.pick(&[&b")"[..], b")", b")?", b")?", b")*", b")+"]));
     let around = wanted.saturating_sub(rule.len()) / (1 + close.len());
     [vec![b'('; around], rule, close.repeat(around)].concat()
 }
@@ -263,4 +293,27 @@ pub fn broken(r: &mut Random) -> Vec<u8> {
 /// A few of the telling bytes, in any order.
 pub fn jumbled(r: &mut Random) -> Vec<u8> {
     (0..r.between(3, 12)).map(|_| *r.pick(TELLING)).collect()
+}
+
+/// The marks of a tree's unions.
+fn marks(sequence: &mut Sequence) -> Vec<&mut Mark> {
+    let mut all = Vec::new();
+    for item in sequence {
+        if let Item::Union(mark, alternatives) = item {
+            all.push(mark);
+            all.extend(alternatives.iter_mut().flat_map(marks));
+        }
+    }
+    all
+}
+
+/// The tree with another mark on one of its unions, if it has any: another rule's, or one that no rule has, with its image or that of another tree.
+pub fn other_mark(r: &mut Random, tree: &Sequence) -> Option<Sequence> {
+    let mut other = tree.clone();
+    let mut all = marks(&mut other);
+    let at = r.below(all.len().max(1));
+    let mark = all.get_mut(at)?;
+    let others = [Mark::Unmarked, Mark::Optional, Mark::Repeated].into_iter().filter(|m| m != *mark);
+    **mark = *r.pick(&others.collect::<Vec<_>>());
+    Some(other)
 }

@@ -3,11 +3,13 @@
 
 pub mod driver;
 pub mod generate;
+mod grown;
 pub mod independent;
 pub mod spellings;
 pub mod texts;
 pub mod watches;
 
+use grown::grown;
 use std::fs;
 use std::path::Path;
 
@@ -15,12 +17,16 @@ use std::path::Path;
 pub type Runs = Vec<(usize, u64)>;
 
 /// The kinds of vectors in each folder, and the folders in the order in which their wishes landed.
-const KINDS: [(&str, &[&str]); 4] = [
+const KINDS: [(&str, &[&str]); 5] = [
     ("base", &["build", "readback", "match", "desk"]),
     ("wish-01", &["watch"]),
     ("wish-09", &["check", "propose"]),
     ("wish-03", &["build", "readback", "match", "desk", "watch", "check", "propose"]),
+    ("wish-12", &["build", "readback", "match", "desk", "watch", "check", "propose"]),
 ];
+
+/// Folders from before Wish 12: their images have six sections.
+const SIX_SECTIONS: [&str; 4] = ["base/", "wish-01/", "wish-09/", "wish-03/"];
 
 /// One vector: where it stands, and its fields after the kind.
 pub type Vector = (String, Vec<String>);
@@ -29,8 +35,8 @@ fn read(path: &Path) -> String {
     fs::read_to_string(path).unwrap_or_else(|e| panic!("{}: {e}", path.display()))
 }
 
-/// The vectors of one kind in all folders, those that a later wish answers otherwise with that answer.
-pub fn vectors(folder: &Path, kind: &str) -> Vec<Vector> {
+/// The lines of one kind in all folders as they stand there.
+pub fn lines(folder: &Path, kind: &str) -> Vec<Vector> {
     let mut all: Vec<Vector> = Vec::new();
     for (since, _) in KINDS.iter().filter(|(_, kinds)| kinds.contains(&kind)) {
         let file = format!("{since}/{kind}.txt");
@@ -39,12 +45,37 @@ pub fn vectors(folder: &Path, kind: &str) -> Vec<Vector> {
             (format!("{file} {n}"), fields.split(' ').map(str::to_string).collect())
         }));
     }
+    all
+}
+
+/// The vectors of one kind in all folders: those that a later wish answers otherwise with that answer, and images of six sections with the seventh.
+pub fn vectors(folder: &Path, kind: &str) -> Vec<Vector> {
+    let mut all = lines(folder, kind);
     for (line, fields) in amended(folder).into_iter().filter(|(_, fields)| fields[0] == kind) {
         let (_, old) = all.iter_mut().find(|(place, _)| *place == line).unwrap_or_else(|| panic!("amended: no {line}"));
         assert!(old[..2] == fields[1..3] && old[2..] != fields[3..], "amended: {line} is another call, or has this answer");
         *old = fields[1..].to_vec();
     }
-    all
+    let of = |(place, fields): Vector| {
+        let lines = if has_six_sections(&place) { grown(kind, fields) } else { vec![fields] };
+        lines.into_iter().map(move |fields| (place.clone(), fields))
+    };
+    all.into_iter().flat_map(of).collect()
+}
+
+fn has_six_sections(place: &str) -> bool {
+    SIX_SECTIONS.iter().any(|folder| place.starts_with(folder))
+}
+
+/// The images that the lines from before Wish 12 show and that were taken then: where each stands, and its words as they stand.
+pub fn old_images(folder: &Path) -> Vec<(String, Runs)> {
+    let kinds = [("build", 4, 2), ("readback", 0, 2), ("match", 0, 3), ("watch", 0, 3), ("check", 0, 5), ("propose", 0, 4)];
+    let of = |(kind, image, number): (&str, usize, usize)| {
+        let old = lines(folder, kind).into_iter().filter(|(place, _)| has_six_sections(place));
+        let taken = old.filter(move |(_, fields)| fields[number] != "6" && fields[image] != "0;-");
+        taken.map(move |(place, fields)| (place, runs(&fields[image]))).collect::<Vec<_>>()
+    };
+    kinds.into_iter().flat_map(of).collect()
 }
 
 /// The vectors that a later wish answers otherwise, as amended.txt gives them: where each stands, and its line of now, the kind included.

@@ -1,9 +1,9 @@
 //! Texts made by a fixed generator, in which a rule happens, nearly happens and does not.
 
 use crate::generate::{any_byte, Random};
-use crate::independent::{Item, Repeat};
+use crate::independent::{Item, Mark, Repeat};
 
-/// One way to spell a tree, each letter repeated at most three times, an optional union left out one time in three.
+/// One way to spell a tree, each letter and each group repeated at most three times, an optional union left out one time in three.
 pub fn spelled(r: &mut Random, sequence: &[Item], out: &mut Vec<u8>) {
     for item in sequence {
         match item {
@@ -19,7 +19,8 @@ pub fn spelled(r: &mut Random, sequence: &[Item], out: &mut Vec<u8>) {
                     out.push(*r.pick(&bytes));
                 }
             }
-            Item::Union(mark, _) if mark.skips() && r.one_in(3) => {}
+            Item::Union(Mark::Repeated, bodies) => (0..r.between(0, 3)).for_each(|_| spelled(r, &bodies[0], out)),
+            Item::Union(Mark::Optional, _) if r.one_in(3) => {}
             Item::Union(_, alternatives) => {
                 let chosen = r.pick(alternatives);
                 spelled(r, chosen, out);

@@ -1,8 +1,8 @@
 //! The calls of the speed table of build and read back. Usage: calls FOLDER, which writes for each call the files NAME.given and NAME.answer, by the
 //! independent program, and prints the lines `OPERATION NAME`. An image that comes with a line `check` has two more: NAME.first and NAME.last, with
-//! the first and the last word changed.
+//! the first word and the last word of a mask changed.
 
-use outside_checks::independent::{build, image, parse, read_back};
+use outside_checks::independent::{build, image, parse, read_back, LONGEST_IMAGE};
 use std::fs;
 use std::path::Path;
 
@@ -22,6 +22,11 @@ fn nested(depth: usize, letter: &str) -> String {
     (0..depth).fold(letter.to_string(), |inner, _| format!("({inner}|{letter})"))
 }
 
+/// So many groups round a letter, each with this sign.
+fn groups(count: usize, sign: &str) -> String {
+    "(".repeat(count) + "a" + &format!("){sign}").repeat(count)
+}
+
 /// Every second byte: as many runs as a class can have.
 fn runs() -> String {
     "[".to_string() + &(0..128).map(|i| format!("\\x{:02X}", 2 * i)).collect::<String>() + "]"
@@ -37,26 +42,32 @@ fn rules() -> Vec<(&'static str, String)> {
         ("classes", whole("[0-9A-Fa-f]{7}".repeat(73))),
         ("counted", "[ab]{2,4}".repeat(113) + "a{1,59}"),
         ("unions", whole(nested(8, "a").repeat(15) + "a{16}")),
+        ("cycles", whole(groups(8, "*").repeat(30) + "\\x61")),
+        ("pluses", whole(groups(7, "+") + "a{129}")),
         ("brackets", whole("ab".to_string())),
         ("refused-2", "a".repeat(1023) + "("),
         ("refused-3", "a".repeat(1024)),
+        ("refused-3-plus", groups(341, "+")),
     ]
 }
 
-/// Images by their rules: of 524 words, and of 4,705. Of `524-stars` and `4705-inner` the check was found to take the proved library longest.
+/// Images by their rules: of 525 words, and of 4,834. Of `525-stars` and `4834-inner` the check was found to take the proved library longest, before
+/// there were cycles; `4834-rounds` has more groups than that, with back edges.
 fn images() -> Vec<(&'static str, String)> {
     let deep = |letter: &str| nested(8, letter) + &format!("{letter}{{478}}");
     vec![
-        ("524-a", "a".to_string()),
-        ("524-letters", "a{63}".to_string()),
-        ("524-runs", runs() + "{63}"),
-        ("524-stars", "a*".repeat(63)),
-        ("4705-letters", deep("a")),
-        ("4705-dots", deep(".")),
-        ("4705-runs", deep(&runs())),
-        ("4705-stars", nested(8, "a") + &"a*".repeat(478)),
-        ("4705-unions", nested(8, "a").repeat(15) + "a{16}"),
-        ("4705-inner", (0..7).fold("(a*|a*)".repeat(96) + "a*a*a*", |inner, _| format!("(a*|{inner})"))),
+        ("525-a", "a".to_string()),
+        ("525-letters", "a{63}".to_string()),
+        ("525-runs", runs() + "{63}"),
+        ("525-stars", "a*".repeat(63)),
+        ("4834-letters", deep("a")),
+        ("4834-dots", deep(".")),
+        ("4834-runs", deep(&runs())),
+        ("4834-stars", nested(8, "a") + &"a*".repeat(478)),
+        ("4834-unions", nested(8, "a").repeat(15) + "a{16}"),
+        ("4834-cycles", groups(8, "*").repeat(30) + "a"),
+        ("4834-rounds", (0..7).fold("(a*)*".repeat(161), |inner, _| format!("(a*|{inner})"))),
+        ("4834-inner", (0..7).fold("(a*|a*)".repeat(96) + "a*a*a*", |inner, _| format!("(a*|{inner})"))),
     ]
 }
 
@@ -66,7 +77,7 @@ fn main() {
     let put = |name: &str, kind: &str, bytes: &[u8]| fs::write(Path::new(folder).join(format!("{name}.{kind}")), bytes).unwrap();
     fs::create_dir_all(folder).unwrap();
     for (name, rule) in rules() {
-        let (number, words) = build(rule.as_bytes(), 4705);
+        let (number, words) = build(rule.as_bytes(), LONGEST_IMAGE);
         assert_eq!(rule.len(), 1024, "{name}");
         put(name, "given", rule.as_bytes());
         put(name, "answer", &bytes_of(&[&[number << 32 | words.len() as u64], &words[..]].concat()));
@@ -82,7 +93,9 @@ fn main() {
     }
     for (name, rule) in images() {
         let words = image(&parse(rule.as_bytes()).expect("a rule"));
-        for (kind, place) in [("first", 0), ("last", words.len() - 1)] {
+        // without depths the last word is the count of the back edges, which is looked at before any mask
+        let last = words.len() - if words[3] == 0 { 2 } else { 1 };
+        for (kind, place) in [("first", 0), ("last", last)] {
             let mut changed = words.clone();
             changed[place] ^= 1;
             put(name, kind, &bytes_of(&changed));

@@ -2,10 +2,10 @@
 //! spellings, that the one answer which the table gives is the vector's. `rt check` then computes them over a copy of the crate `model`.
 //! Usage: definitions VECTORS OUT
 
-use outside_checks::independent::{optional_unions, tree_of};
+use outside_checks::independent::{marked, parse, states, tree_of, Mark};
 use outside_checks::spellings::{checks, proposals};
 use outside_checks::watches::{watches, WatchCall};
-use outside_checks::{bytes, expand, places, runs, vectors, word, Runs};
+use outside_checks::{bytes, expand, old_images, places, runs, vectors, word, Runs};
 use std::collections::HashMap;
 use std::fmt::Write as _;
 use std::fs;
@@ -16,8 +16,12 @@ const STATES: u64 = 7;
 const IMAGE_STATES: u64 = 3;
 const BYTES: usize = 24;
 
-/// An image with an optional union has four states at least; there are few of at most so many.
+/// An image with an optional union or a repeated group has four states at least; there are few of at most so many.
 const OPTIONAL_STATES: u64 = 8;
+const REPEATED_STATES: u64 = 9;
+
+/// So many images of six sections are enough: their length is wrong.
+const SIX_SECTIONS: usize = 4;
 
 /// So many calls of a watch of each kind are enough, and so many of spellings.
 const EACH: usize = 4;
@@ -146,14 +150,39 @@ impl Theorems {
     }
 }
 
-fn has_optional_union(image: &Runs) -> bool {
-    tree_of(&expand(image)).is_some_and(|tree| !optional_unions(&tree).is_empty())
+/// The newest mark that an image has; none for words that are no image.
+fn newest_mark(image: &Runs) -> Option<Mark> {
+    let tree = tree_of(&expand(image))?;
+    let newest = [Mark::Repeated, Mark::Optional].into_iter().find(|mark| !marked(&tree, *mark).is_empty());
+    Some(newest.unwrap_or(Mark::Unmarked))
 }
 
-/// Whether an image is too large. Of those that come with wish 3 the ones without an optional union are like those before it.
+/// Whether an image is too large, or comes with a wish and has not what is new with it: an optional union with wish 3, a repeated group with wish 12.
 fn left_out(place: &str, image: &Runs) -> bool {
-    let states = word(image, 1);
-    states > OPTIONAL_STATES || (states > IMAGE_STATES || place.starts_with("wish-03")) && !has_optional_union(image)
+    let mark = newest_mark(image);
+    let most = match mark {
+        None | Some(Mark::Unmarked) => IMAGE_STATES,
+        Some(Mark::Optional) => OPTIONAL_STATES,
+        Some(Mark::Repeated) => REPEATED_STATES,
+    };
+    let like_others = match mark {
+        Some(Mark::Unmarked) => place.starts_with("wish-03") || place.starts_with("wish-12"),
+        Some(Mark::Optional) => place.starts_with("wish-12"),
+        None | Some(Mark::Repeated) => false,
+    };
+    word(image, 1) > most || like_others
+}
+
+/// Whether a build is too large. A refusal for room (5) needs the image's length, and so its masks; one for states or depth (3, 4) the whole tree, which is
+/// beyond bounds where `+` doubles groups.
+fn build_left_out(rule: &[u8], number: &str) -> bool {
+    let states = parse(rule).map_or(0, |tree| states(&tree) as u64);
+    match number {
+        "0" => states > STATES,
+        "3" | "4" => rule.windows(2).any(|two| two == b")+"),
+        "5" => states > STATES || rule.len() > STATES as usize,
+        _ => false,
+    }
 }
 
 fn answers(folder: &Path) -> Theorems {
@@ -161,14 +190,12 @@ fn answers(folder: &Path) -> Theorems {
     let answer = |number: &str, count: &str, after: &Runs| format!("{number} {count} {}", list(after));
     for (_, v) in vectors(folder, "build") {
         let (rule, room, number) = (bytes(&v[0]), v[1].parse::<usize>().unwrap(), v[2].as_str());
-        let image = runs(&v[4]);
-        // a refusal for room (5) needs the image's length, and so its masks; the vector does not say how many states it has
-        if (number == "0" && word(&image, 1) > STATES) || (number == "5" && rule.len() > STATES as usize) {
+        if build_left_out(&rule, number) {
             t.left_out += 1;
             continue;
         }
         let call = format!("buildAnswer {} {}", numbers(rule.iter().map(|b| u64::from(*b))), before(room));
-        t.add(call, answer(number, &v[3], &lent(image, room)));
+        t.add(call, answer(number, &v[3], &lent(runs(&v[4]), room)));
     }
     for (place, v) in vectors(folder, "readback") {
         let (image, room) = (runs(&v[0]), v[1].parse::<usize>().unwrap());
@@ -178,6 +205,10 @@ fn answers(folder: &Path) -> Theorems {
         }
         let call = format!("readBackAnswer (expand {}) {}", list(&image), before(room));
         t.add(call, answer(&v[2], &v[3], &lent(singles(bytes(&v[4]).into_iter().map(u64::from)), room)));
+    }
+    let small = old_images(folder).into_iter().filter(|(_, image)| word(image, 1) <= IMAGE_STATES);
+    for (_, image) in small.take(SIX_SECTIONS) {
+        t.add(format!("readBackAnswer (expand {}) {}", list(&image), before(9)), answer("6", "0", &lent(Runs::new(), 9)));
     }
     for (place, v) in vectors(folder, "match") {
         let (image, text, room) = (runs(&v[0]), bytes(&v[1]), v[2].parse::<usize>().unwrap());
@@ -191,15 +222,17 @@ fn answers(folder: &Path) -> Theorems {
     t
 }
 
-/// The first calls of each kind, one to a line: begin or step, by number, by whether there are bytes and ends; and one of each with an optional union.
+/// The first calls of each kind, one to a line: begin or step, by number, by whether there are bytes and ends; and one of each with an optional union and
+/// one with a repeated group.
 fn watched(folder: &Path) -> Theorems {
     let (mut t, mut seen) = (Theorems::of(WATCHES), HashMap::<_, Vec<String>>::new());
     for (place, image, calls) in watches(folder, &|_| BEFORE) {
-        let (left_out, optional) = (left_out(&place, &image), has_optional_union(&image));
+        let (left_out, mark) = (left_out(&place, &image), newest_mark(&image).unwrap_or(Mark::Unmarked));
+        let enough = if mark == Mark::Unmarked { EACH } else { 1 };
         for WatchCall { lent: given, stretch, room, number, total, ends, after } in calls {
             let bytes = stretch.as_ref().map(Vec::len);
-            let alike = seen.entry((bytes.is_some(), number, bytes > Some(0), total > 0, optional)).or_default();
-            if left_out || bytes > Some(BYTES) || alike.len() == if optional { 1 } else { EACH } || alike.contains(&place) {
+            let alike = seen.entry((bytes.is_some(), number, bytes > Some(0), total > 0, mark)).or_default();
+            if left_out || bytes > Some(BYTES) || alike.len() == enough || alike.contains(&place) {
                 t.left_out += 1;
                 continue;
             }
@@ -219,12 +252,14 @@ fn watched(folder: &Path) -> Theorems {
     t
 }
 
-/// The first calls of each kind: check by number and yes, propose by number and whether there are states. Of a proposal the states are free.
+/// The first calls of each kind: check by number and yes, propose by number and whether there are states; and one of each with an optional union and one
+/// with a repeated group. Of a proposal the states are free.
 fn spelled(folder: &Path) -> Theorems {
     let (mut t, mut seen) = (Theorems::of(SPELLINGS), HashMap::new());
     let mut add = |kind: &str, place: &str, image: Runs, text: Vec<u8>, given: String, number: u64, count: u64| {
-        let alike = seen.entry((kind.to_string(), number, count > 0)).or_insert(0);
-        if left_out(place, &image) || text.len() > BYTES || *alike == SPELLED {
+        let mark = newest_mark(&image).unwrap_or(Mark::Unmarked);
+        let (alike, enough) = (seen.entry((kind.to_string(), number, count > 0, mark)).or_insert(0), if mark == Mark::Unmarked { SPELLED } else { 1 });
+        if left_out(place, &image) || text.len() > BYTES || *alike == enough {
             t.left_out += 1;
             return;
         }

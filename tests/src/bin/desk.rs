@@ -82,7 +82,6 @@ fn optional_groups(checks: &mut Checks) {
         ("start(flush|(drain)?)?stop", "start(flush|(drain)?)stop\ntotal 3\n9\n23\n51\n"),
         ("start((flush)?(rinse)?)?stop", "start(flush)?(rinse)?stop\ntotal 3\n9\n23\n37\n"),
         ("(stop)?", "(stop)?\ntotal 52\n0\n1\n2\n"),
-        ("(flush|drain)*", "refused 2\n"),
         ("(flush|drain)??", "refused 2\n"),
     ];
     for (rule, begins) in groups {
@@ -90,6 +89,30 @@ fn optional_groups(checks: &mut Checks) {
     }
     let nine_deep = (0..9).fold("a".to_string(), |inner, _| format!("({inner}b)?"));
     checks.beside("nine optional groups in one another", &File::of(nine_deep), &journal, "refused 4\n");
+}
+
+/// Left out, once and more often round; written with the body that it has, and a first round before it for `+`; and what is refused.
+fn repeated_groups(checks: &mut Checks) {
+    let journal = File::of("startstopstartflushflushstopstartflushdrainstopstartrinsestop");
+    let groups = [
+        ("start(flush|drain)*stop", "start((flush|drain))*stop\ntotal 3\n9\n28\n47\n"),
+        ("start(flush)*stop", "start(flush)*stop\ntotal 2\n9\n28\n"),
+        ("start(flush|drain)+stop", "start(flush|drain)((flush|drain))*stop\ntotal 2\n28\n47\n"),
+        ("start(flush(drain)*)+stop", "startflush(drain)*(flush(drain)*)*stop\ntotal 2\n28\n47\n"),
+        ("start((flush)*(drain)*)?stop", "start(flush)*(drain)*stop\ntotal 3\n9\n28\n47\n"),
+        ("(stop)*", "(stop)*\ntotal 62\n0\n1\n2\n"),
+        ("(flush|drain){2}", "refused 2\n"),
+        ("(flush|drain)**", "refused 2\n"),
+    ];
+    for (rule, begins) in groups {
+        checks.beside("a repeated group", &File::of(rule), &journal, begins);
+    }
+    let nested = |count: usize, sign: &str| File::of("(".repeat(count) + "a" + &format!("){sign}").repeat(count));
+    checks.beside("eight repeated groups in one another", &nested(8, "*"), &journal, "((((((((a)*)*)*)*)*)*)*)*\ntotal 62\n");
+    checks.beside("nine", &nested(9, "*"), &journal, "refused 4\n");
+    checks.beside("seven doubled", &nested(7, "+"), &journal, "a(a)*(a(a)*)*(a(a)*(a(a)*)*)*");
+    checks.beside("eight doubled", &nested(8, "+"), &journal, "refused 3\n");
+    checks.beside("three hundred doubled", &nested(300, "+"), &journal, "refused 3\n");
 }
 
 /// A rule whose plain writing is just so long: a class many times, and letters.
@@ -165,6 +188,7 @@ fn main() {
     checks.part("faults planted in copies of an answer", faults);
     checks.part("files", files);
     checks.part("optional groups", optional_groups);
+    checks.part("repeated groups", repeated_groups);
     checks.part("limits", limits);
     checks.part("rules and journals from seeds", seeds);
     checks.end();

@@ -4,7 +4,7 @@
 #[path = "../programs.rs"]
 mod programs;
 
-use outside_checks::independent::{build, ends, latest_starts, parse, Checker, Proposal};
+use outside_checks::independent::{build, ends, latest_starts, parse, Checker, Proposal, LONGEST_IMAGE};
 use outside_checks::texts::text;
 use programs::{generated, start, Checks, File};
 use std::io::Write;
@@ -123,6 +123,16 @@ fn optional_groups(checks: &mut Checks) {
     checks.says("a group left in its middle", &File::of("(ab)?"), &File::of("ab"), "start 0\nend 1\n1 a state 2\n", "no\n");
 }
 
+/// Left out, once and more often round; one in another; the whole rule; and records round a cycle, and broken off in it.
+fn repeated_groups(checks: &mut Checks) {
+    every_place(checks, "a repeated group", b"O(flush|drain)*C", b"OCOflushdrainCOrinseC", &[2, 14]);
+    every_place(checks, "one in another", b"x((a)*b)+y", b"xyxbyxabbyxay", &[5, 10]);
+    every_place(checks, "the whole rule", b"(ab)*", b"abab", &[0, 1, 2, 3, 4]);
+    let (rule, journal) = (File::of("(ab)*"), File::of("abab"));
+    checks.says("two rounds", &rule, &journal, "start 0\nend 4\n1 a state 2\n2 b state 3\n3 a state 2\n4 b state 3\n", "yes\n");
+    checks.says("a round and a half", &rule, &journal, "start 0\nend 3\n1 a state 2\n2 b state 3\n3 a state 2\n", "no\n");
+}
+
 /// The valve's states are determined: the record is the shipped one, and any other state is wrong.
 fn valve(checks: &mut Checks, folder: &Path) {
     let [rule, journal, record] = ["rule", "journal", "record"].map(|name| std::fs::read(folder.join("valve").join(name)).expect("the valve's files"));
@@ -187,7 +197,7 @@ fn unreadable(checks: &mut Checks) {
 /// The longest journal and the longest lines.
 fn limits(checks: &mut Checks) {
     let journal = [&[1][..], &[0; 65533], &[2]].concat();
-    for rule in ["\\x01\\x00*\\x02".to_string(), format!("(b{{505}}|\\x01\\x00*\\x02)")] {
+    for rule in ["\\x01\\x00*\\x02".to_string(), format!("(b{{505}}|\\x01\\x00*\\x02)"), "\\x01(a|(\\x00)*)*\\x02".to_string()] {
         let (rule, file) = (File::of(rule), File::of(&journal[..]));
         let record = checks.answer(&rule, &file, "place 65535\n");
         checks.note("a record of 65,537 lines", record.lines().count() == 65537 && taken_apart(&journal, &record).is_some());
@@ -204,7 +214,7 @@ fn seeds(checks: &mut Checks) {
     for seed in (0..300).step_by(3) {
         let (mut r, rule) = generated(seed);
         let Some(tree) = parse(&rule) else { continue };
-        if build(&rule, 4705).0 > 0 {
+        if build(&rule, LONGEST_IMAGE).0 > 0 {
             continue;
         }
         let most = [3, 40, 400][r.below(3)];
@@ -233,6 +243,7 @@ fn main() {
     checks.part("shipped examples", |c| examples(c, Path::new(shipped)));
     checks.part("the valve's record", |c| valve(c, Path::new(shipped)));
     checks.part("optional groups", optional_groups);
+    checks.part("repeated groups", repeated_groups);
     checks.part("refusals", refusals);
     checks.part("unreadable requests", unreadable);
     checks.part("limits", limits);

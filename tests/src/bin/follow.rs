@@ -6,7 +6,7 @@
 mod programs;
 
 use outside_checks::generate::Random;
-use outside_checks::independent::{build, ends, parse};
+use outside_checks::independent::{build, ends, parse, LONGEST_IMAGE};
 use outside_checks::texts::{cut, text};
 use programs::{generated, start, Checks, File};
 use std::io::{BufRead, BufReader, Write};
@@ -71,7 +71,7 @@ impl Running {
 
 /// What is to be written: "each end's place on a line", and the total; or a refusal of the rule.
 fn expected(rule: &[u8], journal: &[u8]) -> Vec<String> {
-    match (build(rule, 4705).0, parse(rule)) {
+    match (build(rule, LONGEST_IMAGE).0, parse(rule)) {
         (0, Some(tree)) => {
             let places = ends(&tree, journal);
             places.iter().map(|place| place.to_string()).chain([format!("total {}", places.len())]).collect()
@@ -145,6 +145,8 @@ fn open_pipes(checks: &mut Checks) {
     checks.at_once("place 0", b"b?", b"ab");
     checks.at_once("place 0 of an optional group", b"(ab)?", b"ab");
     checks.at_once("an optional group", b"O(flush|drain)?C", b"OCOflushCOrinseCOdrainC");
+    checks.at_once("place 0 of a repeated group", b"(ab)*", b"abab");
+    checks.at_once("a repeated group", b"O(flush|drain)*C", b"OCOflushdrainflushCOrinseCOdrainC");
     for seed in 0..40 {
         let (mut r, rule) = generated(seed);
         let length = r.between(1, 60);
@@ -170,7 +172,7 @@ fn refusals(checks: &mut Checks) {
         (File::Folder, 2),
         (File::of(""), 2),
         (File::of("a\n"), 2),
-        (File::of("(flush|drain)*"), 2),
+        (File::of("(flush|drain){2}"), 2),
         (File::of("a{512}"), 3),
         (File::of(nine_deep), 4),
     ];
@@ -203,7 +205,7 @@ fn limits(checks: &mut Checks) {
 }
 
 fn long_journals(checks: &mut Checks) {
-    for (seed, rule) in ["ba*|a{7}", "a(b?|c)d", "[ab]{70}(c|d)e*", "a((bc|d)?e)?f"].into_iter().enumerate() {
+    for (seed, rule) in ["ba*|a{7}", "a(b?|c)d", "[ab]{70}(c|d)e*", "a((bc|d)?e)?f", "a((bc|d)*e)*f"].into_iter().enumerate() {
         let mut r = Random::new(seed as u64);
         let tree = parse(rule.as_bytes()).expect("a rule");
         let journal = text(&mut r, &tree, 400_000);

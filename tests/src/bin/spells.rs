@@ -12,12 +12,19 @@ fn nested(depth: usize, letter: &str) -> String {
     (0..depth).fold(letter.to_string(), |inner, _| format!("({inner}|{letter})"))
 }
 
+/// Repeated groups nested eight deep.
+fn cycles() -> String {
+    "(".repeat(8) + "a" + &")*".repeat(8)
+}
+
 /// Rules of 512 states that are spelled by `b`, any number of `a` and `c`.
 fn rules() -> Vec<(&'static str, String)> {
     vec![
         ("stars", format!("b{}c", ".*".repeat(509))),
         ("options", format!("b{}a*c", "a?".repeat(508))),
         ("unions", format!("b{}{}c", nested(8, "a*").repeat(15), "a*".repeat(14))),
+        ("cycles", format!("b{}{}c", cycles().repeat(29), "a*".repeat(16))),
+        ("round", "b(a{,507})*c".to_string()),
         ("sparse", "(b.*c|x{505})".to_string()),
     ]
 }

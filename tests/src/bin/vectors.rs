@@ -3,7 +3,7 @@
 use outside_checks::independent::{begin, build, check, desk, match_ends, propose, read_back, step};
 use outside_checks::spellings::{checks, proposals};
 use outside_checks::watches::watches;
-use outside_checks::{amended, bytes, expand, file, places, runs, vectors};
+use outside_checks::{amended, bytes, expand, file, lines, old_images, places, runs, vectors};
 use std::path::Path;
 
 fn main() {
@@ -15,6 +15,18 @@ fn main() {
     println!("vectors: {begins} begins and {steps} steps of a watch agree with it");
     let [checks, proposals] = spelled(folder);
     println!("vectors: {checks} checks and {proposals} proposals of spellings agree with it");
+    println!("vectors: {} images of six sections, taken before Wish 12, get 6 as they stand", refused(folder));
+    let more = vectors(folder, "build").len() - lines(folder, "build").len();
+    println!("vectors: {more} builds from before it had room for six sections alone, and were made in their room and in more");
+}
+
+/// How many images of six sections there are, which are all refused.
+fn refused(folder: &Path) -> usize {
+    let images = old_images(folder);
+    for (place, image) in &images {
+        assert_eq!(read_back(&expand(image), usize::MAX), (6, Vec::new()), "{place}");
+    }
+    images.len()
 }
 
 /// How many calls of the three operations and of the desk program agree.

@@ -1,6 +1,6 @@
 //! The three operations with document 01's numbers, and the desk program.
 
-use super::{depth, ends, image, parse, states, tree_of, writing};
+use super::{depth, ends, image, parse, states, tree_of, writing, LONGEST_IMAGE, MOST_DEPTH, MOST_STATES};
 
 /// Build with so many words lent: document 01's number, and the image (none after a refusal).
 pub fn build(rule: &[u8], room: usize) -> (u64, Vec<u64>) {
@@ -8,10 +8,10 @@ pub fn build(rule: &[u8], room: usize) -> (u64, Vec<u64>) {
         return (1, Vec::new());
     }
     let Some(tree) = parse(rule) else { return (2, Vec::new()) };
-    if states(&tree) > 512 {
+    if states(&tree) > MOST_STATES {
         return (3, Vec::new());
     }
-    if depth(&tree) > 8 {
+    if depth(&tree) > MOST_DEPTH {
         return (4, Vec::new());
     }
     let words = image(&tree);
@@ -42,7 +42,7 @@ pub fn match_ends(words: &[u64], text: &[u8]) -> (u64, Vec<u32>) {
 /// What the desk program writes for the contents of its two files.
 pub fn desk(rule: &[u8], journal: &[u8]) -> Vec<u8> {
     let refused = |number| format!("refused {number}\n").into_bytes();
-    let (number, image) = build(rule, 4705);
+    let (number, image) = build(rule, LONGEST_IMAGE);
     if number != 0 {
         return refused(number);
     }

@@ -29,7 +29,7 @@ impl<'a> Edges<'a> {
                 edges.free[*end].push(union.end);
             }
         }
-        for (_, (from, to)) in parts.propagate() {
+        for (_, (from, to)) in parts.propagate().into_iter().chain(parts.back()) {
             edges.free[from].push(to);
         }
         edges

@@ -1,12 +1,12 @@
 //! Ends by backtracking: from every place of the text a search tries each way to spell the rule, and notes where the whole of it is spelled.
 
-use super::{Class, Item, Repeat};
+use super::{Class, Item, Mark, Repeat};
 
 /// Where a search stands in the tree.
 enum Point<'a> {
     /// a letter, and where the search goes on after it
     Letter(&'a Class, Repeat, usize),
-    /// a union: where its alternatives begin, and where the search goes on if it is left out
+    /// a union: where its alternatives begin, and where the search goes on if it is left out, or after its last round
     Choice(Vec<usize>),
     /// the whole rule is spelled
     Spelled,
@@ -15,15 +15,18 @@ enum Point<'a> {
 /// The points of a sequence that goes on at `next`; where it begins.
 fn lay<'a>(sequence: &'a [Item], mut next: usize, points: &mut Vec<Point<'a>>) -> usize {
     for item in sequence.iter().rev() {
-        let point = match item {
-            Item::Letter(class, repeat) => Point::Letter(class, *repeat, next),
+        let here = points.len();
+        match item {
+            Item::Letter(class, repeat) => points.push(Point::Letter(class, *repeat, next)),
             Item::Union(mark, alternatives) => {
-                let begins = alternatives.iter().map(|a| lay(a, next, points));
-                Point::Choice(begins.chain(mark.skips().then_some(next)).collect())
+                points.push(Point::Choice(Vec::new()));
+                // after a round of a repeated group the choice is there again
+                let after = if *mark == Mark::Repeated { here } else { next };
+                let begins = alternatives.iter().map(|a| lay(a, after, points));
+                points[here] = Point::Choice(begins.chain(mark.skips().then_some(next)).collect());
             }
-        };
-        points.push(point);
-        next = points.len() - 1;
+        }
+        next = here;
     }
     next
 }

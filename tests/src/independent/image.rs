@@ -1,15 +1,16 @@
 //! The image of a tree, and the tree whose image words are.
 
 use super::states::{can_be_empty, depth, states, Letter, Parts, Union};
-use super::{Class, Item, Mark, Repeat, Sequence};
+use super::{Class, Item, Mark, Repeat, Sequence, MOST_DEPTH, MOST_STATES};
 
-/// The sets that the masks hold, as lists of states: for each byte, and block, source and target for each depth.
+/// The sets that the masks hold, as lists of states: for each byte; block, source and target for each depth; of back edges source and target alone.
 struct Sets {
     letters: Vec<Vec<usize>>,
     repeats: Vec<Vec<usize>>,
     scatter: Vec<[Vec<usize>; 3]>,
     gather: Vec<[Vec<usize>; 3]>,
     propagate: Vec<[Vec<usize>; 3]>,
+    back: Vec<[Vec<usize>; 2]>,
 }
 
 impl Sets {
@@ -20,12 +21,17 @@ impl Sets {
             scatter: vec![Default::default(); d],
             gather: vec![Default::default(); d],
             propagate: Vec::new(),
+            back: vec![Default::default(); d],
         };
         parts.letters.iter().for_each(|letter| sets.put_letter(letter));
         parts.unions.iter().for_each(|union| sets.put_union(union));
         let edges = parts.propagate();
         let at = |k: usize| edges.iter().filter(|e| e.0 == k).map(|e| e.1).collect::<Vec<_>>();
         sets.propagate = (0..=d).map(|k| chains(&at(k))).collect();
+        for (k, (from, to)) in parts.back() {
+            sets.back[k][0].push(from);
+            sets.back[k][1].push(to);
+        }
         sets
     }
 
@@ -63,14 +69,14 @@ pub fn image(sequence: &[Item]) -> Vec<u64> {
         }
         words
     };
-    let threes = |sets: &[[Vec<usize>; 3]]| sets.iter().flat_map(|s| rows(s)).collect::<Vec<u64>>();
     let sections = [
         vec![m as u64, width as u64, d as u64],
         rows(&sets.letters),
         rows(&sets.repeats),
-        threes(&sets.scatter),
-        threes(&sets.gather),
-        threes(&sets.propagate),
+        rows(&sets.scatter.concat()),
+        rows(&sets.gather.concat()),
+        rows(&sets.propagate.concat()),
+        rows(&sets.back.concat()),
     ];
     sections.iter().flat_map(|s| std::iter::once(s.len() as u64).chain(s.iter().copied())).collect()
 }
@@ -94,7 +100,7 @@ fn chains(edges: &[(usize, usize)]) -> [Vec<usize>; 3] {
 /// The tree, found from the masks' bits and then laid out again and compared.
 pub fn tree_of(words: &[u64]) -> Option<Sequence> {
     let (m, width, d) = (*words.get(1)? as usize, *words.get(2)? as usize, *words.get(3)? as usize);
-    if !(2..=512).contains(&m) || width != m.div_ceil(64) || d > 8 || words.len() != 9 + width * (515 + 9 * d) {
+    if !(2..=MOST_STATES).contains(&m) || width != m.div_ceil(64) || d > MOST_DEPTH || words.len() != 10 + width * (515 + 11 * d) {
         return None;
     }
     let bit = |at: usize, state: usize| words[at + state / 64] >> (state % 64) & 1 == 1;
@@ -102,6 +108,7 @@ pub fn tree_of(words: &[u64]) -> Option<Sequence> {
     let scatter = 7 + 512 * width;
     let gather = scatter + 1 + 3 * width * d;
     let propagate = gather + 1 + 3 * width * d;
+    let back = propagate + 1 + 3 * width * (d + 1);
     // A propagate edge comes into each state of a chain but the first.
     let skipped = |state: usize| (0..=d).any(|k| bit(propagate + 3 * k * width, state) && !bit(propagate + (3 * k + 1) * width, state));
     let mut open: Vec<(Vec<Sequence>, Sequence)> = Vec::new();
@@ -114,8 +121,14 @@ pub fn tree_of(words: &[u64]) -> Option<Sequence> {
         } else if (0..d).any(|k| bit(gather + (3 * k + 2) * width, state)) {
             let (mut alternatives, outside) = open.pop()?;
             alternatives.push(std::mem::replace(&mut here, outside));
-            let optional = skipped(state) && !alternatives.iter().any(|a| can_be_empty(a));
-            here.push(Item::Union(if optional { Mark::Optional } else { Mark::Unmarked }, alternatives));
+            let mark = if (0..d).any(|k| bit(back + 2 * k * width, state - 1)) {
+                Mark::Repeated
+            } else if skipped(state) && !alternatives.iter().any(|a| can_be_empty(a)) {
+                Mark::Optional
+            } else {
+                Mark::Unmarked
+            };
+            here.push(Item::Union(mark, alternatives));
         } else if (0..d).any(|k| bit(scatter + (3 * k + 1) * width, state - 1)) {
             open.push((Vec::new(), std::mem::take(&mut here)));
         } else {
@@ -125,11 +138,19 @@ pub fn tree_of(words: &[u64]) -> Option<Sequence> {
     (open.is_empty() && good(&here) && image(&here) == words).then_some(here)
 }
 
-/// Whether a rule can have this tree, whose marks stand only where no alternative can be empty: brackets round one alternative stay only with a mark.
+/// Whether a rule can have this tree, in which no optional union can be empty without its mark: brackets round one alternative stay only with a mark,
+/// and a repeated group has one body.
 fn good(sequence: &[Item]) -> bool {
     let fine = |item: &Item| match item {
         Item::Letter(..) => true,
-        Item::Union(mark, alternatives) => (alternatives.len() > 1 || *mark == Mark::Optional) && alternatives.iter().all(|a| good(a)),
+        Item::Union(mark, alternatives) => {
+            let count = match mark {
+                Mark::Unmarked => alternatives.len() > 1,
+                Mark::Optional => true,
+                Mark::Repeated => alternatives.len() == 1,
+            };
+            count && alternatives.iter().all(|a| good(a))
+        }
     };
     !sequence.is_empty() && sequence.iter().all(fine)
 }

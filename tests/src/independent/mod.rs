@@ -18,7 +18,7 @@ pub use ends::ends;
 pub use image::{image, tree_of};
 pub use rules::parse;
 pub use spelling::{check, latest_starts, propose, proposed, Checker, Proposal, Starts};
-pub use states::{can_be_empty, depth, optional_unions, states};
+pub use states::{can_be_empty, depth, marked, states};
 pub use watch::{begin, step, Watch, LAST_PLACE};
 pub use writing::writing;
 
@@ -49,17 +49,18 @@ impl Repeat {
 }
 
 /// The sign that a group keeps in the tree.
-#[derive(Clone, Copy, PartialEq, Eq, Debug)]
+#[derive(Clone, Copy, PartialEq, Eq, Hash, Debug)]
 pub enum Mark {
     Unmarked,
     Optional,
+    Repeated,
 }
 
 impl Mark {
     pub fn skips(self) -> bool {
         match self {
             Mark::Unmarked => false,
-            Mark::Optional => true,
+            Mark::Optional | Mark::Repeated => true,
         }
     }
 }
@@ -79,6 +80,7 @@ impl Class {
     }
 }
 
+/// A repeated group is a union whose one alternative is its body.
 #[derive(Clone, PartialEq, Eq, Debug)]
 pub enum Item {
     Letter(Class, Repeat),
@@ -86,6 +88,13 @@ pub enum Item {
 }
 
 pub type Sequence = Vec<Item>;
+
+/// The most states that a tree may have, and the most depths below its own.
+pub const MOST_STATES: usize = 512;
+pub const MOST_DEPTH: usize = 8;
+
+/// The length of the longest image.
+pub const LONGEST_IMAGE: usize = 4834;
 
 const SIGNS: &[u8] = b"\\|()[]{}?*+.";
 

@@ -1,29 +1,48 @@
 //! Reading a rule.
 
-use super::states::can_be_empty;
-use super::{is_plain, Class, Item, Mark, Repeat, Sequence, SIGNS};
+use super::states::{can_be_empty, states};
+use super::{is_plain, Class, Item, Mark, Repeat, Sequence, MOST_STATES, SIGNS};
 
 struct Parser<'a> {
     rule: &'a [u8],
     at: usize,
 }
 
-/// The tree of a rule, if the bytes are one.
+/// The tree of a rule, if the bytes are one. A tree of more than 512 states may lack some that `+` asks for, but is left with more than 512.
 pub fn parse(rule: &[u8]) -> Option<Sequence> {
     let mut parser = Parser { rule, at: 0 };
     let alternatives = parser.alternatives()?;
-    (parser.at == rule.len()).then(|| group(alternatives, Mark::Unmarked))
+    (parser.at == rule.len()).then(|| bracketed(alternatives))
 }
 
-/// What bracketed alternatives add to the sequence outside. A mark on a group that can already be empty is dropped first, so that brackets round one
-/// alternative vanish there too.
-fn group(mut alternatives: Vec<Sequence>, mark: Mark) -> Sequence {
-    let mark = if alternatives.iter().any(|a| can_be_empty(a)) { Mark::Unmarked } else { mark };
-    if alternatives.len() == 1 && mark == Mark::Unmarked {
+/// What bracketed alternatives add to the sequence outside: brackets round one vanish.
+fn bracketed(mut alternatives: Vec<Sequence>) -> Sequence {
+    if alternatives.len() == 1 {
         alternatives.pop().unwrap()
     } else {
-        vec![Item::Union(mark, alternatives)]
+        vec![Item::Union(Mark::Unmarked, alternatives)]
     }
+}
+
+/// A `?` on a group that can already be empty is dropped.
+fn optional(alternatives: Vec<Sequence>) -> Sequence {
+    if alternatives.iter().any(|a| can_be_empty(a)) {
+        bracketed(alternatives)
+    } else {
+        vec![Item::Union(Mark::Optional, alternatives)]
+    }
+}
+
+fn cycle(body: Sequence) -> Item {
+    Item::Union(Mark::Repeated, vec![body])
+}
+
+/// The group, and then a cycle of it. Each `+` round another doubles the states, so a group that alone has too many is not copied.
+fn at_least_once(mut group: Sequence) -> Sequence {
+    if states(&group) <= MOST_STATES {
+        group.push(cycle(group.clone()));
+    }
+    group
 }
 
 impl Parser<'_> {
@@ -59,8 +78,7 @@ impl Parser<'_> {
                 if !self.take(b')') {
                     return None;
                 }
-                let mark = if self.take(b'?') { Mark::Optional } else { Mark::Unmarked };
-                items.extend(group(inner, mark));
+                items.extend(self.group(inner));
             } else {
                 let class = self.letter()?;
                 self.repeated(class, &mut items)?;
@@ -68,6 +86,19 @@ impl Parser<'_> {
             if matches!(self.peek(), None | Some(b'|' | b')')) {
                 return Some(items);
             }
+        }
+    }
+
+    /// A group's alternatives, with the sign that comes after them.
+    fn group(&mut self, alternatives: Vec<Sequence>) -> Sequence {
+        if self.take(b'?') {
+            optional(alternatives)
+        } else if self.take(b'*') {
+            vec![cycle(bracketed(alternatives))]
+        } else if self.take(b'+') {
+            at_least_once(bracketed(alternatives))
+        } else {
+            bracketed(alternatives)
         }
     }
 

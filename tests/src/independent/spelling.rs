@@ -2,7 +2,8 @@
 //! the tree, where there are no states at all.
 
 use super::edges::Edges;
-use super::{tree_of, Item};
+use super::{tree_of, Class, Item, Mark};
+use std::collections::BTreeMap;
 
 /// What any tool may propose: a start, an end, and for each byte between them the state that it enters.
 #[derive(Clone, PartialEq, Eq, Debug)]
@@ -45,34 +46,78 @@ impl<'a> Checker<'a> {
     }
 }
 
-/// The latest start for each place, if any, from which what came before is spelled up to there.
-pub type Starts = Vec<Option<usize>>;
+/// The places up to which something is spelled, rising, each with the latest start from which it is.
+type Spelled = Vec<(usize, usize)>;
 
-/// The same once an item comes after what came before: at each place the later of the ways to get there.
-fn after_item(item: &Item, text: &[u8], before: &Starts) -> Starts {
-    let (class, repeat) = match item {
-        Item::Letter(class, repeat) => (class, *repeat),
-        Item::Union(mark, alternatives) => {
-            let left_out = mark.skips().then(|| before.clone());
-            let all = alternatives.iter().map(|a| after(a, text, before.clone())).chain(left_out);
-            return all.reduce(|one, other| one.into_iter().zip(other).map(|(a, b)| a.max(b)).collect()).expect("an alternative");
-        }
-    };
-    let mut starts: Starts = if repeat.skips() { before.clone() } else { vec![None; before.len()] };
-    for at in (0..text.len()).filter(|at| class.0[text[*at] as usize]) {
-        let taken = if repeat.loops() { before[at].max(starts[at]) } else { before[at] };
-        starts[at + 1] = starts[at + 1].max(taken);
-    }
-    starts
+/// The places of both, each with the later start.
+fn joined(mut one: Spelled, other: Spelled) -> Spelled {
+    one.extend(other);
+    one.sort();
+    one.dedup_by(|later, kept| {
+        let same = later.0 == kept.0;
+        kept.1 = if same { later.1 } else { kept.1 };
+        same
+    });
+    one
 }
 
-fn after(sequence: &[Item], text: &[u8], before: Starts) -> Starts {
-    sequence.iter().fold(before, |starts, item| after_item(item, text, &starts))
+/// After one byte of a class.
+fn taken(class: &Class, text: &[u8], before: &Spelled) -> Spelled {
+    let takes = |place: usize| text.get(place).is_some_and(|byte| class.0[*byte as usize]);
+    before.iter().filter(|(place, _)| takes(*place)).map(|(place, start)| (place + 1, *start)).collect()
+}
+
+/// After one byte of a class or more: from each place on up to the next, and past it with the later of the two starts.
+fn taken_on(class: &Class, text: &[u8], before: &Spelled) -> Spelled {
+    let (mut after, mut carried) = (Spelled::new(), 0);
+    for (i, (place, start)) in before.iter().enumerate() {
+        let next = before.get(i + 1).map_or(text.len(), |(next, _)| *next);
+        let (start, count) = (carried.max(*start), text[*place..next].iter().take_while(|byte| class.0[**byte as usize]).count());
+        after.extend((1..=count).map(|n| (place + n, start)));
+        carried = if place + count == next { start } else { 0 };
+    }
+    after
+}
+
+/// After any number of rounds of a body. Each round goes on from the places only that the last one reached from a later start than all before it, so
+/// that a body which can be empty comes to an end.
+fn after_rounds(body: &[Item], text: &[u8], before: Spelled) -> Spelled {
+    let mut latest: BTreeMap<usize, usize> = before.iter().copied().collect();
+    let mut newer = before;
+    while !newer.is_empty() {
+        newer = after(body, text, newer);
+        newer.retain(|(place, start)| latest.get(place).is_none_or(|known| known < start));
+        latest.extend(newer.iter().copied());
+    }
+    latest.into_iter().collect()
+}
+
+fn after_item(item: &Item, text: &[u8], before: Spelled) -> Spelled {
+    match item {
+        Item::Letter(class, repeat) => {
+            let taken = if repeat.loops() { taken_on(class, text, &before) } else { taken(class, text, &before) };
+            if repeat.skips() { joined(before, taken) } else { taken }
+        }
+        Item::Union(Mark::Repeated, bodies) => after_rounds(&bodies[0], text, before),
+        Item::Union(mark, alternatives) => {
+            let left_out = if mark.skips() { before.clone() } else { Spelled::new() };
+            alternatives.iter().fold(left_out, |all, a| joined(all, after(a, text, before.clone())))
+        }
+    }
+}
+
+fn after(sequence: &[Item], text: &[u8], before: Spelled) -> Spelled {
+    sequence.iter().fold(before, |spelled, item| after_item(item, text, spelled))
 }
 
 /// For each place of a text the largest start with a spelled stretch from there to the place; none where the place is no end.
+pub type Starts = Vec<Option<usize>>;
+
 pub fn latest_starts(tree: &[Item], text: &[u8]) -> Starts {
-    after(tree, text, (0..=text.len()).map(Some).collect())
+    let mut starts = vec![None; text.len() + 1];
+    let spelled = after(tree, text, (0..=text.len()).map(|place| (place, place)).collect());
+    spelled.into_iter().for_each(|(place, start)| starts[place] = Some(start));
+    starts
 }
 
 /// Check: the number, and whether it is a yes.

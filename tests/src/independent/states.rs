@@ -31,13 +31,13 @@ pub fn can_be_empty(sequence: &[Item]) -> bool {
     })
 }
 
-/// How many alternatives each optional union of a tree has.
-pub fn optional_unions(tree: &[Item]) -> Vec<usize> {
-    let of = |item: &Item| match item {
-        Item::Letter(..) => Vec::new(),
+/// All unions of a tree with this mark: the alternatives of each.
+pub fn marked(tree: &[Item], wanted: Mark) -> Vec<&[Sequence]> {
+    let of = |item| match item {
+        &Item::Letter(..) => Vec::new(),
         Item::Union(mark, alternatives) => {
-            let here = (*mark == Mark::Optional).then_some(alternatives.len());
-            here.into_iter().chain(alternatives.iter().flat_map(|a| optional_unions(a))).collect()
+            let here = (*mark == wanted).then_some(&alternatives[..]);
+            here.into_iter().chain(alternatives.iter().flat_map(|a| marked(a, wanted))).collect()
         }
     };
     tree.iter().flat_map(of).collect()
@@ -57,6 +57,7 @@ pub struct Union {
     pub alternatives: Vec<(usize, usize)>,
     pub end: usize,
     pub depth: usize,
+    mark: Mark,
     can_be_empty: bool,
 }
 
@@ -97,7 +98,7 @@ impl<'a> Parts<'a> {
         }
         let end = state + 1;
         let can_be_empty = mark.skips() || sequences.iter().any(|s| can_be_empty(s));
-        self.unions.push(Union { start, alternatives, end, depth, can_be_empty });
+        self.unions.push(Union { start, alternatives, end, depth, mark, can_be_empty });
         end
     }
 
@@ -105,5 +106,11 @@ impl<'a> Parts<'a> {
     pub fn propagate(&self) -> Vec<(usize, (usize, usize))> {
         let letters = self.letters.iter().filter(|l| l.repeat.skips()).map(|l| (l.depth, (l.from, l.from + 1)));
         letters.chain(self.unions.iter().filter(|u| u.can_be_empty).map(|u| (u.depth, (u.start, u.end)))).collect()
+    }
+
+    /// The back edges, each with its depth: that of the group's start and end.
+    pub fn back(&self) -> Vec<(usize, (usize, usize))> {
+        let repeated = self.unions.iter().filter(|u| u.mark == Mark::Repeated);
+        repeated.flat_map(|u| u.alternatives.iter().map(|(start, end)| (u.depth, (*end, *start)))).collect()
     }
 }

@@ -58,6 +58,7 @@ pub fn writing(sequence: &[Item]) -> Vec<u8> {
                 match mark {
                     Mark::Unmarked => {}
                     Mark::Optional => out.push(b'?'),
+                    Mark::Repeated => out.push(b'*'),
                 }
             }
         }

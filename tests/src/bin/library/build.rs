@@ -2,10 +2,11 @@
 
 use crate::checks::{Checks, LONGEST};
 use crate::optional::{dropped, most, optionals};
+use crate::repeated::{cycles, groups};
 use crate::seen::Seen;
 use outside_checks::driver::{build_call, Answer};
 use outside_checks::generate::{broken, jumbled, long, nested, sized, small, Random, TELLING};
-use outside_checks::independent::{build, optional_unions, parse};
+use outside_checks::independent::{build, marked, parse, Mark};
 
 pub fn all(checks: &mut Checks) {
     checks.part("build: document 01's examples", examples);
@@ -47,13 +48,13 @@ pub fn refused(number: u64) -> Answer<u64> {
 
 fn examples(checks: &mut Checks) {
     let letters = (0..256).map(|byte| if byte == 97 { 2 } else { 0 });
-    let whole: Vec<u64> = [3, 2, 1, 0, 256].into_iter().chain(letters).chain([256]).chain([0; 256]).chain([0, 0, 3, 0, 0, 0]).collect();
-    assert_eq!(whole.len(), 524);
+    let whole: Vec<u64> = [3, 2, 1, 0, 256].into_iter().chain(letters).chain([256]).chain([0; 256]).chain([0, 0, 3, 0, 0, 0, 0]).collect();
+    assert_eq!(whole.len(), 525);
     checks.build("the image of a, whole", b"a", &Answer::of(0, &whole, 530));
-    checks.build("the image of a in just its room", b"a", &Answer::of(0, &whole, 524));
-    checks.build("room one word short", b"a", &Answer::of(5, &[], 523));
+    checks.build("the image of a in just its room", b"a", &Answer::of(0, &whole, 525));
+    checks.build("room one word short", b"a", &Answer::of(5, &[], 524));
 
-    for rule in [&b""[..], b"()", b"a||b", b"(a)*", b"[c-ab]", b"a{0}", b"a{3,}", b"a\n"] {
+    for rule in [&b""[..], b"()", b"a||b", b"[c-ab]", b"a{0}", b"a{3,}", b"a\n"] {
         checks.build("refused with 2", rule, &refused(2));
     }
 
@@ -105,8 +106,9 @@ fn limits(checks: &mut Checks) {
 /// Rules that nest as deep, or go on as long, as 1,024 bytes allow.
 fn stack(checks: &mut Checks) {
     let class = [vec![b'('; 1023], b"[".to_vec()].concat();
-    let rules = [vec![b'('; 1024], pairs(511, "ab"), dropped(341, "a"), optionals(255), class, vec![b'a'; 1024], longest(), most()];
-    checks.stack("build", 1 << 20, &rules.map(|rule| build_call(&rule, LONGEST)));
+    let brackets = [vec![b'('; 1024], pairs(511, "ab"), dropped(341, "a"), optionals(255), groups(341, b'*'), groups(341, b'+')];
+    let rules = [class, vec![b'a'; 1024], longest(), most(), cycles(), groups(7, b'+')];
+    checks.stack("build", 1 << 20, &brackets.into_iter().chain(rules).map(|rule| build_call(&rule, LONGEST)).collect::<Vec<_>>());
 }
 
 // ---- generated rules
@@ -114,9 +116,11 @@ fn stack(checks: &mut Checks) {
 fn every_byte(checks: &mut Checks) {
     for b in 0..=255 {
         let letters = [&[b][..], &[b'\\', b], &[b'a', b], &[b'[', b, b']'], &[b'[', b, b'-', b'~', b']'], &[b'a', b'{', b, b'}']];
-        let groups = [&[b'(', b'a', b')', b][..], &[b'(', b'a', b'?', b')', b], &[b'(', b'a', b')', b'?', b]];
-        for rule in letters.into_iter().chain(groups) {
+        for rule in letters {
             checks.build_beside("every byte", rule, 550);
+        }
+        for group in [&b"(a)"[..], b"(a?)", b"(a|b)", b"(a)?", b"(a)*", b"(a)+"] {
+            checks.build_beside("every byte after a group", &[group, &[b]].concat(), 550);
         }
     }
     for &first in TELLING {
@@ -127,7 +131,7 @@ fn every_byte(checks: &mut Checks) {
 }
 
 /// How many groups of a rule have a `?`. A bracket after `\` closes none.
-fn groups_with_sign(rule: &[u8]) -> usize {
+fn optional_groups(rule: &[u8]) -> usize {
     let (mut count, mut at) = (0, 0);
     while at < rule.len() {
         count += usize::from(rule[at..].starts_with(b")?"));
@@ -168,7 +172,7 @@ fn seeds(checks: &mut Checks) {
         (0..6).for_each(|n| seen.note(&format!("given {n}"), number == n));
         if number == 0 {
             let tree = parse(&rule).expect("a rule");
-            seen.note("with a `?` dropped", groups_with_sign(&rule) > optional_unions(&tree).len());
+            seen.note("with a `?` dropped", optional_groups(&rule) > marked(&tree, Mark::Optional).len());
             seen.tree(&tree);
         }
     }

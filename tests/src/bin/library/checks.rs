@@ -5,8 +5,7 @@ use outside_checks::driver::{Answer, Driver, Judged, Lent, Proposed, Reply, Watc
 use outside_checks::independent::{begin, build, check, match_ends, propose, read_back, step, Proposal, Watch};
 use outside_checks::watches::lent;
 
-/// The length of the longest image.
-pub const LONGEST: usize = 4705;
+pub use outside_checks::independent::LONGEST_IMAGE as LONGEST;
 
 /// What a begin is lent: so many words and a place, all in the driver's pattern.
 pub fn fresh(words: usize) -> Watch {

@@ -11,6 +11,7 @@ use outside_checks::texts::{cut, text};
 pub fn all(checks: &mut Checks) {
     checks.part("watch: document 01's examples in every cutting", examples);
     checks.part("watch: rules, texts and cuttings from seeds", seeds);
+    checks.part("watch: cycles cut in their middle", cycles);
     checks.part("watch: long stretches", long_stretches);
 }
 
@@ -122,6 +123,22 @@ fn seeds(checks: &mut Checks) {
         }
     }
     seen.tell(checks, "watched from seeds", 20);
+}
+
+/// Many rounds, whole and broken off, in stretches of every small length, of about a word's bits, and of any.
+fn cycles(checks: &mut Checks) {
+    let mut seen = Seen::default();
+    let rules = ["x(abc)*y", "x((ab)*c)*y", "x(a?b?c)*y", "(x(abc)+y)*z", "x(a|bc)*y", "x(((ab)+c)+x?)*y", "x(a{70}b)*y", "x((a{63}b)*c)*y"];
+    for (seed, rule) in (0..).zip(rules) {
+        let (mut r, tree) = (Random::new(seed), parse(rule.as_bytes()).expect("a rule"));
+        let Some(mut fed) = Fed::of(checks, &mut seen, rule.as_bytes(), &tree) else { continue };
+        let round: Vec<u8> = if states(&tree) > 64 { [&[b'a'; 70][..], b"b"].concat() } else { b"abc".to_vec() };
+        let rounds = |count: usize| [&b"x"[..], &round.repeat(count), b"y"].concat();
+        let text = [rounds(5), rounds(3)[..round.len()].to_vec(), rounds(2), text(&mut r, &tree, 60)].concat();
+        let even = (1..8).chain([63, 64, 65]).map(|length| text.chunks(length).collect());
+        fed.cuttings(&text, &even.chain([cut(&mut r, &text, 9), cut(&mut r, &text, 90)]).collect::<Vec<_>>());
+    }
+    seen.tell(checks, "cycles cut", 20);
 }
 
 fn long_stretches(checks: &mut Checks) {

@@ -1,7 +1,7 @@
 //! Damage of one image: what is left is refused with 6 by every call, or it is the image of another tree and each answers for that one.
 
 use crate::checks::{fresh, Checks};
-use crate::masks::{sections, Masks};
+use crate::masks::{sections, Masks, BACK};
 use outside_checks::generate::Random;
 use outside_checks::independent::{image, parse, writing, Item, Proposal, Watch};
 use outside_checks::texts::text;
@@ -108,6 +108,7 @@ impl Damage<'_> {
         self.attempt(&format!("cut to {cut} words"), &image[..cut]);
         self.attempt("without its first word", &image[1..]);
         self.attempt("cut to nothing", &[]);
+        self.attempt("without its seventh section", &image[..sections(&image)[6].start - 1]);
         for more in [vec![0], vec![image[length - 1]], vec![r.word()], vec![0; r.between(2, 600)], image.clone()] {
             self.attempt(&format!("lengthened by {} words", more.len()), &[&image[..], &more].concat());
         }
@@ -137,10 +138,9 @@ impl Damage<'_> {
         ];
         if d > 0 {
             all.push(("one depth less", masks.with_depth(d - 1)));
-            let (section, one) = (r.between(2, 4), r.below(d));
-            all.push(("two depths exchanged", masks.exchanged(section, one, masks.rows[section].len() / 3 - 1)));
+            all.push(("two depths exchanged", masks.exchanged(r.between(2, BACK), r.below(d))));
         }
-        for section in 0..5 {
+        for section in 0..=BACK {
             let rows = masks.rows[section].len();
             if rows > 0 {
                 all.push(("a state's bit flipped", masks.flipped(section, r.below(rows), r.below(m))));
@@ -151,6 +151,35 @@ impl Damage<'_> {
         }
         for (how, masks) in all {
             self.attempt(how, &masks.laid());
+        }
+    }
+
+    /// Every bit of the seventh section, its count among them.
+    pub fn back_section(&mut self) {
+        let back = sections(&self.image)[6].clone();
+        for place in back.start - 1..back.end {
+            (0..64).for_each(|bit| self.flipped(place, bit));
+        }
+    }
+
+    /// Whole back edges: put in round any states, and the image's own taken out and moved to other states and other depths.
+    pub fn moved_back_edges(&mut self, r: &mut Random) {
+        let masks = Masks::of(&self.image);
+        let (m, d) = (masks.states, masks.depth);
+        for _ in 0..if d > 0 { 12 } else { 0 } {
+            let (depth, from) = (r.below(d), r.between(1, m - 1));
+            let edge = (from, r.between(from.saturating_sub(6).max(1), from));
+            self.attempt(&format!("a back edge {edge:?} at depth {depth}"), &masks.with_back_edge(depth, edge).laid());
+        }
+        for (depth, edge) in masks.back_edges() {
+            let (without, (from, to)) = (masks.with_back_edge(depth, edge), edge);
+            self.attempt(&format!("without the back edge {edge:?} at depth {depth}"), &without.laid());
+            for other in (0..d).filter(|other| *other != depth) {
+                self.attempt(&format!("the back edge {edge:?} moved from depth {depth} to {other}"), &without.with_back_edge(other, edge).laid());
+            }
+            for moved in [(from - 1, to), (from, to + 1), (from, to - 1), ((from + 1).min(m - 1), to), (from - 1, to - 1), (to, from)] {
+                self.attempt(&format!("the back edge {edge:?} now {moved:?}"), &without.with_back_edge(depth, moved).laid());
+            }
         }
     }
 

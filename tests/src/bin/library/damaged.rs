@@ -4,15 +4,18 @@ use crate::build::{longest, unions};
 use crate::checks::Checks;
 use crate::damage::{Damage, Tally};
 use crate::masks::{sections, Masks};
+use crate::match_ends::seeded;
 use crate::optional::{most, optionals};
+use crate::repeated::{cycles, groups};
 use crate::seen::Seen;
 use outside_checks::driver::Answer;
-use outside_checks::generate::{nested, sized, small, Random};
-use outside_checks::independent::{depth, ends, image, parse, states, writing, Class, Item, Mark, Repeat, Sequence};
+use outside_checks::generate::{nested, other_mark, sized, small, Random};
+use outside_checks::independent::{depth, ends, image, marked, parse, states, writing, Class, Item, Mark, Repeat, Sequence};
 use outside_checks::texts::text;
 
 pub fn all(checks: &mut Checks) {
-    checks.part("damage: every bit of seven images", every_bit);
+    checks.part("damage: every bit of ten images", every_bit);
+    checks.part("damage: every bit of seventh sections, and back edges moved", back_sections);
     checks.part("damage: images of rules from seeds", seeds);
     checks.part("damage: images of trees that no rule has or past the limits", ill_formed);
     checks.part("damage: random words", random_words);
@@ -69,40 +72,37 @@ fn other_class(checks: &mut Checks, r: &mut Random, name: &str, tree: &Sequence)
     true
 }
 
-/// The marks of a tree's unions.
-fn marks(sequence: &mut Sequence) -> Vec<&mut Mark> {
-    let mut all = Vec::new();
-    for item in sequence {
-        if let Item::Union(mark, alternatives) = item {
-            all.push(mark);
-            all.extend(alternatives.iter_mut().flat_map(marks));
-        }
-    }
-    all
-}
-
-/// The tree with another mark on one of its unions, if it has any: another rule's, or one that no rule has, with its image or that of another tree.
-fn other_mark(r: &mut Random, tree: &Sequence) -> Option<Sequence> {
-    let mut other = tree.clone();
-    let mut all = marks(&mut other);
-    let at = r.below(all.len().max(1));
-    let mark = all.get_mut(at)?;
-    **mark = if **mark == Mark::Unmarked { Mark::Optional } else { Mark::Unmarked };
-    Some(other)
-}
-
 // ---- all images
 
-/// Of images without optional unions, and with some: of one alternative and of several, in one another, round a union, one after another.
+/// Of images without optional unions and repeated groups, and with some: of one alternative and of several, in one another, round a union, one after
+/// another.
 fn every_bit(checks: &mut Checks) {
     let mut tally = Tally::default();
-    for rule in ["a", "(a|b*)", "(a)?", "(a|b*c)?", "((a)?b+)?", "((a|b))?", "(a)?b?(c|d)?"] {
+    for rule in ["a", "(a|b*)", "(a)?", "(a|b*c)?", "((a)?b+)?", "((a|b))?", "(a)?b?(c|d)?", "(a)*", "((a|b))*", "((a)*b?)*(c)?"] {
         let mut damage = Damage::of(checks, &mut tally, rule.to_string(), &tree_of(rule.as_bytes()));
         for place in 0..damage.image.len() {
             (0..64).for_each(|bit| damage.flipped(place, bit));
         }
     }
     println!("library: one bit flipped: {} refused, {} read back as another tree", tally.refused, tally.other);
+}
+
+/// Of rules from seeds with a repeated group: small ones, deep ones, and a few of many words.
+fn back_sections(checks: &mut Checks) {
+    let (mut tally, mut seen) = (Tally::default(), Seen::default());
+    for seed in (0..160).chain(1700..1720).chain(2100..2106) {
+        let Some((mut r, rule, tree)) = seeded(seed) else { continue };
+        if marked(&tree, Mark::Repeated).is_empty() {
+            continue;
+        }
+        seen.tree(&tree);
+        let mut damage = Damage::of(checks, &mut tally, format!("seed {seed}, rule {}", rule.escape_ascii()), &tree);
+        damage.back_section();
+        damage.moved_back_edges(&mut r);
+    }
+    seen.add("refused", tally.refused);
+    seen.add("read back as another tree", tally.other);
+    seen.tell(checks, "seventh sections damaged", 1);
 }
 
 fn seeds(checks: &mut Checks) {
@@ -126,6 +126,7 @@ fn seeds(checks: &mut Checks) {
         seen.tree(&tree);
         let mut damage = Damage::of(checks, &mut tally, name.clone(), &tree);
         damage.every_kind(&mut r);
+        damage.moved_back_edges(&mut r);
         for _ in 0..4 {
             let other = other_mark(&mut r, &tree);
             seen.note("with another mark", other.is_some());
@@ -146,6 +147,7 @@ fn of_no_rule() -> Vec<(&'static str, Sequence)> {
     let none = || vec![Item::Letter(Class([false; 256]), Repeat::Once)];
     let union = |alternatives: &[Sequence]| vec![Item::Union(Mark::Unmarked, alternatives.to_vec())];
     let optional = |alternatives: &[Sequence]| vec![Item::Union(Mark::Optional, alternatives.to_vec())];
+    let repeated = |bodies: &[Sequence]| vec![Item::Union(Mark::Repeated, bodies.to_vec())];
     vec![
         ("no item", vec![]),
         ("a class of no byte", none()),
@@ -161,6 +163,14 @@ fn of_no_rule() -> Vec<(&'static str, Sequence)> {
         ("an optional union of one empty alternative", optional(&[vec![]])),
         ("an optional union with an empty alternative", optional(&[a(), vec![]])),
         ("a class of no byte in an optional union", optional(&[none()])),
+        ("a union of one repeated group", union(&[tree_of(b"(a)*")])),
+        ("an optional union of one repeated group", optional(&[tree_of(b"(a)*")])),
+        ("a repeated group of two bodies", repeated(&[a(), tree_of(b"b")])),
+        ("a repeated group of two bodies that can be empty", repeated(&[tree_of(b"a?"), tree_of(b"b*")])),
+        ("a repeated group of no item", repeated(&[vec![]])),
+        ("a repeated group of no item between letters", [a(), repeated(&[vec![]]), a()].concat()),
+        ("a repeated group of a union of one alternative", repeated(&[union(&[a()])])),
+        ("a class of no byte in a repeated group", repeated(&[none()])),
         ("an empty first alternative", union(&[vec![], a()])),
         ("an empty last alternative", union(&[a(), vec![]])),
         ("an empty alternative between two", union(&[a(), vec![], a()])),
@@ -181,6 +191,10 @@ fn past_limits() -> Vec<(&'static str, Sequence)> {
         ("depth 12", tree_of(&unions(12))),
         ("depth 9 of optional unions", tree_of(&optionals(9))),
         ("depth 170 of optional unions", tree_of(&optionals(170))),
+        ("513 states in a repeated group", tree_of(b"(a{510})*")),
+        ("513 states, 240 repeated groups", [tree_of(&cycles()), tree_of(b"a")].concat()),
+        ("depth 9 of repeated groups", tree_of(&groups(9, b'*'))),
+        ("depth 255 of repeated groups", tree_of(&groups(255, b'*'))),
     ]
 }
 

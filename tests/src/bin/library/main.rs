@@ -14,6 +14,7 @@ mod optional;
 mod outside;
 mod proposals;
 mod read_back;
+mod repeated;
 mod seen;
 mod spelled;
 mod spelling;
@@ -35,6 +36,7 @@ fn main() {
     build::all(&mut checks);
     read_back::all(&mut checks, Path::new(folder));
     optional::all(&mut checks);
+    repeated::all(&mut checks);
     match_ends::all(&mut checks, Path::new(folder));
     watch::all(&mut checks);
     cuttings::all(&mut checks);

@@ -10,7 +10,7 @@ pub fn sections(image: &[u64]) -> Vec<Range<usize>> {
         at = words.end;
         words
     };
-    (0..6).map(next).collect()
+    (0..7).map(next).collect()
 }
 
 /// An image's numbers and masks.
@@ -19,8 +19,16 @@ pub struct Masks {
     pub states: usize,
     pub width: usize,
     pub depth: usize,
-    /// letters, repeats, scatter, gather, propagate
+    /// letters, repeats, scatter, gather, propagate, back edges
     pub rows: Vec<Vec<Vec<u64>>>,
+}
+
+/// Where back edges stand among these rows.
+pub const BACK: usize = 5;
+
+/// How many rows a section has for each depth: block, source and target; of back edges source and target.
+fn each(section: usize) -> usize {
+    if section == BACK { 2 } else { 3 }
 }
 
 impl Masks {
@@ -34,7 +42,7 @@ impl Masks {
     pub fn empty(states: usize, depth: usize) -> Masks {
         let width = states.div_ceil(64);
         let bytes = vec![vec![0; width]; 256];
-        Masks { states, width, depth, rows: vec![bytes.clone(), bytes, vec![], vec![], vec![]] }.with_depth(depth)
+        Masks { states, width, depth, rows: vec![bytes.clone(), bytes, vec![], vec![], vec![], vec![]] }.with_depth(depth)
     }
 
     /// The words, with the counts and the length that these numbers ask.
@@ -62,17 +70,30 @@ impl Masks {
     /// With so many depths: further ones have empty masks.
     pub fn with_depth(&self, depth: usize) -> Masks {
         let mut masks = Masks { depth, ..self.clone() };
-        for (section, depths) in [(2, depth), (3, depth), (4, depth + 1)] {
-            masks.rows[section].resize(3 * depths, vec![0; self.width]);
+        for (section, depths) in [(2, depth), (3, depth), (4, depth + 1), (BACK, depth)] {
+            masks.rows[section].resize(each(section) * depths, vec![0; self.width]);
         }
         masks
     }
 
-    /// The masks of two depths exchanged in one section.
-    pub fn exchanged(&self, section: usize, one: usize, other: usize) -> Masks {
-        let mut masks = self.clone();
-        (0..3).for_each(|i| masks.rows[section].swap(3 * one + i, 3 * other + i));
+    /// The masks of a depth exchanged with those of the last in one section.
+    pub fn exchanged(&self, section: usize, depth: usize) -> Masks {
+        let (mut masks, each) = (self.clone(), each(section));
+        let rows = &mut masks.rows[section];
+        (0..each).for_each(|i| rows.swap(each * depth + i, self.rows[section].len() - each + i));
         masks
+    }
+
+    /// The back edges, each with its depth: groups of one depth lie one after another, so that their sources and targets belong together in turn.
+    pub fn back_edges(&self) -> Vec<(usize, (usize, usize))> {
+        let states = |row: &[u64]| (0..64 * row.len()).filter(|state| row[state / 64] >> (state % 64) & 1 == 1).collect::<Vec<_>>();
+        let depths = self.rows[BACK].chunks(2).map(|rows| states(&rows[0]).into_iter().zip(states(&rows[1])));
+        (0..).zip(depths).flat_map(|(depth, edges)| edges.map(move |edge| (depth, edge))).collect()
+    }
+
+    /// A back edge put in at a depth, or taken out; where one of its states has another, its bit alone goes.
+    pub fn with_back_edge(&self, depth: usize, (from, to): (usize, usize)) -> Masks {
+        self.flipped(BACK, 2 * depth, from).flipped(BACK, 2 * depth + 1, to)
     }
 
     /// The bit of a state in a row flipped.

@@ -4,6 +4,7 @@
 use crate::build::{longest, unions};
 use crate::checks::{Checks, LONGEST};
 use crate::optional::most;
+use crate::repeated::{cycles, groups};
 use crate::seen::Seen;
 use outside_checks::driver::{build_call, match_call, read_back_call, Answer};
 use outside_checks::generate::{nested, sized, small, Random};
@@ -34,7 +35,7 @@ fn finds(checks: &mut Checks, what: &str, rule: &[u8], text: &[u8], ends: &[u32]
 }
 
 /// Rules, texts and their ends.
-pub const EXAMPLES: [(&str, &str, &[u32]); 20] = [
+pub const EXAMPLES: [(&str, &str, &[u32]); 29] = [
     ("a", "aba", &[1, 3]),
     ("b?", "", &[0]),
     ("b?", "ab", &[0, 1, 2]),
@@ -57,6 +58,16 @@ pub const EXAMPLES: [(&str, &str, &[u32]); 20] = [
     ("x((a)?b)?y", "xabyxby", &[4, 7]),
     ("x(a)?(b)?(c)?y", "xyxacy", &[2, 6]),
     ("x(a?|b)?y", "xyxby", &[2, 5]),
+    // repeated groups
+    ("(ab)*", "abab", &[0, 1, 2, 3, 4]),
+    ("x(ab)*y", "xyxababy", &[2, 8]),
+    ("x(ab)*y", "xabay", &[]),
+    ("x(ab)+y", "xyxababy", &[8]),
+    ("x(a|b)*y", "xyxabay", &[2, 7]),
+    ("x(a?)*y", "xyxaay", &[2, 6]),
+    ("x((a)*b)*y", "xaabby", &[6]),
+    ("x(a|(bc)*)*y", "xabcay", &[6]),
+    ("((a)+)+", "baab", &[2, 3]),
 ];
 
 fn examples(checks: &mut Checks) {
@@ -69,6 +80,9 @@ fn examples(checks: &mut Checks) {
     finds(checks, "eight deep", &unions(8), b"xab", &[2, 3]);
     finds(checks, "an edge over an optional group of 131 states", b"x(a{64}|b{64})?y", b"xyby", &[2]);
     finds(checks, "a chain over 161 optional groups", &[&b"x"[..], &most()[..most().len() - 8], b"y"].concat(), b"xyabybxb", &[2]);
+    finds(checks, "a back edge over two words", b"x(a{70}b)*y", &[&b"x"[..], &[&[b'a'; 70][..], b"b"].concat().repeat(3), b"y"].concat(), &[215]);
+    finds(checks, "eight cycles in one another", &[b"x", &groups(8, b'*')[..], b"y"].concat(), b"xyxaaaayay", &[2, 8]);
+    finds(checks, "232 cycles", &[b"x", &groups(8, b'*').repeat(29)[..], b"y"].concat(), b"xyxaaaayay", &[2, 8]);
 }
 
 fn limits(checks: &mut Checks) {
@@ -77,11 +91,12 @@ fn limits(checks: &mut Checks) {
     finds(checks, "every place but the first", b"a", &[b'a'; LONGEST_TEXT], &all[1..]);
     finds(checks, "the last place alone", b"a{9}b", &[&[b'a'; LONGEST_TEXT - 1][..], b"b"].concat(), &all[LONGEST_TEXT..]);
     finds(checks, "512 states, eight deep, on the empty text", &longest(), b"", &[]);
+    rounds(checks);
 
     let (a, long) = (build(b"a", LONGEST).1, [b'a'; LONGEST_TEXT + 1]);
     let mut spoilt = a.clone();
     spoilt[523] = 2;
-    for (what, words, number) in [("an image", &a, 7), ("damaged", &spoilt, 6), ("cut", &a[..523].to_vec(), 6), ("no words", &Vec::new(), 6)] {
+    for (what, words, number) in [("an image", &a, 7), ("damaged", &spoilt, 6), ("cut", &a[..524].to_vec(), 6), ("no words", &Vec::new(), 6)] {
         for room in [0, 1, 9] {
             checks.match_ends(&format!("{what}, 65,536 bytes"), words, &long, &Answer::of(number, &[], room));
         }
@@ -90,6 +105,18 @@ fn limits(checks: &mut Checks) {
         checks.match_ends("damaged, a text that is not too long", &spoilt, &long[..length], &Answer::of(6, &[], 9));
     }
     checks.match_ends("512 states, eight deep, 65,536 bytes", &build(&longest(), LONGEST).1, &long, &Answer::of(7, &[], 9));
+}
+
+/// The longest text, by rounds of a cycle: of two bytes, of one in eight cycles, of many, of either of two in turn, and all but the last round.
+fn rounds(checks: &mut Checks) {
+    let text = |rounds: usize, round: &[u8]| [&b"x"[..], &round.repeat(rounds), b"y"].concat();
+    let last = |length: usize| [length as u32];
+    finds(checks, "32,766 rounds", b"x(ab)*y", &text(32766, b"ab"), &last(65534));
+    finds(checks, "65,533 rounds in eight cycles", &[b"x", &groups(8, b'*')[..], b"y"].concat(), &text(65533, b"a"), &last(LONGEST_TEXT));
+    finds(checks, "65,533 rounds, 500 states", &[&b"x("[..], &b"(a)*".repeat(165), b"b?)*y"].concat(), &text(65533, b"a"), &last(LONGEST_TEXT));
+    finds(checks, "21,844 rounds of two cycles", b"x((ab)*c)*y", &text(21844, b"abc"), &last(65534));
+    finds(checks, "a last round that is not whole", b"x(abc)*y", &[&text(21000, b"abc")[..63001], b"ay"].concat(), &[]);
+    finds(checks, "every second place", b"(ab)+", &b"ab".repeat(32767), &(1..=32767).map(|n| 2 * n).collect::<Vec<u32>>());
 }
 
 // ---- generated rules and texts
@@ -146,7 +173,7 @@ fn long_texts(checks: &mut Checks) {
 
 fn stack(checks: &mut Checks) {
     let of = |rule: &[u8]| image(&parse(rule).expect("a rule"));
-    let images = [of(b"a"), of(&longest()), of(&most()), of(b"A(AB|B?)(B?.*|AB)C"), vec![0; 9], Vec::new()];
+    let images = [of(b"a"), of(&longest()), of(&most()), of(b"A(AB|B?)(B?.*|AB)C"), of(&cycles()), of(b"x((ab)*c)*y"), vec![0; 9], Vec::new()];
     let calls = images.iter().flat_map(|words| [0, 70].map(|length| match_call(words, &vec![b'a'; length], 100)));
     checks.stack("match", 64 << 10, &calls.collect::<Vec<_>>());
 }

@@ -48,9 +48,9 @@ fn writings(checks: &mut Checks) {
 fn images(checks: &mut Checks) {
     let letters = (0..256).map(|byte| if byte == 97 { 4 } else { 0 });
     let before = [3, 4, 1, 1, 256].into_iter().chain(letters).chain([256]).chain([0; 256]);
-    let whole: Vec<u64> = before.chain([3, 4, 1, 2]).chain([3, 4, 4, 8]).chain([6, 9, 1, 8, 0, 0, 0]).collect();
+    let whole: Vec<u64> = before.chain([3, 4, 1, 2]).chain([3, 4, 4, 8]).chain([6, 9, 1, 8, 0, 0, 0]).chain([2, 0, 0]).collect();
     checks.build("the image of (a)?, whole", b"(a)?", &Answer::of(0, &whole, 540));
-    checks.build("room one word short", b"(a)?", &Answer::of(5, &[], 532));
+    checks.build("room one word short", b"(a)?", &Answer::of(5, &[], 535));
     for (rule, states, depth) in [("a?", 2, 0), ("(a|b)?", 6, 1), ("((a|b))?", 8, 2), ("((a)?b)?", 7, 2), ("((a)?b?)?", 5, 1), ("(a)?(b)?", 7, 1)] {
         let words = checks.build_beside("optional", rule.as_bytes(), LONGEST);
         checks.same(&format!("{rule}: shape"), section(&words, 1), vec![states, 1, depth]);
@@ -60,10 +60,9 @@ fn images(checks: &mut Checks) {
 }
 
 fn refusals(checks: &mut Checks) {
-    let other_signs = ["(a)*", "(a)+", "(a){2}", "(a){,2}", "(a){0,1}", "(a|b)*", "(a?)*", "((a)?)+"];
     let two_signs = ["(a)??", "(a)?*", "(a)?+", "(a)?{2}", "(a?)??", "((a)?)??", "a??"];
     let no_group = ["?", "()?", "(?)", "(|a)?", "(a|)?", "(a?", "a)?", "|(a)?"];
-    for rule in [&other_signs[..], &two_signs, &no_group].concat() {
+    for rule in [&two_signs[..], &no_group].concat() {
         checks.build("refused with 2", rule.as_bytes(), &refused(2));
     }
 }

@@ -7,7 +7,7 @@ use outside_checks::generate::Random;
 use outside_checks::independent::{Proposal, Watch};
 use outside_checks::spellings;
 use outside_checks::watches::watches;
-use outside_checks::{bytes, expand, places, runs, vectors};
+use outside_checks::{bytes, expand, old_images, places, runs, vectors, word};
 use std::ops::BitXor;
 use std::path::Path;
 
@@ -23,6 +23,7 @@ pub fn all(checks: &mut Checks, folder: &Path) {
     checks.part("outside vectors: watch", |c| watched = watch(c, folder));
     checks.part("outside vectors: check", |c| judged = check(c, folder));
     checks.part("outside vectors: propose", |c| proposed = propose(c, folder));
+    checks.part("images of six sections as they stand", |c| six_sections(c, folder));
     checks.part("faults planted in copies of build's answers", |c| planted(c, &built, faults));
     checks.part("faults planted in copies of read back's answers", |c| planted(c, &written, faults));
     checks.part("faults planted in copies of match's answers", |c| planted(c, &found, faults));
@@ -106,6 +107,20 @@ fn propose(checks: &mut Checks, folder: &Path) -> Pairs<Proposed> {
         answers.extend(got.map(|got| (got, expected)));
     }
     answers
+}
+
+/// What was an image before Wish 12 gets 6 from every call.
+fn six_sections(checks: &mut Checks, folder: &Path) {
+    for (place, image) in old_images(folder) {
+        let (words, watch) = (expand(&image), Watch { mask: vec![1; word(&image, 2) as usize], place: 3 });
+        let proposal = Proposal { start: 0, end: 1, states: vec![1] };
+        checks.read_back(&place, &words, &Answer::of(6, &[], 9));
+        checks.match_ends(&place, &words, b"ab", &Answer::of(6, &[], 3));
+        checks.begin(&place, &words, &watch, &Watched::of(6, &[], 1, watch.clone()));
+        checks.step(&place, &words, &watch, b"ab", &Watched::of(6, &[], 2, watch.clone()));
+        checks.check(&place, &words, b"ab", &proposal, &Judged { number: 6, yes: 0 });
+        checks.propose(&place, &words, b"ab", 1, &Proposed::of((6, 0), 1));
+    }
 }
 
 // ---- that a wrong answer would be seen

@@ -4,6 +4,7 @@
 use crate::build::longest;
 use crate::checks::Checks;
 use crate::match_ends::{seeded, EXAMPLES, LONGEST_TEXT};
+use crate::repeated::cycles;
 use crate::seen::Seen;
 use crate::spelled::{image_of, spelled, Spelled};
 use outside_checks::driver::{propose_call, Proposed};
@@ -20,7 +21,7 @@ pub fn all(checks: &mut Checks) {
 }
 
 /// Rule, text, end, and the proposal where the rule leaves no choice.
-const LATEST: [(&str, &str, u64, u64, &[u32]); 15] = [
+const LATEST: [(&str, &str, u64, u64, &[u32]); 22] = [
     ("a", "aba", 3, 2, &[1]),
     ("a+", "aaa", 3, 2, &[1]),
     ("a{2,3}", "aaaa", 4, 2, &[2, 3]),
@@ -32,11 +33,18 @@ const LATEST: [(&str, &str, u64, u64, &[u32]); 15] = [
     ("(ab|a+b*c)", "aabc", 4, 1, &[5, 6, 7]),
     ("x(ab)?y", "xaby", 4, 0, &[1, 3, 4, 6]),
     ("(ab)?y", "aby", 3, 2, &[5]),
+    ("x(ab)*y", "xababy", 6, 0, &[1, 3, 4, 3, 4, 6]),
+    ("(ab)*y", "ababy", 5, 4, &[5]),
+    ("(ab)+y", "ababy", 5, 2, &[1, 2, 7]),
+    ("x(a|b)+y", "xaby", 4, 0, &[1, 3, 11, 14]),
+    ("x((a)*b)*y", "xbaby", 5, 0, &[1, 6, 4, 6, 8]),
+    ("x(a?)*y", "xxaay", 5, 1, &[1, 3, 3, 5]),
     // what can be empty has no bytes
     ("b?", "ab", 0, 0, &[]),
     ("b?", "ab", 2, 2, &[]),
     ("(a*|bc)", "bcaa", 4, 4, &[]),
     ("(ab)?", "ab", 2, 2, &[]),
+    ("(ab)*", "abab", 4, 4, &[]),
 ];
 
 fn latest(checks: &mut Checks) {
@@ -131,7 +139,7 @@ fn order(checks: &mut Checks) {
 }
 
 fn stack(checks: &mut Checks) {
-    let rules = [&b"a"[..], b"ba*c", b"A(AB|B?)(B?.*|AB)C", &longest(), &b"a*".repeat(511)].map(image_of);
+    let rules = [&b"a"[..], b"ba*c", b"A(AB|B?)(B?.*|AB)C", &longest(), &b"a*".repeat(511), &cycles(), b"b((a)*)*c"].map(image_of);
     let long = [&b"b"[..], &[b'a'; 998], b"c"].concat();
     let texts = [&b""[..], b"a", &[b'a'; 700], &long, &[b'a'; LONGEST_TEXT + 1]];
     let images = rules.into_iter().chain([vec![0; 9], Vec::new()]);

@@ -3,6 +3,7 @@
 use crate::build::{longest, unions};
 use crate::checks::{Checks, LONGEST};
 use crate::optional::most;
+use crate::repeated::cycles;
 use outside_checks::driver::{read_back_call, Answer};
 use outside_checks::generate::{nested, sized, small, Random};
 use outside_checks::independent::{build, image, parse, writing, Class, Item, Repeat, Sequence};
@@ -133,8 +134,8 @@ fn long_writings(checks: &mut Checks) {
 }
 
 fn stack(checks: &mut Checks) {
-    let [a, mut wider, groups] = [&b"a"[..], &longest(), &most()].map(|rule| parse(rule).expect("a rule"));
+    let [a, mut wider, groups, cycles] = [&b"a"[..], &longest(), &most(), &cycles()].map(|rule| parse(rule).expect("a rule"));
     widen(&mut Random::new(0), &mut wider);
-    let images = [a, wider, groups].map(|tree| image(&tree)).into_iter().chain([vec![0; 9], Vec::new()]);
+    let images = [a, wider, groups, cycles].map(|tree| image(&tree)).into_iter().chain([vec![0; 9], Vec::new()]);
     checks.stack("read back", 16 << 10, &images.map(|words| read_back_call(&words, 1 << 19)).collect::<Vec<_>>());
 }

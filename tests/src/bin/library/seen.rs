@@ -1,7 +1,7 @@
 //! What kinds of trees and calls there were, so that none goes missing.
 
 use crate::checks::Checks;
-use outside_checks::independent::{depth, optional_unions, states, Item};
+use outside_checks::independent::{can_be_empty, depth, marked, states, Item, Mark};
 
 /// How many there were of each kind.
 #[derive(Default)]
@@ -20,11 +20,14 @@ impl Seen {
         self.add(kind, usize::from(is_one));
     }
 
-    /// A tree, by its size and its optional unions.
+    /// A tree, by its size, its optional unions and its repeated groups.
     pub fn tree(&mut self, tree: &[Item]) {
-        let optional = optional_unions(tree);
-        self.note("with an optional union of one alternative", optional.contains(&1));
-        self.note("of several", optional.iter().any(|count| *count > 1));
+        let (optional, repeated) = (marked(tree, Mark::Optional), marked(tree, Mark::Repeated));
+        self.note("with an optional union of one alternative", optional.iter().any(|all| all.len() == 1));
+        self.note("of several", optional.iter().any(|all| all.len() > 1));
+        self.note("with a repeated group", !repeated.is_empty());
+        self.note("whose body can be empty", repeated.iter().any(|body| can_be_empty(&body[0])));
+        self.note("in another", repeated.iter().any(|body| !marked(&body[0], Mark::Repeated).is_empty()));
         self.note("over 64 states", states(tree) > 64);
         self.note("over 448 states", states(tree) > 448);
         self.note("eight deep", depth(tree) == 8);

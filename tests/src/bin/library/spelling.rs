@@ -3,6 +3,7 @@
 use crate::build::longest;
 use crate::checks::Checks;
 use crate::match_ends::LONGEST_TEXT;
+use crate::repeated::cycles;
 use crate::spelled::{image_of, spelled};
 use outside_checks::driver::{check_call, Judged};
 use outside_checks::independent::{ends, parse, Proposal};
@@ -20,7 +21,7 @@ fn proposal(start: u64, end: u64, states: &[u32]) -> Proposal {
 }
 
 /// Rule, text, start, end, states, and whether it is right.
-const EXAMPLES: [(&str, &str, u64, u64, &[u32], bool); 38] = [
+const EXAMPLES: [(&str, &str, u64, u64, &[u32], bool); 54] = [
     ("a", "aba", 0, 1, &[1], true),
     ("a", "aba", 2, 3, &[1], true),
     // another byte; state 0, entered by nothing; a state past the accepting one; a list too short and too long
@@ -68,6 +69,25 @@ const EXAMPLES: [(&str, &str, u64, u64, &[u32], bool); 38] = [
     ("x(ab)?y", "xy", 0, 2, &[1, 6], true),
     ("x(ab)?y", "xaby", 0, 4, &[1, 3, 4, 6], true),
     ("x(ab)?y", "xay", 0, 3, &[1, 3, 6], false),
+    // a repeated group: left out, once and twice round, broken off, begun in its middle; a round that would begin before the last one's end
+    ("(ab)*", "abab", 2, 2, &[], true),
+    ("(ab)*", "abab", 0, 2, &[2, 3], true),
+    ("(ab)*", "abab", 0, 4, &[2, 3, 2, 3], true),
+    ("(ab)*", "abab", 0, 3, &[2, 3, 2], false),
+    ("(ab)*", "abab", 1, 2, &[3], false),
+    ("(ab)*", "aab", 0, 3, &[2, 2, 3], false),
+    ("x(a)*y", "xaay", 0, 4, &[1, 3, 3, 5], true),
+    ("x(a)*y", "xaay", 0, 4, &[1, 3, 4, 5], false),
+    // with `+` the first round has states of its own
+    ("(a)+", "aa", 0, 2, &[1, 3], true),
+    ("(a)+", "aaa", 0, 3, &[1, 3, 3], true),
+    ("(a)+", "aa", 0, 2, &[1, 1], false),
+    ("(a)+", "aa", 0, 2, &[3, 3], false),
+    // a body that can be empty; a cycle in another, and past it; a union in a cycle
+    ("(a?)*", "aa", 0, 2, &[2, 2], true),
+    ("((a)*b)*", "aabb", 0, 4, &[3, 3, 5, 5], true),
+    ("((a)*b)*", "aaba", 0, 4, &[3, 3, 5, 3], false),
+    ("(a|b)*", "aba", 0, 3, &[3, 5, 3], true),
 ];
 
 fn examples(checks: &mut Checks) {
@@ -86,7 +106,7 @@ fn lists(length: usize, n: u32) -> Vec<Vec<u32>> {
 
 /// One that gets yes exists exactly for document 01's ends, and the latest start of those is the proposer's.
 fn every_proposal(checks: &mut Checks) {
-    for rule in ["a", "b?", "a*b?c+", "a?b*", "(a|b*)", "a(b|a?)", "(ab|a+)", "a(ab)?", "((a)?b)?"] {
+    for rule in ["a", "b?", "a*b?c+", "a?b*", "(a|b*)", "a(b|a?)", "(ab|a+)", "a(ab)?", "((a)?b)?", "(a)*b", "(ab)*", "(a?b)*", "((a)*b)*", "(a)+"] {
         let (tree, m) = (parse(rule.as_bytes()).expect("a rule"), image_of(rule.as_bytes())[1] as u32);
         for text in ["", "a", "ab", "aab", "bca"] {
             let (mut starts, ends) = (vec![None; text.len() + 1], ends(&tree, text.as_bytes()));
@@ -139,7 +159,8 @@ fn order(checks: &mut Checks) {
 }
 
 fn stack(checks: &mut Checks) {
-    let images = [image_of(b"a"), image_of(&longest()), image_of(b"A(AB|B?)(B?.*|AB)C"), image_of(&b"a*".repeat(511)), vec![0; 9], Vec::new()];
+    let rules = [&b"a"[..], &longest(), b"A(AB|B?)(B?.*|AB)C", &b"a*".repeat(511), &cycles()].map(image_of);
+    let images: Vec<Vec<u64>> = rules.into_iter().chain([vec![0; 9], Vec::new()]).collect();
     let call = |words: &[u64], n: usize| check_call(words, &vec![b'a'; n], &proposal(0, n as u64, &vec![1; n]));
     let calls = images.iter().flat_map(|words| [0, 1, 700].map(|n| call(words, n)));
     checks.stack("check", 64 << 10, &calls.collect::<Vec<_>>());

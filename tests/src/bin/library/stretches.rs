@@ -2,6 +2,7 @@
 
 use crate::checks::Checks;
 use crate::match_ends::LONGEST_TEXT;
+use crate::repeated::groups;
 use crate::seen::Seen;
 use crate::spelled::{spelled, Spelled};
 use outside_checks::generate::{sized, small, Random};
@@ -35,10 +36,19 @@ fn placed(before: usize, length: usize, after: usize, middle: &[u8]) -> Vec<u8> 
 
 fn blocks(checks: &mut Checks) {
     let mut r = Random::new(9);
-    let rules = [("ab*c", &b"b"[..]), ("a(b?|d?)[bd]*(b|d|e*)c", b"bd"), ("a.*.*(bd*|b*|.)c", b"bd"), ("a(bd)?[bd]*((b|e)d*)?c", b"bd")];
+    let rules = [
+        ("ab*c", &b"b"[..]),
+        ("a(b?|d?)[bd]*(b|d|e*)c", b"bd"),
+        ("a.*.*(bd*|b*|.)c", b"bd"),
+        ("a(bd)?[bd]*((b|e)d*)?c", b"bd"),
+        ("a(b)*c", b"b"),
+        ("a(bd)*b?c", b"bd"),
+        ("a((b|d)?e?)*c", b"bd"),
+        ("a((bd)*(b)*)*c", b"bdb"),
+    ];
     for length in [2, 3, 254, 255, 256, 257, 258, 511, 512, 513, 767, 768, 769] {
         for (before, after) in [(0, 0), (1, 0), (0, 1), (254, 3), (255, 0), (256, 1), (257, 255), (300, 256), (513, 600)] {
-            let (rule, middle) = rules[r.below(4)];
+            let (rule, middle) = rules[r.below(rules.len())];
             let text = placed(before, length, after, middle);
             spelled(checks, rule.as_bytes(), &[&text], &mut |s| {
                 proposed(s, &mut r, before + length);
@@ -54,7 +64,18 @@ fn longest(checks: &mut Checks) {
     let all = "a".to_string() + &".*".repeat(509) + "c";
     let counted = format!("a(b{{100}}|{}|[bd]*d){}c", "b?".repeat(200), "d?b*".repeat(95));
     let nested = format!("a[bd]*{unions}c");
-    let rules = [("ab*c", &b"b"[..]), ("a(b*|d?)(b|d?)b*c", b"b"), (&all, b"bd"), (&counted, b"bbbd"), (&nested, b"bdd")];
+    let cycles = [&b"a"[..], &groups(8, b'*').repeat(28), b"((b)*d)*b?c"].concat().escape_ascii().to_string();
+    let rules = [
+        ("ab*c", &b"b"[..]),
+        ("a(b*|d?)(b|d?)b*c", b"b"),
+        (&all, b"bd"),
+        (&counted, b"bbbd"),
+        (&nested, b"bdd"),
+        ("a(bd)*b?c", b"bd"),
+        ("a((b|d)?)*c", b"bd"),
+        ("a(b{3}d)*b?b?b?c", b"bbbd"),
+        (&cycles, b"bd"),
+    ];
     for (seed, (rule, middle)) in (0..).zip(rules) {
         let mut r = Random::new(seed);
         let (before, after) = [(0, 0), (1, 0), (0, 1), (3, 252)][r.below(4)];

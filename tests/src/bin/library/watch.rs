@@ -3,6 +3,7 @@
 use crate::build::longest;
 use crate::checks::{fresh, Checks};
 use crate::match_ends::{seeded, LONGEST_TEXT};
+use crate::repeated::cycles;
 use crate::seen::Seen;
 use outside_checks::driver::{begin_call, step_call, Watched};
 use outside_checks::generate::Random;
@@ -45,7 +46,9 @@ fn unmoved(number: u64, room: usize, lent: &Watch) -> Watched {
 }
 
 fn begin(checks: &mut Checks) {
-    for (rule, first) in [("a", &[][..]), ("b?", &[0]), ("(a|b*)", &[0]), ("a{,200}", &[0]), ("(ab)?", &[0]), ("a?b", &[])] {
+    let letters = [("a", &[][..]), ("b?", &[0]), ("(a|b*)", &[0]), ("a{,200}", &[0]), ("a?b", &[])];
+    let groups = [("(ab)?", &[0][..]), ("(ab)*", &[0]), ("(ab)+", &[]), ("(a?)+", &[0])];
+    for (rule, first) in letters.into_iter().chain(groups) {
         let words = image_of(rule.as_bytes());
         let (_, watch) = Edges::of(&parse(rule.as_bytes()).expect("a rule")).begin();
         for room in [0, 1, 3] {
@@ -89,7 +92,7 @@ fn bits(checks: &mut Checks) {
 
 /// At place 0, closed or not, accepting or not: no bytes change nothing and are no end.
 fn every_mask(checks: &mut Checks) {
-    for rule in ["b?", "a*b?c+", "(a|b*)", "((a|b)|c?)", "((a)?b)?", "((a|b))?"] {
+    for rule in ["b?", "a*b?c+", "(a|b*)", "((a|b)|c?)", "((a)?b)?", "((a|b))?", "(a)*", "(ab)*c", "(a|b)*", "((a)*b)*"] {
         let words = image_of(rule.as_bytes());
         for mask in 0..1 << words[1] {
             let (what, lent) = (format!("rule {rule}, mask {mask:x}"), Watch { mask: vec![mask], place: 0 });
@@ -158,7 +161,7 @@ fn lists(checks: &mut Checks) {
 
 /// A caller who changes image gets the step's own promise.
 fn another_image(checks: &mut Checks) {
-    let images = ["a*b?", "(a|b*)c", "A(AB|B?)(B?.*|AB)C", "ab"].map(|rule| image_of(rule.as_bytes()));
+    let images = ["a*b?", "(a|b*)c", "A(AB|B?)(B?.*|AB)C", "ab", "((a)*b)*", "(ab)?"].map(|rule| image_of(rule.as_bytes()));
     for first in &images {
         for second in &images {
             let Some(begun) = checks.begin_beside("the first image", first, &fresh(1), 1) else { continue };
@@ -242,7 +245,7 @@ fn note_mask(seen: &mut Seen, edges: &Edges, mask: &[u64], no_bytes: bool) {
 }
 
 fn stack(checks: &mut Checks) {
-    let images = [image_of(b"a"), image_of(&longest()), image_of(b"A(AB|B?)(B?.*|AB)C"), of_states(65), vec![0; 9], Vec::new()];
+    let images = [image_of(b"a"), image_of(&longest()), image_of(b"A(AB|B?)(B?.*|AB)C"), of_states(65), image_of(&cycles()), vec![0; 9], Vec::new()];
     let width = |words: &[u64]| words.get(2).map_or(0, |w| *w as usize);
     let begins = images.iter().map(|words| begin_call(words, &fresh(width(words)), 100));
     checks.stack("begin", 64 << 10, &begins.collect::<Vec<_>>());

@@ -1,0 +1,149 @@
+//! The independent program against itself, where the documents leave two ways to one answer: rules and their writings, trees and their images, ends by
+//! every cut of a short text, and how many states nested `+` asks for. Usage: itself
+
+use outside_checks::generate::{nested, other_mark, sized, small, Random};
+use outside_checks::independent::{build, depth, ends, image, latest_starts, marked, parse, states, tree_of, writing};
+use outside_checks::independent::{Edges, Item, Mark, Repeat, Sequence, LONGEST_IMAGE, MOST_DEPTH, MOST_STATES};
+use outside_checks::texts::text;
+
+/// The tree of a rule from a seed below 2,000: small, deep and large ones. None that passes the limits.
+fn seeded(seed: u64) -> Option<(Random, Sequence)> {
+    let mut r = Random::new(seed);
+    let (deep, wanted) = (r.between(1, 8), r.between(60, 512));
+    let rule = match seed {
+        0..1400 => small(&mut r),
+        1400..1900 => nested(&mut r, deep),
+        _ => sized(&mut r, wanted, deep),
+    };
+    let tree = parse(&rule).expect("a rule");
+    (states(&tree) <= MOST_STATES && depth(&tree) <= MOST_DEPTH).then_some((r, tree))
+}
+
+/// A tree's writing is a rule of it, and its image is nobody else's.
+fn round_trips() {
+    let (mut trees, mut cycles) = (0, 0);
+    for (_, tree) in (0..2000).filter_map(seeded) {
+        let written = writing(&tree);
+        assert_eq!(parse(&written).as_ref(), Some(&tree), "{}", written.escape_ascii());
+        assert_eq!(tree_of(&image(&tree)).as_ref(), Some(&tree), "{}", written.escape_ascii());
+        trees += 1;
+        cycles += usize::from(!marked(&tree, Mark::Repeated).is_empty());
+    }
+    println!("itself: {trees} trees, {cycles} of them with a repeated group, come back from their writing and from their image");
+}
+
+/// Words are no image, or that of another tree, which has a rule. Whether they are.
+fn judged(words: &[u64], tree: &Sequence) -> bool {
+    let Some(other) = tree_of(words) else { return false };
+    assert!(other != *tree && image(&other) == words, "{}", writing(tree).escape_ascii());
+    assert_eq!(parse(&writing(&other)).as_ref(), Some(&other));
+    true
+}
+
+/// Trees with another mark, which no rule may have: an image gives back the tree exactly if its writing does.
+fn other_marks() {
+    let (mut trees, mut of_rules) = (0, 0);
+    for (mut r, tree) in (0..1900).filter_map(seeded) {
+        let Some(other) = other_mark(&mut r, &tree) else { continue };
+        let is_one = parse(&writing(&other)).as_ref() == Some(&other);
+        assert_eq!(tree_of(&image(&other)).as_ref() == Some(&other), is_one, "{}", writing(&other).escape_ascii());
+        trees += 1;
+        of_rules += usize::from(is_one);
+    }
+    println!("itself: {trees} trees with another mark, {of_rules} of them a rule's, judged alike by writing and by image");
+}
+
+/// Every bit of the seventh section, its count's too, turned alone; then those of two states in both masks of a depth, which moves, adds or takes away a
+/// whole back edge.
+fn back_sections() {
+    let (mut single, mut whole, mut images) = (0, 0, 0);
+    for (mut r, tree) in (0..2000).step_by(31).filter_map(seeded) {
+        let (words, m) = (image(&tree), states(&tree));
+        let (width, d) = (m.div_ceil(64), depth(&tree));
+        let first = words.len() - 2 * width * d;
+        for (place, bit) in (first - 1..words.len()).flat_map(|place| (0..64).map(move |bit| (place, bit))) {
+            let mut turned = words.clone();
+            turned[place] ^= 1 << bit;
+            assert!(!judged(&turned, &tree), "{}, bit {bit} of word {place}", writing(&tree).escape_ascii());
+            single += 1;
+        }
+        for _ in 0..if d > 0 { 200 } else { 0 } {
+            let (mut turned, at, from) = (words.clone(), first + 2 * width * r.below(d), r.between(1, m - 1));
+            let to = r.between(from.saturating_sub(6).max(1), from);
+            turned[at + from / 64] ^= 1 << (from % 64);
+            turned[at + width + to / 64] ^= 1 << (to % 64);
+            images += usize::from(judged(&turned, &tree));
+            whole += 1;
+        }
+    }
+    println!("itself: {single} bits of seventh sections turned, no image; {whole} back edges changed, {images} images of another tree");
+}
+
+/// Whether a sequence spells a text, by every cut of it between the first item and the others.
+fn spells(sequence: &[Item], text: &[u8]) -> bool {
+    let Some((first, others)) = sequence.split_first() else { return text.is_empty() };
+    (0..=text.len()).any(|cut| item_spells(first, &text[..cut]) && spells(others, &text[cut..]))
+}
+
+fn item_spells(item: &Item, text: &[u8]) -> bool {
+    match item {
+        Item::Letter(class, repeat) => {
+            let often = match repeat {
+                Repeat::Once => text.len() == 1,
+                Repeat::Option => text.len() <= 1,
+                Repeat::Star => true,
+                Repeat::Plus => !text.is_empty(),
+            };
+            often && text.iter().all(|byte| class.0[*byte as usize])
+        }
+        Item::Union(Mark::Unmarked, alternatives) => alternatives.iter().any(|a| spells(a, text)),
+        Item::Union(Mark::Optional, alternatives) => text.is_empty() || alternatives.iter().any(|a| spells(a, text)),
+        // rounds of no byte add nothing
+        Item::Union(Mark::Repeated, bodies) => {
+            text.is_empty() || (1..=text.len()).any(|cut| spells(&bodies[0], &text[..cut]) && item_spells(item, &text[cut..]))
+        }
+    }
+}
+
+/// The latest start of each place: by every stretch, on the tree, by its edges and by backtracking.
+fn short_texts() {
+    let (mut texts, mut found) = (0, 0);
+    for (mut r, tree) in (0..1900).filter_map(seeded).filter(|(_, tree)| states(tree) <= 40) {
+        for length in [0, 3, 5, 7] {
+            let text = text(&mut r, &tree, length);
+            let by_cuts: Vec<Option<usize>> = (0..=length).map(|end| (0..=end).rev().find(|start| spells(&tree, &text[*start..end]))).collect();
+            let places: Vec<u32> = (0..).zip(&by_cuts).filter(|(_, start)| start.is_some()).map(|(end, _)| end).collect();
+            let what = format!("{} on {}", writing(&tree).escape_ascii(), text.escape_ascii());
+            let (edges, live) = (Edges::of(&tree), |edges: &Edges, mask: &[u64]| edges.live(mask).expect("a mask"));
+            let (first, begun) = edges.begin();
+            let later = edges.step(live(&edges, &begun.mask), 0, &text).0;
+            assert_eq!(latest_starts(&tree, &text), by_cuts, "{what}");
+            assert_eq!(ends(&tree, &text), places, "{what}");
+            assert_eq!([first, later].concat(), places, "{what}");
+            texts += 1;
+            found += places.len();
+        }
+    }
+    println!("itself: {texts} short texts, {found} ends by every cut, on the tree, by edges and by backtracking");
+}
+
+/// `+` round `+` round a letter: its accepting state is 1, and then twice the one before and two more.
+fn nested_plus() {
+    let mut accepting: u128 = 1;
+    for count in 1..=341 {
+        accepting = (2 * accepting + 2).min(1 << 100);
+        let rule = [&vec![b'('; count][..], b"a", &b")+".repeat(count)].concat();
+        let (number, words) = build(&rule, LONGEST_IMAGE);
+        assert_eq!(number, if accepting < 512 { 0 } else { 3 }, "{count} deep");
+        assert!(number > 0 || u128::from(words[1]) == accepting + 1, "{count} deep");
+    }
+    println!("itself: up to 341 times `+` round a letter counted");
+}
+
+fn main() {
+    round_trips();
+    other_marks();
+    back_sections();
+    short_texts();
+    nested_plus();
+}

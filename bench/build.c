@@ -5,12 +5,18 @@ uint64_t baseline_build(const uint8_t *rule, size_t rule_len, uint64_t *image, s
 
 enum { MOST_RULE = 1024 };
 
-// Each token but the two of the whole rule takes at least a byte.
+// With so many tokens there are more than MOST_STATES states, even if all brackets vanish. `+` copies no further then (copy_group).
+enum { ENOUGH = MOST_RULE + MOST_STATES + 2 };
+
+// A byte puts two tokens at most, and so does the whole rule; the last copy may double what was enough.
 struct reader {
     const uint8_t *at, *end;
     size_t count;
-    struct token tokens[MOST_RULE + 2];
+    struct token tokens[2 * ENOUGH + 2 * (MOST_RULE + 1)];
 };
+
+// What a reader tells: of items one after another the least holds, of alternatives the largest.
+enum read { WRONG, FULL, CAN_BE_EMPTY };
 
 static int peek(const struct reader *reader) { return reader->at < reader->end ? *reader->at : -1; }
 
@@ -109,7 +115,7 @@ static int read_number(struct reader *reader) {
 }
 
 // `{x}`, `{x,y}` or `{,y}`, after its `{`.
-static int read_bounds(struct reader *reader, struct token *token) {
+static enum read read_bounds(struct reader *reader, struct token *token) {
     int low = 0, high;
     if (take(reader, ','))
         high = read_number(reader);
@@ -119,68 +125,122 @@ static int read_bounds(struct reader *reader, struct token *token) {
             high = read_number(reader);
     }
     if (low < 0 || high < low || high < 1 || !take(reader, '}'))
-        return 0;
+        return WRONG;
     token->options = (unsigned)(high - low), token->times = (unsigned)low;
-    return 1;
+    return low == 0 ? CAN_BE_EMPTY : FULL;
 }
 
-static int read_item(struct reader *reader) {
+static enum read read_item(struct reader *reader) {
     struct token *token = put_token(reader, ONCE);
     token->options = 0, token->times = 1;
     if (!read_letter(reader, token->class))
-        return 0;
+        return WRONG;
     switch (peek(reader)) {
     case '?': token->kind = OPTION; break;
     case '*': token->kind = STAR; break;
     case '+': token->kind = PLUS; break;
     case '{': return reader->at++, read_bounds(reader, token);
-    default: return 1;
+    default: return FULL;
     }
     reader->at++;
-    return 1;
+    return token->kind == PLUS ? FULL : CAN_BE_EMPTY;
 }
 
-static int read_alternatives(struct reader *reader);
+static enum read read_alternatives(struct reader *reader, int *several);
 
-static int read_sequence(struct reader *reader) {
-    int next;
-    do {
-        if (take(reader, '(')) {
-            if (!read_alternatives(reader) || !take(reader, ')'))
-                return 0;
-        } else if (!read_item(reader))
-            return 0;
-        next = peek(reader);
-    } while (next >= 0 && next != '|' && next != ')');
-    return 1;
-}
-
-// Of a single alternative the brackets vanish.
-static int read_alternatives(struct reader *reader) {
-    struct token *open = put_token(reader, OPEN);
-    int several = 0;
-    if (!read_sequence(reader))
-        return 0;
-    for (; take(reader, '|'); several = 1) {
-        put_token(reader, BAR);
-        if (!read_sequence(reader))
-            return 0;
-    }
+// The close of several alternatives; of a single one the brackets vanish.
+static void put_close(struct reader *reader, size_t open, int several) {
     if (several)
         put_token(reader, CLOSE);
     else
-        open->kind = NOTHING;
-    return 1;
+        reader->tokens[open].kind = NOTHING;
+}
+
+// A union with `*` is its body's sole item: one more open before it.
+static void put_body(struct reader *reader, size_t open) {
+    put_token(reader, CLOSE);
+    for (size_t i = reader->count++; i > open; i--)
+        reader->tokens[i] = reader->tokens[i - 1];
+}
+
+// The group once more, with `*`. Each `+` round another doubles the tokens: with enough of them the answer is 3, however many are left out.
+static void copy_group(struct reader *reader, size_t from) {
+    size_t to = reader->count;
+    if (to >= ENOUGH)
+        return;
+    put_token(reader, OPEN);
+    for (size_t i = from; i < to; i++)
+        if (reader->tokens[i].kind != NOTHING)
+            reader->tokens[reader->count++] = reader->tokens[i];
+    put_token(reader, CLOSE_STAR);
+}
+
+// A group with its sign, after its `(`. A `?` on what can be empty is dropped.
+static enum read read_group(struct reader *reader) {
+    size_t open = reader->count;
+    int several;
+    enum read read = read_alternatives(reader, &several);
+    if (read == WRONG || !take(reader, ')'))
+        return WRONG;
+    switch (peek(reader)) {
+    case '?':
+        reader->at++;
+        if (read == CAN_BE_EMPTY)
+            return put_close(reader, open, several), read;
+        put_token(reader, CLOSE_OPTION);
+        return CAN_BE_EMPTY;
+    case '*':
+        reader->at++;
+        if (several)
+            put_body(reader, open);
+        put_token(reader, CLOSE_STAR);
+        return CAN_BE_EMPTY;
+    case '+':
+        reader->at++;
+        put_close(reader, open, several);
+        return copy_group(reader, open), read;
+    default:
+        return put_close(reader, open, several), read;
+    }
+}
+
+static enum read read_sequence(struct reader *reader) {
+    enum read all = CAN_BE_EMPTY;
+    int next;
+    do {
+        enum read read = take(reader, '(') ? read_group(reader) : read_item(reader);
+        if (read == WRONG)
+            return WRONG;
+        if (read < all)
+            all = read;
+        next = peek(reader);
+    } while (next >= 0 && next != '|' && next != ')');
+    return all;
+}
+
+// After their open; the close is left to the caller.
+static enum read read_alternatives(struct reader *reader, int *several) {
+    enum read any;
+    put_token(reader, OPEN);
+    any = read_sequence(reader);
+    for (*several = 0; any != WRONG && take(reader, '|'); *several = 1) {
+        put_token(reader, BAR);
+        enum read read = read_sequence(reader);
+        any = read == WRONG || read > any ? read : any;
+    }
+    return any;
 }
 
 uint64_t baseline_build(const uint8_t *rule, size_t rule_len, uint64_t *image, size_t image_len) {
     struct reader reader;
     size_t states, depth;
+    int several;
     if (rule_len > MOST_RULE)
         return (uint64_t)1 << 32;
     reader.at = rule, reader.end = rule + rule_len, reader.count = 0;
-    if (!read_alternatives(&reader) || reader.at != reader.end)
+    if (read_alternatives(&reader, &several) == WRONG || reader.at != reader.end)
         return (uint64_t)2 << 32;
+    put_close(&reader, 0, several);
     measure(reader.tokens, reader.count, &states, &depth);
     if (states > MOST_STATES)
         return (uint64_t)3 << 32;

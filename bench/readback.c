@@ -10,9 +10,9 @@ static int read_shape(const uint64_t *image, size_t length) {
     return length == image_length((size_t)image[1], (size_t)image[3]);
 }
 
-// What the masks of any byte or depth have together: letters' states, loops, states that a propagate edge enters, union starts and ends.
+// What the masks of any byte or depth have together: loops, states that a propagate edge enters, union starts and ends, ends of repeated bodies.
 struct marks {
-    uint64_t loops[8], entered[8], starts[8], ends[8];
+    uint64_t loops[8], entered[8], starts[8], ends[8], backs[8];
 };
 
 static void read_marks(const struct masks *masks, struct marks *marks) {
@@ -26,6 +26,7 @@ static void read_marks(const struct masks *masks, struct marks *marks) {
         for (size_t k = 0; k < masks->depth; k++) {
             marks->starts[i] |= three(masks, masks->scatter, k, SOURCE)[i];
             marks->ends[i] |= three(masks, masks->gather, k, TARGET)[i];
+            marks->backs[i] |= back_edges(masks, k, SOURCE)[i];
         }
     }
 }
@@ -36,7 +37,9 @@ static enum kind kind_of(const struct marks *marks, const struct token *token, s
             return has_bit(marks->entered, state) ? STAR : PLUS;
         return has_bit(marks->entered, state) ? OPTION : ONCE;
     }
-    return has_bit(marks->ends, state) ? CLOSE : has_bit(marks->starts, state - 1) ? OPEN : BAR;
+    if (has_bit(marks->ends, state))
+        return has_bit(marks->backs, state - 1) ? CLOSE_STAR : has_bit(marks->entered, state) ? CLOSE_OPTION : CLOSE;
+    return has_bit(marks->starts, state - 1) ? OPEN : BAR;
 }
 
 // The token before each state but the first. Bits that no state has are left to the comparison.
@@ -125,11 +128,12 @@ static void write_class(struct writer *writer, const uint64_t *class) {
 }
 
 static void write_all(struct writer *writer, const struct token *tokens, size_t count) {
+    static const char signs[][3] = {"", "?", "*", "+", "(", "|", ")", ")?", ")*"};
     for (const struct token *token = tokens; token < tokens + count; token++) {
         if (token->kind < OPEN)
             write_class(writer, token->class);
-        if (token->kind != ONCE)
-            put_byte(writer, " ?*+(|)"[token->kind]);
+        for (const char *sign = signs[token->kind]; *sign; sign++)
+            put_byte(writer, *sign);
     }
 }
 

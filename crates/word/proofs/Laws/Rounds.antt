@@ -1,53 +1,18 @@
--- THE TWO ROUNDS ON ONE WORD: when the back edges of a depth add nothing, one turn of the loop over the depths, and when the second round is made.
+-- THE TWO ROUNDS ON ONE WORD: one turn of the loop over the depths, and when the second round is made.
 use mathlib.Core.Path.{_≡_, refl, sym, ap, ap₂, _∙_}
 use mathlib.Core.Logic.{_≢_}
-use mathlib.Core.Bool.{Bool, true, false, _&&_, _||_, and-false, cond}
+use mathlib.Core.Bool.{Bool, cond}
 use mathlib.Core.List.{List, [], _∷_}
-use Prim.Native.Nat.{ℕ, zero, suc, _+_, _-_, _*_, _^_, _<_}
+use Prim.Native.Nat.{ℕ, zero, suc, _+_, _-_, _*_, _<_}
 use native.Mathlib.Nat.{not-suc-le-zero}
 use native.Mathlib.Omega.{arith}
-use lib.Bits.{bitAnd, bitOr, or-lt, or-zero-r}
 use lib.ListN.{getD}
-use Rattle.model.specs.Bits.{bit}
-use Rattle.model.specs.Models.Run.{ahead, backWord, closeWords, Masks, passWords, returnsWords, returnWords}
+use Rattle.model.specs.Models.Run.{closeWords, Masks, passWords, returnsWords, returnWords}
 use Rattle.model.specs.Models.Verdict.{sameWords}
 use Rattle.model.specs.Models.Words.{orWords}
-use Rattle.model.proofs.Laws.Bits.{bit-zero, mask-same}
-use Rattle.model.proofs.Words.Bits.{bit-and, bit-ext, bit-mask, bit-or, mask-lt}
 use Rattle.mask.proofs.Laws.Same.{same-false, same-true}
 use Rattle.word.specs.One.{tableMasks, wordAt}
 use Rattle.word.proofs.Laws.Back.{one-round, Zeros}
-
--- ---- nothing is added without a live source
-ahead-dead : (n : ℕ) (c f : ℕ → Bool) (x : ℕ) → ((y : ℕ) → (c y && f y) ≡ false) → ahead n false c f x ≡ false
-ahead-dead zero c f x h = refl
-ahead-dead (suc n) c f x h = go (c x) (f x) (h x) (ahead-dead n c f (suc x) h)
-  where
-    go : (b v : Bool) {later : Bool} → (b && v) ≡ false → later ≡ false → cond b v later ≡ false
-    go true v e l = e
-    go false v e l = l
-
-module _ (live source target first : ℕ) where
-  pub none-live : bitAnd source first ≡ 0 → live ∷ [] ≡ orWords (live ∷ []) (returnWords (source ∷ []) (target ∷ []) (first ∷ []))
-  none-live e =
-      let lead : ℕ → Bool = ahead 64 false (bit source) (bit first) in
-      let dead : (x : ℕ) → lead x ≡ false = λ x. ahead-dead 64 (bit source) (bit first) x (λ y. sym (bit-and y source first) ∙ ap (λ (n : ℕ). bit n y) e ∙ bit-zero y) in
-      ap (λ (w : ℕ). w ∷ [])
-      (sym (ap (bitOr live) (mask-same 64 (λ x. bit target x && lead x) (λ x. false) (λ x h. ap (λ (b : Bool). bit target x && b) (dead x) ∙ and-false (bit target x))) ∙ or-zero-r live))
-
-  -- nor where every target is live
-  pub all-live : live < 2 ^ 64 → bitOr live target ≡ live → live ∷ [] ≡ orWords (live ∷ []) (returnWords (source ∷ []) (target ∷ []) (first ∷ []))
-  all-live f e =
-      let new : ℕ → Bool = λ x. bit target x && ahead 64 false (bit source) (bit first) x in
-      let added = backWord false source target first in
-      ap (λ (w : ℕ). w ∷ [])
-      (bit-ext 64 live (bitOr live added) f (or-lt 64 live added f (mask-lt 64 new))
-      (λ x h. sym (bit-or x live added ∙ ap (λ (b : Bool). bit live x || b) (bit-mask 64 x new h)
-      ∙ within (bit live x) (bit target x) (ahead 64 false (bit source) (bit first) x) (sym (bit-or x live target) ∙ ap (λ (n : ℕ). bit n x) e))))
-    where
-      within : (a b c : Bool) → (a || b) ≡ a → (a || (b && c)) ≡ a
-      within true b c e = refl
-      within false b c e = ap (λ (z : Bool). z && c) e
 
 -- ---- one turn of the loop over the depths
 pub returns-again : (M : Masks) (backs : List ℕ) (d k : ℕ) (first live : List ℕ) {r : List ℕ} → 0 < k → ((i j : ℕ) → M .backMask i j ≡ wordAt backs (2 * i + j))

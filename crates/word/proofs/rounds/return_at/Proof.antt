@@ -1,11 +1,12 @@
--- `return_at`: where a test ends it nothing is added (`none-live`, `all-live`).
-use mathlib.Core.Path.{ap}
+-- `return_at`: where a test ends it nothing is added (`adds-none`, `adds-held`).
+use mathlib.Core.Path.{sym, ap}
+use mathlib.Core.Bool.{false}
 use mathlib.Core.List.{[], _∷_}
 use Prim.Native.Nat.{ℕ, _+_, _*_}
 use lib.Bits.{bitOr}
 use lib.ListN.{getD}
 use borrow.Author.Needs.{needs}
-use Rattle.word.proofs.Laws.Rounds.{all-live, none-live}
+use Rattle.back.proofs.Laws.Adds.{adds-held, adds-none}
 use Rattle.word.proofs.rounds.return_at.Statement.{statement}
 use Rattle.word.proofs.rounds.return_at.Tie as tie
 
@@ -34,14 +35,14 @@ returns : tie.Need-returns
 returns c =
     let a = c .before .before .before .args in
     let b = a .backs .now in
-    none-live (a .live) (getD b (2 * a .k) 0) (getD b (2 * a .k + 1) 0) (a .first) (c .if1 .taken)
+    ap (λ (w : ℕ). w ∷ []) (sym (adds-none (getD b (2 * a .k) 0) (a .first) (c .if1 .taken) (a .live) (getD b (2 * a .k + 1) 0)))
 
 returns-2 : tie.Need-returns-2
 returns-2 c =
     let s = c .before .before .before .before in
     let a = s .args in
     let b = a .backs .now in
-    all-live (a .live) (getD b (2 * a .k) 0) (getD b (2 * a .k + 1) 0) (a .first) (s .fits .live .fits) (c .if2 .taken)
+    ap (λ (w : ℕ). w ∷ []) (sym (adds-held false (getD b (2 * a .k) 0) (getD b (2 * a .k + 1) 0) (a .first) (a .live) (s .fits .live .fits) (c .if2 .taken)))
 
 lead-back-requires : tie.Need-lead-back-requires
 lead-back-requires c κs = search needs

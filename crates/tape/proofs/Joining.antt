@@ -8,10 +8,11 @@ use borrow.Author.Count.{below-more}
 use lib.ListN.{getD, length, length-set, set}
 use lib.Seq.{ext-getD, getD-set-other, getD-set-same}
 use Rattle.model.specs.Models.Words.{eachWord}
+use Rattle.model.proofs.Words.Operations.{each-at, each-length}
 use Rattle.tape.specs.Joins.{Either, Join, joinTables, joinWord, Only}
 use Rattle.tape.specs.Masks.{Joined, rowIn, tableIn}
 use Rattle.tape.proofs.InWords.{row-long, row-word, table-long, table-row}
-use Rattle.tape.proofs.Joins.{each-at, joined-at, length-each, length-joined}
+use Rattle.tape.proofs.Joins.{joined-at, length-joined}
 
 -- where word n of the blocks stands; the sources are 8 words after it, the targets 16
 abbrev pub at : ℕ → ℕ
@@ -128,7 +129,7 @@ module _ (r ms : List ℕ) (lr : length r ≡ 216) (lm : length ms ≡ 216) (J :
 
   row : (k : ℕ) → k < 9 → rowIn ms (3 * k + i) ≡ eachWord (joinWord J) (rowIn r (3 * k + u)) (rowIn r (3 * k + v))
   row k hk =
-      ext-getD 0 (rowIn ms (3 * k + i)) (eachWord (joinWord J) a b) (long-m ∙ sym (length-each (joinWord J) a b (long-a ∙ sym long-b) ∙ long-a))
+      ext-getD 0 (rowIn ms (3 * k + i)) (eachWord (joinWord J) a b) (long-m ∙ sym (each-length (joinWord J) a b (long-a ∙ sym long-b) ∙ long-a))
       (λ j h. go j (omega (arith, long-m)))
     where
       a : List ℕ

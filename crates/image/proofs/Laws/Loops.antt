@@ -11,8 +11,7 @@ use Rattle.model.specs.Image.{join, section}
 use Rattle.model.specs.Models.Words.{andWords}
 use Rattle.model.proofs.Image.Address.{part-of-part}
 use Rattle.model.proofs.Image.Rows.{chunk-join, join-same}
-use Rattle.model.proofs.Words.Operations.{each-length}
-use Rattle.tape.proofs.Joins.{each-at}
+use Rattle.model.proofs.Words.Operations.{each-at, each-length}
 use Rattle.image.specs.Work.{bothPart, bothRow, letterRow, lettersPart, repeatRow, repeatsPart}
 use Rattle.image.proofs.Laws.Lengths.{letter-long, letters-long}
 use Rattle.image.proofs.Laws.Parts.{length-section}

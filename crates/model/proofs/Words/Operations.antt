@@ -6,7 +6,7 @@ use mathlib.Core.List.{List, [], _∷_}
 use Prim.Native.Nat.{ℕ, zero, suc, _+_, _-_, _*_, _^_, _≤_, _<_}
 use native.Mathlib.Omega.{arith}
 use lib.Bits.{bitAnd, and-block, and-lt, bitOr, or-block, or-lt, bitXor, xor-block, xor-lt}
-use lib.ListN.{length}
+use lib.ListN.{getD, length}
 use lib.Pow.{pow-add, pow-pos}
 use Rattle.model.specs.Bits.{bit}
 use Rattle.model.specs.Models.Words.{addWords, andWords, bitsOf, eachWord, Fit, notWords, orWords, shiftWords, subtractWords, value, xorWords}
@@ -21,6 +21,12 @@ pub each-length : (op : ℕ → ℕ → ℕ) (xs ys : List ℕ) → length xs �
 each-length op [] ys e = refl
 each-length op (x ∷ xs) [] e = absurd (omega arith)
 each-length op (x ∷ xs) (y ∷ ys) e = ap suc (each-length op xs ys (omega arith))
+
+pub each-at : (op : ℕ → ℕ → ℕ) (xs ys : List ℕ) (k : ℕ) → length xs ≡ length ys → k < length xs → op (getD xs k 0) (getD ys k 0) ≡ getD (eachWord op xs ys) k 0
+each-at op [] ys k e h = absurd (omega arith)
+each-at op (x ∷ xs) [] k e h = absurd (omega arith)
+each-at op (x ∷ xs) (y ∷ ys) zero e h = refl
+each-at op (x ∷ xs) (y ∷ ys) (suc k) e h = each-at op xs ys k (omega arith) (omega arith)
 
 -- and as g does on two bits
 module _ (op : ℕ → ℕ → ℕ) (g : Bool → Bool → Bool) (nil : op 0 0 ≡ 0)

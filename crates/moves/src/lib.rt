@@ -16,8 +16,8 @@ ghost use lib.ListN.{take};
 ghost use Rattle.model.specs.Models.Run.{gatherWords, moveWords, propagateWords, returnWords, scatterWords};
 ghost use Rattle.model.specs.Models.Verdict.{sameWords};
 ghost use Rattle.model.specs.Models.Words.{notWords, orWords, subtractWords, xorWords};
-ghost use Rattle.moves.specs.Apart.{Apart};
 ghost use Rattle.moves.specs.Less.{lessOne, plusWords, startWords};
+ghost use Rattle.moves.specs.Sets.{Holds, Meets};
 
 // From each live union start to the starts of its alternatives: below the block's bit the difference sets all bits from the source on.
 pub fn scatter(live: Mask, block: Mask, source: Mask, target: Mask, n: usize) -> Mask
@@ -89,8 +89,8 @@ fn lead_back(live: Mask, source: Mask, target: Mask, n: usize) -> Mask
 }
 
 // Whether a state is in both.
-fn meet(a: Mask, b: Mask, n: usize) -> bool
-    ensures { λ r. ⌜ (r ≡ false → Apart n (a .words) (b .words)) ⌝ }
+pub fn meet(a: Mask, b: Mask, n: usize) -> bool
+    ensures { λ r. ⌜ Meets n (a .words) (b .words) r ⌝ }
 {
     let stop = upto(n);
     let mut i = 0;
@@ -103,15 +103,33 @@ fn meet(a: Mask, b: Mask, n: usize) -> bool
     false
 }
 
-// With the targets of the back edges whose sources the passes reached: mostly there is none, and nothing is added.
+// Whether every state of b is in a.
+fn holds(a: Mask, b: Mask, n: usize) -> bool
+    ensures { λ r. ⌜ (r ≡ true → Holds n (a .words) (b .words)) ⌝ }
+{
+    let stop = upto(n);
+    let mut i = 0;
+    while i < stop {
+        if a.words[i] | b.words[i] != a.words[i] {
+            return false;
+        }
+        i += 1;
+    }
+    true
+}
+
+// With the targets of the back edges whose sources the passes reached: none without a live source, and no new one where all are live.
 pub fn come_back(live: Mask, first: Mask, source: Mask, target: Mask, n: usize) -> Mask
     ensures { λ r. ⌜ take n (r .words) ≡ orWords (take n (live .words)) (returnWords (take n (source .words)) (take n (target .words)) (take n (first .words))) ⌝ }
 {
-    if meet(first, source, n) {
-        let targets = lead_back(first, source, target, n);
-        return or(live, targets, n);
+    if !meet(source, first, n) {
+        return live;
     }
-    live
+    if holds(live, target, n) {
+        return live;
+    }
+    let targets = lead_back(first, source, target, n);
+    or(live, targets, n)
 }
 
 // Whether the same states are in both.

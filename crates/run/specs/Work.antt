@@ -11,6 +11,7 @@ use Rattle.model.specs.Models.Apart.{backAt, depthWord, gatherAt, propagateAt, 
 use Rattle.model.specs.Models.Run.{closeWords, endsWith, Masks, moveBy, passWords, returnsWords, stepWords}
 use Rattle.model.specs.Models.Verdict.{sameWords}
 use Rattle.moves.specs.Less.{lessOne, plusWords, startWords}
+use Rattle.moves.specs.Sets.{Apart}
 use Rattle.word.specs.Ends.{Limits}
 use Rattle.word.specs.One.{ofNine}
 use Rattle.word.specs.Shape.{shaped, widthOf}
@@ -76,9 +77,17 @@ pub record Tabled (ws : List ℕ) (W d : ℕ) (table : List (List ℕ)) : Type 0
   pub passes : Entered ws W d table
   pub backs : (i : ℕ) → i < 2 * d → getD table (81 + i) [] ≡ rowAt ws (backAt W d + W * i) W
 
--- a rule without a back edge up to depth d
+-- the back edges' rows up to depth d are whole masks
+abbrev pub Whole : List (List ℕ) → ℕ → Type 0
+Whole table d = (i : ℕ) → i < 2 * d → length (getD table (81 + i) []) ≡ 8
+
+-- a row has all their sources: whatever is apart from it is apart from those of each depth
+abbrev pub Sources : List (List ℕ) → ℕ → List ℕ → Type 0
+Sources table d row = (n : ℕ) (live : List ℕ) → Apart n row live → (k : ℕ) → k < d → Apart n (getD table (81 + 2 * k) []) live
+
+-- a rule without a back edge
 abbrev pub NoBack : List (List ℕ) → ℕ → Type 0
-NoBack table d = (i : ℕ) → i < 2 * d → getD table (81 + i) [] ≡ replicate 8 0
+NoBack table d = Sources table d (replicate 8 0)
 
 -- a depth's block, source and target; its back edges' source and target
 abbrev pub three : (block source target : List ℕ) → ℕ → List ℕ
@@ -163,17 +172,25 @@ pub record Steps (ws : List ℕ) (W d : ℕ) : Type 0 where
   pub long : 6 + 512 * W ≤ length ws
   pub shallow : d ≤ 8
 
+-- of one of a rule with back edges, of which a row has all sources
+pub record Turns (ws : List ℕ) (W d : ℕ) (table : List (List ℕ)) (row : List ℕ) : Type 0 where
+  pub steps : Steps ws W d
+  pub whole : Whole table d
+  pub sources : Sources table d row
+
 -- of the loop over a stretch
-pub record Overs (ws stretch : List ℕ) (place found W d last : ℕ) : Type 0 where
+pub record Overs (ws stretch : List ℕ) (place found W d last : ℕ) (table : List (List ℕ)) : Type 0 where
   pub steps : Steps ws W d
   pub limits : Limits place found stretch
   pub within : last < 64 * W
+  pub whole : Whole table d
 
 -- of a whole text
-pub record Scans (ws text : List ℕ) (W d last : ℕ) : Type 0 where
+pub record Scans (ws text : List ℕ) (W d last : ℕ) (table : List (List ℕ)) : Type 0 where
   pub steps : Steps ws W d
   pub small : length text ≤ 65535
   pub within : last < 64 * W
+  pub whole : Whole table d
 
 -- of a stretch from the words of a mask: words with a shape, and as many words of the mask as it says
 pub record Goes (ws mask : List ℕ) (place : ℕ) (stretch : List ℕ) : Type 0 where

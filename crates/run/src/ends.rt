@@ -33,7 +33,7 @@ fn scan(
     last: usize,
     table: &Table,
 ) -> u64
-    requires { ⌜ Scans (now image) (now text) width depth last ⌝ }
+    requires { ⌜ Scans (now image) (now text) width depth last (now table) ⌝ }
     ensures { λ r. ⌜ Written (endsWith (ruleMasks (now (image .entry)) width (now (table .entry))) depth last (now (text .entry)))
         (now (places .entry)) r (now (places .exit)) ⌝ }
 {

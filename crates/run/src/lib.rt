@@ -8,4 +8,5 @@ pub mod shape;
 pub mod steps;
 pub mod stretch;
 pub mod table;
+mod turns;
 mod widths;

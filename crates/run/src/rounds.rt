@@ -4,6 +4,7 @@ use crate::steps::pass;
 use crate::table::Table;
 use mask::Mask;
 use moves::come_back;
+use moves::meet;
 use moves::same;
 ghost use mathlib.Core.List.{[]};
 ghost use mathlib.Core.Path.{_≡_};
@@ -11,7 +12,7 @@ ghost use Prim.Native.Nat.{_+_, _*_, _≤_, _<_};
 ghost use lib.ListN.{getD, take};
 ghost use Rattle.model.specs.Models.Run.{closeWords, returnsWords, returnWords};
 ghost use Rattle.model.specs.Models.Words.{orWords};
-ghost use Rattle.run.specs.Work.{passMasks, secondRound};
+ghost use Rattle.run.specs.Work.{passMasks, secondRound, Sources, Whole};
 
 // With what the back edges of depth k add.
 fn return_at(live: Mask, first: Mask, k: usize, n: usize, table: &Table) -> Mask
@@ -44,8 +45,19 @@ fn returns(first: Mask, depth: usize, n: usize, table: &Table) -> Mask
     r
 }
 
+// The same where all sources are at hand: mostly none of them is live, and nothing is added.
+pub fn come_round(first: Mask, depth: usize, n: usize, table: &Table, sources: Mask) -> Mask
+    requires { ⌜ (depth ≤ 8) × Whole (now table) depth × Sources (now table) depth (sources .words) ⌝ }
+    ensures { λ r. ⌜ take n (r .words) ≡ returnsWords (passMasks n (now (table .entry))) depth (take n (first .words)) (take n (first .words)) ⌝ }
+{
+    if meet(sources, first, n) {
+        return returns(first, depth, n, table);
+    }
+    first
+}
+
 // The second round, made only where the back edges add something.
-pub fn again(first: Mask, depth: usize, n: usize, table: &Table) -> Mask
+fn again(first: Mask, depth: usize, n: usize, table: &Table) -> Mask
     requires { ⌜ depth ≤ 8 ⌝ }
     ensures { λ r. ⌜ take n (r .words) ≡ secondRound (passMasks n (now (table .entry))) depth (take n (first .words)) ⌝ }
 {

@@ -1,17 +1,17 @@
 // The run over a stretch of bytes, from any live states and any place, for a rule of any size.
-use crate::rounds::again;
 use crate::table::Table;
-use crate::table::any_back;
+use crate::table::all_sources;
+use crate::turns::turn_by;
 use crate::widths::step_by;
 use mask::Mask;
+use moves::same;
 use word::places::note;
-ghost use mathlib.Core.Bool.{false};
 ghost use mathlib.Core.Path.{_≡_};
 ghost use Prim.Native.Nat.{_/_, _≤_, _<_};
 ghost use lib.ListN.{length, take};
 ghost use Rattle.model.specs.Bits.{bit};
 ghost use Rattle.model.specs.Models.Words.{value};
-ghost use Rattle.run.specs.Work.{NoBack, Overs, ruleMasks, SteppedOn, Steps};
+ghost use Rattle.run.specs.Work.{NoBack, Overs, ruleMasks, Sources};
 ghost use Rattle.word.specs.Ends.{RanOver};
 
 // The live states after a stretch, and the total of its ends with those found before.
@@ -36,32 +36,8 @@ pub fn is_live(live: &[u64], state: usize) -> bool
     (live[state / 64] >> (state % 64)) & 1 == 1
 }
 
-// One byte. Without a back edge the round that comes with the move is all; the second has the number of words as it comes, not as a literal, for it is
-// made for cycles alone.
-fn step_on(
-    live: &mut [u64; 8],
-    image: &[u64],
-    n: usize,
-    byte: u8,
-    depth: usize,
-    table: &Table,
-    cyclic: bool,
-)
-    requires { ⌜ Steps (now image) n depth × (cyclic ≡ false → NoBack (now table) depth) ⌝ }
-    ensures { λ _. ⌜ SteppedOn n (now (image .entry)) byte depth (now (table .entry)) (now (live .entry)) (now (live .exit)) ⌝ }
-{
-    step_by(live, image, n, byte, depth, table);
-    if cyclic {
-        let words = *live;
-        let closed = again(Mask { words }, depth, n, table);
-        let words = closed.words;
-        *live = words;
-    }
-}
-
-// With the table of work: a step for each byte, and its place in the whole text noted if the accepting state is then live. Whether there is any back edge
-// is asked once.
-pub fn run_over(
+// With the table of work: a step for each byte, and its place in the whole text noted if the accepting state is then live. A rule without back edges.
+fn run_plain(
     image: &[u64],
     stretch: &[u8],
     places: &mut [u32],
@@ -73,18 +49,17 @@ pub fn run_over(
     first: [u64; 8],
     table: &Table,
 ) -> Ran
-    requires { ⌜ Overs (now image) (now stretch) place found width depth last ⌝ }
+    requires { ⌜ Overs (now image) (now stretch) place found width depth last (now table) × NoBack (now table) depth ⌝ }
     ensures { λ r. ⌜ RanOver (ruleMasks (now (image .entry)) width (now (table .entry))) width depth last place found (now (stretch .entry)) (take width first)
         (now (places .entry)) (r .words) (r .total) (now (places .exit)) ⌝ }
 {
-    let cyclic = any_back(table, depth);
     let mut live = first;
     let mut total = found;
     let mut p: usize = 0;
     while p < stretch.len() {
         let stop = portion(p, stretch.len());
         while p < stop {
-            step_on(&mut live, image, width, stretch[p], depth, table, cyclic);
+            step_by(&mut live, image, width, stretch[p], depth, table);
             p += 1;
             total = note(
                 places,
@@ -98,4 +73,91 @@ pub fn run_over(
         words: live,
         total: total as u64,
     }
+}
+
+// The same with back edges.
+fn run_back(
+    image: &[u64],
+    stretch: &[u8],
+    places: &mut [u32],
+    place: u64,
+    found: usize,
+    width: usize,
+    depth: usize,
+    last: usize,
+    first: [u64; 8],
+    table: &Table,
+    sources: Mask,
+) -> Ran
+    requires { ⌜ Overs (now image) (now stretch) place found width depth last (now table) × Sources (now table) depth (sources .words) ⌝ }
+    ensures { λ r. ⌜ RanOver (ruleMasks (now (image .entry)) width (now (table .entry))) width depth last place found (now (stretch .entry)) (take width first)
+        (now (places .entry)) (r .words) (r .total) (now (places .exit)) ⌝ }
+{
+    let mut live = first;
+    let mut total = found;
+    let mut p: usize = 0;
+    while p < stretch.len() {
+        let stop = portion(p, stretch.len());
+        while p < stop {
+            turn_by(&mut live, image, width, stretch[p], depth, table, sources);
+            p += 1;
+            total = note(
+                places,
+                total,
+                (place + p as u64) as u32,
+                is_live(&live, last),
+            );
+        }
+    }
+    Ran {
+        words: live,
+        total: total as u64,
+    }
+}
+
+// Which of the two is asked once: with one loop for both, a rule without back edges would pay for them at each byte.
+pub fn run_over(
+    image: &[u64],
+    stretch: &[u8],
+    places: &mut [u32],
+    place: u64,
+    found: usize,
+    width: usize,
+    depth: usize,
+    last: usize,
+    first: [u64; 8],
+    table: &Table,
+) -> Ran
+    requires { ⌜ Overs (now image) (now stretch) place found width depth last (now table) ⌝ }
+    ensures { λ r. ⌜ RanOver (ruleMasks (now (image .entry)) width (now (table .entry))) width depth last place found (now (stretch .entry)) (take width first)
+        (now (places .entry)) (r .words) (r .total) (now (places .exit)) ⌝ }
+{
+    let sources = all_sources(table, depth);
+    if same(sources, mask::none(), 8) {
+        return run_plain(
+            image,
+            stretch,
+            places,
+            place,
+            found,
+            width,
+            depth,
+            last,
+            first,
+            table,
+        );
+    }
+    run_back(
+        image,
+        stretch,
+        places,
+        place,
+        found,
+        width,
+        depth,
+        last,
+        first,
+        table,
+        sources,
+    )
 }

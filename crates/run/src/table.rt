@@ -1,13 +1,13 @@
 // The masks of work: from the image's words kind by kind, and then laid side by side, so that one index steps through all that a depth needs; and the
 // masks of the back edges after them.
 use crate::rows::row_at;
-use mask::bits::same_rows;
+use mask::Mask;
+use mask::logic::or;
 use moves::less_one;
-ghost use mathlib.Core.Bool.{false};
 ghost use mathlib.Core.Path.{_≡_};
 ghost use Prim.Native.Nat.{_+_, _*_, _≤_, _<_};
 ghost use lib.ListN.{length};
-ghost use Rattle.run.specs.Work.{kindAt, KindOf, Lessened, NoBack, Put, PutBacks, Tabled, Tables};
+ghost use Rattle.run.specs.Work.{kindAt, KindOf, Lessened, Put, PutBacks, Sources, Tabled, Tables, Whole};
 
 // The masks of a kind, block, source or target of a section, for depths 0 to 8.
 pub type Kind = [[u64; 8]; 9];
@@ -103,21 +103,19 @@ fn put_backs(table: &mut Table, image: &[u64], width: usize, depth: usize)
     }
 }
 
-// Whether there is any back edge up to a depth.
-pub fn any_back(table: &Table, depth: usize) -> bool
-    requires { ⌜ depth ≤ 8 ⌝ }
-    ensures { λ r. ⌜ (r ≡ false → NoBack (now (table .entry)) depth) ⌝ }
+// All sources of the back edges up to a depth.
+pub fn all_sources(table: &Table, depth: usize) -> Mask
+    requires { ⌜ (depth ≤ 8) × Whole (now table) depth ⌝ }
+    ensures { λ r. ⌜ Sources (now (table .entry)) depth (r .words) ⌝ }
 {
-    let none = [0u64; 8];
-    let mut i = 0;
-    while i < 2 * depth {
-        let row = table[81 + i];
-        if !same_rows(row, none) {
-            return true;
-        }
-        i += 1;
+    let mut r = mask::none();
+    let mut k = 0;
+    while k < depth {
+        let row = table[81 + 2 * k];
+        r = or(r, Mask { words: row }, 8);
+        k += 1;
     }
-    false
+    r
 }
 
 pub fn table(image: &[u64], width: usize, depth: usize) -> Table

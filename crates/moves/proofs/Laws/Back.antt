@@ -1,22 +1,21 @@
 -- THE BACK STEP, WORD BY WORD FROM THE HIGHEST DOWN: what a row gives from word i on is made of its words from i on, and what goes down from there is
--- whether their first source is live. Where no source is live nothing is added.
-use mathlib.Core.Path.{_≡_, refl, sym, ap, ap₂, _∙_}
+-- whether their first source is live. Where no source is live, or every target is, nothing is added.
+use mathlib.Core.Path.{_≡_, refl, sym, ap, ap₂, _∙_, subst}
 use mathlib.Core.Logic.{inl, inr}
-use mathlib.Core.Bool.{Bool, true, false, _&&_, and-false, cond}
+use mathlib.Core.Bool.{Bool, false}
 use mathlib.Core.List.{List, [], _∷_}
 use Prim.Native.Nat.{ℕ, zero, suc, _-_, _≤_, _<_}
 use native.Mathlib.Omega.{arith}
-use lib.Bits.{bitAnd, bitOr, or-zero-r}
+use lib.Bits.{bitOr}
 use lib.ListN.{drop, getD, length, length-set, List·getD-eq-default, set, take}
 use lib.Seq.{drop-set-lt, getD-set-same, slice, slice-cons, slice-empty, take-all, take-set-lt}
 use Rattle.model.specs.Bits.{bit}
 use Rattle.model.specs.Models.Run.{ahead, backWord, firstLive, returnWords}
-use Rattle.model.specs.Models.Words.{orWords}
-use Rattle.model.proofs.Laws.Bits.{bit-zero, mask-same}
+use Rattle.model.specs.Models.Words.{Fit, orWords}
 use Rattle.model.proofs.Laws.Bool.{le-or-lt}
-use Rattle.model.proofs.Words.Bits.{bit-and}
 use Rattle.mask.specs.Rows.{Upto}
-use Rattle.moves.specs.Apart.{Apart}
+use Rattle.back.proofs.Laws.Adds.{adds-held, adds-none, no-source}
+use Rattle.moves.specs.Sets.{Apart, Holds}
 
 -- ---- the loop: the words from i up to m are made, and `above` is what they hand down
 pub record Led (m : ℕ) (ss ts ls row : List ℕ) (above : Bool) (i : ℕ) : Type 0 where
@@ -97,45 +96,27 @@ module _ {m : ℕ} {ss ts ls row : List ℕ} {above : Bool} {i : ℕ} (L : Led m
         | inr q ↦ take-all n xs (omega (arith, u .2)) ∙ sym (take-all m xs (omega arith))
       ]
 
--- ---- no live source: the words passed are all, where the loop ran to n or to the end of two rows of eight
-pub apart-all : (xs ys : List ℕ) {i n stop : ℕ} → Apart i xs ys → Upto n stop → length xs ≡ 8 → length ys ≡ 8 → stop ≤ i → Apart n xs ys
-apart-all xs ys {i} {n} A u hx hy h k l = elim (le-or-lt i k) [
+-- ---- two rows word by word: what holds of the words passed holds of all, where the loop ran to n or to the end of two rows of eight
+pub words-all : (P : ℕ → ℕ → Type 0) → P 0 0 → (xs ys : List ℕ) {i n stop : ℕ} → ((k : ℕ) → k < i → P (getD xs k 0) (getD ys k 0))
+    → Upto n stop → length xs ≡ 8 → length ys ≡ 8 → stop ≤ i → (k : ℕ) → k < n → P (getD xs k 0) (getD ys k 0)
+words-all P none xs ys {i} {n} A u hx hy h k l = elim (le-or-lt i k) [
   | inr m ↦ A k m
   | inl m ↦ elim (u .1) [
     | inl q ↦ absurd (omega arith)
-    | inr q ↦ ap₂ bitAnd (List·getD-eq-default xs 0 (omega arith)) (List·getD-eq-default ys 0 (omega arith))
+    | inr q ↦ subst (λ (x : ℕ). P x (getD ys k 0)) (sym (List·getD-eq-default xs 0 (omega arith)))
+        (subst (P 0) (sym (List·getD-eq-default ys 0 (omega arith))) none)
   ]
 ]
 
-dark : (n : ℕ) (c f : ℕ → Bool) → ((x : ℕ) → (c x && f x) ≡ false) → (x : ℕ) → ahead n false c f x ≡ false
-dark zero c f h x = refl
-dark (suc n) c f h x = go (c x) (f x) (h x) (dark n c f h (suc x))
-  where
-    go : (b v : Bool) {later : Bool} → (b && v) ≡ false → later ≡ false → cond b v later ≡ false
-    go true v e d = e
-    go false v e d = d
-
-module _ (s l : ℕ) (none : bitAnd l s ≡ 0) where
-  dark-word : (x : ℕ) → ahead 64 false (bit s) (bit l) x ≡ false
-  dark-word = dark 64 (bit s) (bit l) (λ x. flip (bit s x) (bit l x) (sym (bit-and x l s) ∙ ap (λ (n : ℕ). bit n x) none ∙ bit-zero x))
-    where
-      flip : (a b : Bool) → (b && a) ≡ false → (a && b) ≡ false
-      flip true true e = e
-      flip true false e = refl
-      flip false b e = refl
-
-  nothing : (t : ℕ) → backWord false s t l ≡ 0
-  nothing t = mask-same 64 (λ x. bit t x && ahead 64 false (bit s) (bit l) x) (λ x. false) (λ x h. ap (λ (b : Bool). bit t x && b) (dark-word x) ∙ and-false (bit t x))
-
-first-none : (n : ℕ) (ss ls : List ℕ) → Apart n ls ss → firstLive (take n ss) (take n ls) ≡ false
+-- ---- NOTHING IS ADDED without a live source
+first-none : (n : ℕ) (ss ls : List ℕ) → Apart n ss ls → firstLive (take n ss) (take n ls) ≡ false
 first-none zero ss ls A = refl
 first-none (suc n) [] ls A = refl
 first-none (suc n) (s ∷ ss) [] A = refl
 first-none (suc n) (s ∷ ss) (l ∷ ls) A =
-    ap (λ (b : Bool). ahead 64 b (bit s) (bit l) 0) (first-none n ss ls (λ i h. A (suc i) (omega arith))) ∙ dark-word s l (A 0 (omega arith)) 0
+    ap (λ (b : Bool). ahead 64 b (bit s) (bit l) 0) (first-none n ss ls (λ i h. A (suc i) (omega arith))) ∙ no-source s l (A 0 (omega arith)) 0
 
--- NOTHING IS ADDED
-pub return-none : (n : ℕ) (ss ts ls live : List ℕ) → length ss ≡ length live → length ts ≡ length live → length ls ≡ length live → Apart n ls ss
+pub return-none : (n : ℕ) (ss ts ls live : List ℕ) → length ss ≡ length live → length ts ≡ length live → length ls ≡ length live → Apart n ss ls
     → orWords (take n live) (returnWords (take n ss) (take n ts) (take n ls)) ≡ take n live
 return-none zero ss ts ls live hs ht hl A = refl
 return-none (suc n) ss ts ls [] hs ht hl A = refl
@@ -143,7 +124,19 @@ return-none (suc n) [] ts ls (v ∷ live) hs ht hl A = absurd (omega arith)
 return-none (suc n) (s ∷ ss) [] ls (v ∷ live) hs ht hl A = absurd (omega arith)
 return-none (suc n) (s ∷ ss) (t ∷ ts) [] (v ∷ live) hs ht hl A = absurd (omega arith)
 return-none (suc n) (s ∷ ss) (t ∷ ts) (l ∷ ls) (v ∷ live) hs ht hl A =
-    let rest : Apart n ls ss = λ i h. A (suc i) (omega arith) in
+    let rest : Apart n ss ls = λ i h. A (suc i) (omega arith) in
     ap₂ (λ (x : ℕ) (xs : List ℕ). x ∷ xs)
-    (ap (bitOr v) (ap (λ (b : Bool). backWord b s t l) (first-none n ss ls rest) ∙ nothing s l (A 0 (omega arith)) t) ∙ or-zero-r v)
+    (ap (λ (b : Bool). bitOr v (backWord b s t l)) (first-none n ss ls rest) ∙ adds-none s l (A 0 (omega arith)) v t)
     (return-none n ss ts ls live (omega arith) (omega arith) (omega arith) rest)
+
+-- nor where every target is live
+pub return-held : (n : ℕ) (ss ts ls live : List ℕ) → length ss ≡ length live → length ts ≡ length live → length ls ≡ length live → Fit live → Holds n live ts
+    → orWords (take n live) (returnWords (take n ss) (take n ts) (take n ls)) ≡ take n live
+return-held zero ss ts ls live hs ht hl F H = refl
+return-held (suc n) ss ts ls [] hs ht hl F H = refl
+return-held (suc n) [] ts ls (v ∷ live) hs ht hl F H = absurd (omega arith)
+return-held (suc n) (s ∷ ss) [] ls (v ∷ live) hs ht hl F H = absurd (omega arith)
+return-held (suc n) (s ∷ ss) (t ∷ ts) [] (v ∷ live) hs ht hl F H = absurd (omega arith)
+return-held (suc n) (s ∷ ss) (t ∷ ts) (l ∷ ls) (v ∷ live) hs ht hl F H =
+    ap₂ (λ (x : ℕ) (xs : List ℕ). x ∷ xs) (adds-held (firstLive (take n ss) (take n ls)) s t l v (F .0) (H 0 (omega arith)))
+    (return-held n ss ts ls live (omega arith) (omega arith) (omega arith) (F .1) (λ i h. H (suc i) (omega arith)))

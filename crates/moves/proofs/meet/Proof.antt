@@ -1,12 +1,13 @@
 -- `meet`: nothing is common to the words passed.
-use mathlib.Core.Path.{subst}
-use Prim.Native.Nat.{_-_}
+use mathlib.Core.Path.{_≡_, refl, sym, subst}
+use Prim.Native.Nat.{ℕ, _-_}
 use native.Mathlib.Omega.{arith}
+use lib.Bits.{bitAnd}
 use lib.Dec.{T}
 use borrow.Author.Count.{below-more}
 use borrow.Author.Needs.{needs}
-use Rattle.moves.specs.Apart.{Apart}
-use Rattle.moves.proofs.Laws.Back.{apart-all}
+use Rattle.moves.specs.Sets.{Apart}
+use Rattle.moves.proofs.Laws.Back.{words-all}
 use Rattle.moves.proofs.meet.Statement.{statement}
 use Rattle.moves.proofs.meet.Tie as tie
 
@@ -35,7 +36,9 @@ element-copy-out-if1-2 : tie.Need-element-copy-out-if1-2 Inv-loop μ-loop
 element-copy-out-if1-2 c = search needs
 
 returns : tie.Need-returns Inv-loop μ-loop
-returns c = λ e. absurd (subst T e tt)
+returns c =
+    let l = c .before .before .before in
+    (λ e. absurd (subst T e tt), λ e A. c .if1 .taken (A (l .before .loop .i) (omega (arith, l .loop-test .taken, l .before .before .upto .ensures .2))))
 
 add-i : tie.Need-add-i Inv-loop μ-loop
 add-i c = search needs
@@ -47,7 +50,11 @@ loop-again : tie.Need-loop-again Inv-loop μ-loop
 loop-again c = below-more _ _ (c .before .before .before .before .loop .inv) (c .if1 .left)
 
 returns-2 : tie.Need-returns-2 Inv-loop μ-loop
-returns-2 c = λ e. let a = c .before .before .before .args in apart-all (a .t1 .words) (a .t2 .words) (c .before .loop .inv) (c .before .before .upto .ensures) (search needs) (search needs) (c .loop-test .left)
+returns-2 c =
+    let a = c .before .before .before .args in (
+      λ e. words-all (λ (x y : ℕ). bitAnd x y ≡ 0) refl (a .t1 .words) (a .t2 .words) (c .before .loop .inv) (c .before .before .upto .ensures) (search needs) (search needs) (c .loop-test .left),
+      λ e. absurd (subst T (sym e) tt),
+    )
 
 pub meet-spec : {M : Type 1} → statement M
 meet-spec =

@@ -1,24 +1,31 @@
--- THE BACK EDGES' MASKS: as they lie they have no bit past the width, for zeros stand above; how they are put into the table row by row; and a table without
--- any is that of a rule without a back edge.
-use mathlib.Core.Path.{_≡_, refl, ap, _∙_}
+-- THE BACK EDGES' MASKS: as they lie they have no bit past the width, for zeros stand above; how they are put into the table row by row; and how all their
+-- sources come into one row.
+use mathlib.Core.Path.{_≡_, refl, sym, ap, ap₂, _∙_}
 use mathlib.Core.Logic.{inl, inr}
+use mathlib.Core.Bool.{Bool, true, false, _&&_, _||_}
 use mathlib.Core.List.{List, []}
-use Prim.Native.Nat.{ℕ, zero, suc, _+_, _*_, _≤_, _<_}
-use native.Mathlib.Nat.{le-trans}
+use Prim.Native.Nat.{ℕ, _+_, _*_, _^_, _≤_, _<_}
 use native.Mathlib.Omega.{arith}
 use borrow.Author.Count.{below-more}
-use lib.ListN.{getD, length, length-set, length-take, List·getD-eq-default, replicate, set, take}
+use lib.Bits.{and-le-l, and-le-r, bitAnd, bitOr, or-add-and, or-comm}
+use lib.ListN.{getD, length, length-set, length-take, List·getD-eq-default, set, take}
 use lib.Seq.{getD-set-other, getD-set-same, getD-take}
+use mir.Syntax.{w64}
+use mir.Val.{Fits}
+use Rattle.model.specs.Bits.{bit}
 use Rattle.model.specs.Models.Apart.{backAt, depthWord}
-use Rattle.model.specs.Models.Run.{Masks}
+use Rattle.model.specs.Models.Words.{orWords}
 use Rattle.model.proofs.Image.Address.{part-fits}
+use Rattle.model.proofs.Laws.Bits.{bit-zero}
 use Rattle.model.proofs.Laws.Bool.{le-or-lt}
-use Rattle.moves.specs.Less.{startWords}
+use Rattle.model.proofs.Words.Bits.{bit-and, bit-ext, bit-or}
+use Rattle.model.proofs.Words.Operations.{each-at}
+use Rattle.moves.specs.Sets.{Apart}
 use Rattle.word.specs.Shape.{widthOf}
-use Rattle.word.proofs.Laws.Back.{Low, Zeros}
+use Rattle.word.proofs.Laws.Back.{Low}
 use Rattle.word.proofs.Laws.Shape.{Sections, sections-of, Shape, shape-is}
-use Rattle.run.specs.Work.{cutMasks, Entered, masksOf, NoBack, PutBacks, rowAt, Tabled, workMasks}
-use Rattle.run.proofs.Laws.Rows.{no-word, row-clear, row-long, take-short}
+use Rattle.run.specs.Work.{Entered, masksOf, PutBacks, rowAt, Sources, Tabled, Whole}
+use Rattle.run.proofs.Laws.Rows.{row-clear, row-long}
 
 -- ---- as they lie
 pub masks-low : (ws : List ℕ) → Shape ws → (n : ℕ) → widthOf ws ≤ n → Low n (depthWord ws) (masksOf ws)
@@ -56,26 +63,53 @@ backs-more {c} {W} {d} {ws} {table} {new} P h long {row} e = record {
 pub tabled : {ws : List ℕ} {W d : ℕ} {table new : List (List ℕ)} → Entered ws W d table → PutBacks (2 * d) ws W d table new → Tabled ws W d new
 tabled I P = record { passes = λ k j h l. P .there (9 * k + j) (omega arith) ∙ I k j h l; backs = P .here }
 
--- ---- none
-pub none-low : (n : ℕ) (ws : List ℕ) (W : ℕ) (table : List (List ℕ)) (d : ℕ) → NoBack table d → Low 0 d (cutMasks n (workMasks ws W table))
-none-low n ws W table d none = record { clear = clear; long = long }
+-- each is a whole mask
+pub whole-backs : {ws : List ℕ} {W d : ℕ} (table : List (List ℕ)) → Sections W d (length ws) → Tabled ws W d table → Whole table d
+whole-backs {ws} {W} {d} table T E i h =
+    ap length (E .backs i h) ∙ row-long ws (backAt W d + W * i) W (T .narrow) (omega (arith, T .backs, part-fits W {k = i} {n = 2 * d} h))
+
+-- ---- all sources in one row: none yet; and those of a depth more, for what is apart from both of two masks is apart from each
+pub sources-none : (table : List (List ℕ)) (row : List ℕ) → Sources table 0 row
+sources-none table row n live A k h = absurd (omega arith)
+
+-- what is apart from both of two words is apart from the first
+apart-first : (a b l : ℕ) → bitOr a b < 2 ^ 64 → bitAnd (bitOr a b) l ≡ 0 → bitAnd a l ≡ 0
+apart-first a b l f e =
+    bit-ext 64 (bitAnd a l) 0 (omega (arith, and-le-l a l, and-le-r a b, or-add-and a b)) (omega arith)
+    (λ i h. bit-and i a l ∙ go (bit a i) (bit b i) (bit l i)
+    (sym (bit-and i (bitOr a b) l ∙ ap (λ (z : Bool). z && bit l i) (bit-or i a b)) ∙ ap (λ (n : ℕ). bit n i) e ∙ bit-zero i) ∙ sym (bit-zero i))
   where
-    M : Masks
-    M = cutMasks n (workMasks ws W table)
+    go : (x y z : Bool) → ((x || y) && z) ≡ false → (x && z) ≡ false
+    go true y z e = e
+    go false y z e = refl
 
-    none-row : List ℕ
-    none-row = replicate 8 0
+pub sources-more : (table : List (List ℕ)) (k : ℕ) (row new : List ℕ) → Sources table k row → length row ≡ 8 → length (getD table (81 + 2 * k) []) ≡ 8
+    → ((i : ℕ) → Fits w64 (getD new i 0)) → take 8 new ≡ orWords (take 8 row) (take 8 (getD table (81 + 2 * k) [])) → Sources table (k + 1) new
+sources-more table k row new S hr hs f e n live A =
+    below-more (λ (j : ℕ). Apart n (getD table (81 + 2 * j) []) live) k (S n live (first row here hr)) (first source there hs)
+  where
+    source : List ℕ
+    source = getD table (81 + 2 * k) []
 
-    row : (k j : ℕ) → k < d → j < 2 → M .backMask k j ≡ take n none-row
-    row k zero h l = ap (take n) (none (2 * k) (omega arith))
-    row k (suc zero) h l = ap (take n) (ap (λ (i : ℕ). getD table i []) (let e : 82 + 2 * k ≡ 81 + (2 * k + 1) = omega arith in e) ∙ none (2 * k + 1) (omega arith))
-    row k (suc (suc j)) h l = absurd (omega arith)
+    joined : (i : ℕ) → i < 8 → bitOr (getD row i 0) (getD source i 0) ≡ getD new i 0
+    joined i h =
+        sym (ap₂ bitOr (getD-take 8 row i 0 h) (getD-take 8 source i 0 h))
+        ∙ each-at bitOr (take 8 row) (take 8 source) i (omega (arith, length-take 8 row, length-take 8 source)) (omega (arith, length-take 8 row))
+        ∙ ap (λ (l : List ℕ). getD l i 0) (sym e) ∙ getD-take 8 new i 0 h
 
-    clear : (k j : ℕ) → k < d → j < 2 → Zeros 0 (M .backMask k j)
-    clear k j h l i m = ap (λ (xs : List ℕ). getD xs i 0) (row k j h l) ∙ elim (le-or-lt n i) [
-      | inl g ↦ List·getD-eq-default (take n none-row) 0 (le-trans (take-short n none-row) g)
-      | inr g ↦ getD-take n none-row i 0 g ∙ no-word 8 i
+    -- word i of the new row is made of word i of this one and another
+    Part : List ℕ → Type 0
+    Part xs = (i : ℕ) → i < 8 → (b : ℕ) × (bitOr (getD xs i 0) b ≡ getD new i 0)
+
+    here : Part row
+    here i h = (getD source i 0, joined i h)
+
+    there : Part source
+    there i h = (getD row i 0, or-comm (getD source i 0) (getD row i 0) ∙ joined i h)
+
+    first : (xs : List ℕ) → Part xs → length xs ≡ 8 → Apart n xs live
+    first xs P long i h = elim (le-or-lt 8 i) [
+      | inl g ↦ ap (λ (x : ℕ). bitAnd x (getD live i 0)) (List·getD-eq-default xs 0 (omega arith))
+      | inr g ↦ let b = P i g in
+          apart-first (getD xs i 0) (b .0) (getD live i 0) (omega (arith, f i .fits, b .1)) (ap (λ (x : ℕ). bitAnd x (getD live i 0)) (b .1) ∙ A i h)
     ]
-
-    long : (k j : ℕ) → k < d → j < 2 → length (take n startWords) ≤ length (M .backMask k j)
-    long k j h l = omega (arith, ap length (row k j h l), length-take n startWords, length-take n none-row)

@@ -4,6 +4,7 @@ use Rattle.mask.proofs.Laws.Bits.{fit-row}
 use Rattle.word.proofs.Laws.Bytes.{all-bytes}
 use Rattle.word.proofs.Laws.Shape.{sections-of, shape-of}
 use Rattle.run.proofs.Image.Stretch.{went}
+use Rattle.run.proofs.Laws.Backs.{whole-backs}
 use Rattle.run.proofs.Laws.Table.{tabled-of}
 use borrow.Author.Needs.{needs}
 use Rattle.run.proofs.ends.go_on_words.Statement.{statement}
@@ -46,6 +47,7 @@ run-over-requires c κs =
       steps = record { wide = omega (arith, w, s .pre .1); narrow = S .narrow; long = S .letters; shallow = S .deep };
       limits = s .pre .0 .limits;
       within = omega (arith, w, m .states .ensures, some);
+      whole = let t = m .before .table in whole-backs (t .result) S (t .ensures);
     }
 
 same-length : tie.Need-same-length

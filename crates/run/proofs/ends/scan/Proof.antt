@@ -39,6 +39,7 @@ run-over-requires c κs =
       steps = s .pre .steps;
       limits = record { small = s .pre .small; near = omega (arith, s .pre .small); few = omega (arith, n .note .ensures .0, noted-few (n .before .is-live .result) 0) };
       within = s .pre .within;
+      whole = s .pre .whole;
     }
 
 same-length : tie.Need-same-length

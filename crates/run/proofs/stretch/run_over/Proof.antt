@@ -1,133 +1,62 @@
--- `run_over`: at each turn what was noted and what is still to come is the whole list, and the words run on to the last ones; each loop goes on from where
--- it begins (`Since`).
-use mathlib.Core.Path.{sym, _∙_}
-use Prim.Native.Nat.{_-_}
+-- `run_over`: where the row of all sources is empty there is no back edge.
+use mathlib.Core.Path.{_≡_, sym, ap, _∙_, subst}
 use native.Mathlib.Omega.{arith}
-use lib.ListN.{length, take}
-use Rattle.word.proofs.Laws.Cut.{take-bit}
-use Rattle.run.specs.Work.{ruleMasks}
-use Rattle.word.proofs.Laws.Stretch.{at-end, at-next, Since, since-now, since-then}
+use lib.Dec.{T}
+use lib.ListN.{length, replicate, take}
+use lib.Seq.{take-all}
+use Rattle.model.proofs.Image.Verdict.{same-words}
+use Rattle.run.specs.Work.{Sources}
 use borrow.Author.Needs.{needs}
 use Rattle.run.proofs.stretch.run_over.Statement.{statement}
 use Rattle.run.proofs.stretch.run_over.Tie as tie
 
-abbrev Inv-loop2 : tie.InvT-loop2
-Inv-loop2 image stretch places₀ place found width depth last table cyclic live₀ total₀ p₀ stop places live total p =
-    Since (ruleMasks image width table) depth last place stretch places₀ (take width live₀) total₀ p₀ places (take width live) total p
+all-sources-requires : tie.Need-all-sources-requires
+all-sources-requires c κs = let p = c .before .before .before .pre in (p .steps .shallow, p .whole)
 
-abbrev μ-loop2 : tie.MeasureT-loop2
-μ-loop2 image stretch places₀ place found width depth last table cyclic live₀ total₀ p₀ stop places live total p = stop - p
+none-requires : tie.Need-none-requires
+none-requires c κs = search needs
 
-abbrev Inv-loop : tie.InvT-loop
-Inv-loop image stretch places₀ place found width depth last table cyclic live₀ total₀ p₀ places live total p =
-    Since (ruleMasks image width table) depth last place stretch places₀ (take width live₀) total₀ p₀ places (take width live) total p
+same-requires : tie.Need-same-requires
+same-requires c κs = search needs
 
-abbrev μ-loop : tie.MeasureT-loop
-μ-loop image stretch places₀ place found width depth last table cyclic live₀ total₀ p₀ places live total p = length stretch - p
+run-plain-requires : tie.Need-run-plain-requires
+run-plain-requires c κs =
+    let t = c .before .before in
+    let g = t .before .before in
+    let s = g .before .before .before .before in
+    let row = g .all-sources .result .words in
+    let long : length row ≡ 8 = search (needs, g .all-sources .ok .1 .1 .0 .1 .0 .1) in
+    let none = t .before .none .ensures in
+    let e : row ≡ replicate 8 0 =
+    sym (take-all 8 row (omega arith))
+    ∙ same-words (take 8 row) (take 8 (t .before .none .result .words)) (subst T (sym (sym (t .same .ensures) ∙ c .before .if1 .taken)) tt) ∙ ap (take 8) none in
+    (s .pre, subst (Sources (s .args .table .now) (s .args .depth)) e (g .all-sources .ensures))
 
-any-back-requires : tie.Need-any-back-requires Inv-loop2 μ-loop2 Inv-loop μ-loop
-any-back-requires c κs = c .before .before .before .pre .steps .shallow
+same-length : tie.Need-same-length
+same-length c = search needs
 
-loop-holds : tie.Need-loop-holds Inv-loop2 μ-loop2 Inv-loop μ-loop
-loop-holds c =
-    let s = c .before .before .before .before in
-    let a = s .args in
-    since-now (ruleMasks (a .image .now) (a .width) (a .table .now)) (a .depth) (a .last) (a .place) (a .stretch .now) (a .places .now) (take (a .width) (a .first)) (a .found) 0 (omega arith) (omega (arith, s .pre .limits .few))
+returns : tie.Need-returns
+returns c = c .before .before .run-plain .ensures
 
-portion-requires : tie.Need-portion-requires Inv-loop2 μ-loop2 Inv-loop μ-loop
-portion-requires c κs = c .before .loop .inv .within
+run-back-requires : tie.Need-run-back-requires
+run-back-requires c κs = let g = c .before .before .before .before in (g .before .before .before .before .pre, g .all-sources .ensures)
 
-loop2-holds : tie.Need-loop2-holds Inv-loop2 μ-loop2 Inv-loop μ-loop
-loop2-holds c =
-    let a = c .before .before .before .before .before .before .before .args in
-    let l = c .before .before .loop in
-    since-now (ruleMasks (a .image .now) (a .width) (a .table .now)) (a .depth) (a .last) (a .place) (a .stretch .now) (l .places) (take (a .width) (l .live)) (l .total) (l .p) (l .inv .within) (l .inv .few)
+same-length-2 : tie.Need-same-length-2
+same-length-2 c = search needs
 
-loop-less : tie.Need-loop-less Inv-loop2 μ-loop2 Inv-loop μ-loop
-loop-less c =
-    let t = c .before .before .portion .ensures in
-    omega (arith, c .loop2-test .left, t .2 (c .before .before .before .loop-test .taken), c .before .loop2 .inv .within)
-
-loop-again : tie.Need-loop-again Inv-loop2 μ-loop2 Inv-loop μ-loop
-loop-again c =
-    let a = c .before .before .before .before .before .before .before .before .before .args in
-    since-then (ruleMasks (a .image .now) (a .width) (a .table .now)) (a .depth) (a .last) (a .place) (a .stretch .now) (c .before .before .before .before .loop .inv) (c .before .loop2 .inv)
-
-shared-slice-read-step-on : tie.Need-shared-slice-read-step-on Inv-loop2 μ-loop2 Inv-loop μ-loop
-shared-slice-read-step-on c = omega (arith, c .before .before .loop2-test .taken, c .before .before .before .before .portion .ensures .1)
-
-step-on-requires : tie.Need-step-on-requires Inv-loop2 μ-loop2 Inv-loop μ-loop
-step-on-requires c κs = let b = c .before .before .before .before .before .before .before in (b .before .before .before .before .pre .steps, b .any-back .ensures)
-
-add-p : tie.Need-add-p Inv-loop2 μ-loop2 Inv-loop μ-loop
-add-p c = omega (arith, c .before .before .before .loop2-test .taken, c .before .before .before .before .before .portion .ensures .1, c .before .before .before .before .before .before .before .before .before .before .before .before .pre .limits .small)
-
-add-note : tie.Need-add-note Inv-loop2 μ-loop2 Inv-loop μ-loop
-add-note c = omega (arith, c .before .before .before .before .loop2-test .taken, c .before .before .before .before .before .before .portion .ensures .1, c .before .before .before .before .before .before .before .before .before .before .before .before .before .pre .limits .near)
-
-cast-note : tie.Need-cast-note Inv-loop2 μ-loop2 Inv-loop μ-loop
-cast-note c = omega (arith, c .before .before .before .before .loop2-test .taken, c .before .before .before .before .before .before .portion .ensures .1, c .before .before .before .before .before .before .before .before .before .before .before .before .before .pre .limits .near)
-
-slice-aggregate-is-live : tie.Need-slice-aggregate-is-live Inv-loop2 μ-loop2 Inv-loop μ-loop
-slice-aggregate-is-live c = sym (c .before .before .step-on .ensures .eight)
-
-is-live-requires : tie.Need-is-live-requires Inv-loop2 μ-loop2 Inv-loop μ-loop
-is-live-requires c κs =
-    let s = c .before .before .before .before .before .before .before .before .before .before .before .before .before .before in
-    omega (arith, c .before .before .step-on .ensures .eight, s .pre .within, s .pre .steps .narrow)
-
-note-requires : tie.Need-note-requires Inv-loop2 μ-loop2 Inv-loop μ-loop
-note-requires c κs = search needs
-
-loop2-less : tie.Need-loop2-less Inv-loop2 μ-loop2 Inv-loop μ-loop
-loop2-less c = omega (arith, c .before .before .before .before .before .before .before .before .before .loop2-test .taken)
-
-loop2-again : tie.Need-loop2-again Inv-loop2 μ-loop2 Inv-loop μ-loop
-loop2-again c =
-    let n = c .before .before in
-    let h = n .before in
-    let b = h .before .before .before .step-on in
-    let t = h .before .before .before .before .before .before in
-    let l = t .before .loop2 in
-    let s = t .before .before .before .before .before .before .before .before .before in
-    let a = s .args in
-    at-next (ruleMasks (a .image .now) (a .width) (a .table .now)) (a .depth) (a .last) (a .place) (a .stretch .now) (s .pre .limits .small) (take (a .width) (b .last .0)) (l .inv)
-    (omega (arith, t .loop2-test .taken, t .before .before .portion .ensures .1)) (b .ensures .made) (h .is-live .result)
-    (h .is-live .ensures ∙ take-bit (a .width) (b .last .0) (a .last) (s .pre .within)) (n .note .ensures .0) (n .note .ensures .1)
-
-same-length : tie.Need-same-length Inv-loop2 μ-loop2 Inv-loop μ-loop
-same-length c = c .before .loop .inv .long
-
-returns : tie.Need-returns Inv-loop2 μ-loop2 Inv-loop μ-loop
-returns c =
-    let a = c .before .before .before .before .before .before .args in
-    let l = c .before .loop in
-    at-end (ruleMasks (a .image .now) (a .width) (a .table .now)) (a .depth) (a .last) (a .place) (a .stretch .now) (a .width) (a .found) (a .places .now) (take (a .width) (a .first)) (l .live) (l .inv)
-    (c .loop-test .left)
+returns-2 : tie.Need-returns-2
+returns-2 c = c .before .before .run-back .ensures
 
 pub run-over-spec : {M : Type 1} → statement M
 run-over-spec =
     tie.close
     (tie.spec
-    Inv-loop2
-    μ-loop2
-    Inv-loop
-    μ-loop
-    any-back-requires
-    loop-holds
-    portion-requires
-    loop2-holds
-    loop-less
-    loop-again
-    shared-slice-read-step-on
-    step-on-requires
-    add-p
-    add-note
-    cast-note
-    slice-aggregate-is-live
-    is-live-requires
-    note-requires
-    loop2-less
-    loop2-again
+    all-sources-requires
+    none-requires
+    same-requires
+    run-plain-requires
     same-length
-    returns)
+    returns
+    run-back-requires
+    same-length-2
+    returns-2)

@@ -190,7 +190,8 @@ pub record Scans (ws text : List ℕ) (W d last : ℕ) (table : List (List ℕ))
   pub steps : Steps ws W d
   pub small : length text ≤ 65535
   pub within : last < 64 * W
-  pub whole : Whole table d
+  pub tables : Tables ws W d
+  pub tabled : Tabled ws W d table
 
 -- of a stretch from the words of a mask: words with a shape, and as many words of the mask as it says
 pub record Goes (ws mask : List ℕ) (place : ℕ) (stretch : List ℕ) : Type 0 where

@@ -37,7 +37,7 @@ fn scan(
     ensures { λ r. ⌜ Written (endsWith (ruleMasks (now (image .entry)) width (now (table .entry))) depth last (now (text .entry)))
         (now (places .entry)) r (now (places .exit)) ⌝ }
 {
-    let first = close(start(), depth, width, table);
+    let first = close(start(), depth, 8, table);
     let live = first.words;
     let total = note(places, 0, 0, is_live(&live, last));
     let ran = run_over(

@@ -8,7 +8,7 @@ use native.Mathlib.Nat.{le-refl, not-suc-le-zero}
 use native.Mathlib.Omega.{arith}
 use borrow.Author.Count.{below-more}
 use lib.ListN.{getD, length, length-set, set, take}
-use lib.Seq.{getD-set-other, getD-set-same}
+use lib.Seq.{getD-set-other, getD-set-same, take-take}
 use Rattle.model.specs.Models.Apart.{backAt, depthWord, gatherAt, propagateAt, scatterAt, stateWord}
 use Rattle.model.specs.Models.Run.{closeWords, endsWith, Masks}
 use Rattle.model.specs.Models.Words.{Fit}
@@ -104,7 +104,15 @@ module _ (ws : List ℕ) (fits : Fit ws) (S : Shape ws) (table : List (List ℕ)
       ∙ ap (λ (i : ℕ). closeWords (N 8) i (take 8 live)) q
       ∙ sym (close-cut 8 d (masksOf ws) (N 8) (work-cut 8) (back-cut 8 narrow) live h)
 
-  -- THE SAME ENDS, with what code has read of the shape
+  -- and their first words are those of a rule of so many, with what code has read of the shape
+  pub close-wide : {wide deep : ℕ} → wide ≡ W → deep ≡ d → (live r : List ℕ) → length live ≤ 8 → take 8 r ≡ closeWords (passMasks 8 table) deep (take 8 live)
+      → take wide r ≡ closeWords (ruleMasks ws wide table) deep (take wide live)
+  close-wide {wide} {deep} ew ed live r h e =
+      ap (λ (n : ℕ). take n r) ew ∙ sym (take-take W 8 r narrow) ∙ ap (take W) (close-eight ed live r h e) ∙ take-take W 8 (closeWords (masksOf ws) d live) narrow
+      ∙ close-cut W d (masksOf ws) (N W) (work-cut W) (back-cut W (le-refl W)) live h
+      ∙ sym (ap (λ (n : ℕ). closeWords (ruleMasks ws n table) deep (take n live)) ew ∙ ap (λ (i : ℕ). closeWords (N W) i (take W live)) ed)
+
+  -- THE SAME ENDS
   pub work-ends : {wide deep count : ℕ} → wide ≡ W → deep ≡ d → count ≡ stateWord ws → (text : List ℕ) → Bytes text
       → endsWith (ruleMasks ws wide table) deep (count - 1) text ≡ endsWith (masksOf ws) d (stateWord ws - 1) text
   work-ends {wide} {deep} {count} ew ed em text B =

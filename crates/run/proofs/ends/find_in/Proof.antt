@@ -7,7 +7,6 @@ use Rattle.mask.proofs.Laws.Bits.{fit-row}
 use Rattle.word.specs.Ends.{Written}
 use Rattle.word.proofs.Laws.Bytes.{all-bytes}
 use Rattle.word.proofs.Laws.Shape.{sections-of, shape-of}
-use Rattle.run.proofs.Laws.Backs.{whole-backs}
 use Rattle.run.proofs.Laws.Table.{tabled-of, work-ends}
 use borrow.Author.Needs.{needs}
 use Rattle.run.proofs.ends.find_in.Statement.{statement}
@@ -42,7 +41,8 @@ scan-requires c κs =
       steps = record { wide = omega (arith, w, s .pre .1); narrow = S .narrow; long = S .letters; shallow = S .deep };
       small = s .pre .2;
       within = omega (arith, w, m .states .ensures, shape-of ws (s .pre .0) .some-states);
-      whole = let t = m .before .table in whole-backs (t .result) S (t .ensures);
+      tables = record { shape = s .pre .0; wide = w; deep = d .depth .ensures };
+      tabled = m .before .table .ensures;
     }
 
 same-length : tie.Need-same-length

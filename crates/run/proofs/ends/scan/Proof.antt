@@ -1,14 +1,17 @@
 -- `scan`: place 0 noted, and then the places after it (`begun`).
 use mathlib.Core.Path.{_≡_, ap, _∙_}
-use mathlib.Core.List.{List, []}
+use mathlib.Core.List.{List}
 use Prim.Native.Nat.{ℕ}
 use native.Mathlib.Omega.{arith}
 use lib.ListN.{length, take}
 use Rattle.model.specs.Models.Run.{closeWords}
+use Rattle.mask.proofs.Laws.Bits.{fit-row}
 use Rattle.word.proofs.Laws.Cut.{take-bit}
+use Rattle.word.proofs.Laws.Shape.{sections-of, shape-of}
 use Rattle.word.proofs.Laws.Stretch.{begun, noted-few}
 use Rattle.run.specs.Work.{ruleMasks}
-use Rattle.run.proofs.Laws.Rounds.{close-letters}
+use Rattle.run.proofs.Laws.Backs.{whole-backs}
+use Rattle.run.proofs.Laws.Table.{close-wide, tabled-of}
 use borrow.Author.Needs.{needs}
 use Rattle.run.proofs.ends.scan.Statement.{statement}
 use Rattle.run.proofs.ends.scan.Tie as tie
@@ -39,7 +42,7 @@ run-over-requires c κs =
       steps = s .pre .steps;
       limits = record { small = s .pre .small; near = omega (arith, s .pre .small); few = omega (arith, n .note .ensures .0, noted-few (n .before .is-live .result) 0) };
       within = s .pre .within;
-      whole = s .pre .whole;
+      whole = let t = s .pre .tables in whole-backs (s .args .table .now) (sections-of (s .args .image .now) (t .shape) (t .wide) (t .deep)) (s .pre .tabled);
     }
 
 same-length : tie.Need-same-length
@@ -59,8 +62,12 @@ returns c =
     let table = a .table .now in
     let M = ruleMasks ws w table in
     let live = take w (q .result .words) in
+    let t = s .pre .tables in
+    let eight : length (f .result .words) ≡ 8 = ap length (f .ensures) in
     let first : live ≡ closeWords M (a .depth) (M .startMask) =
-    q .ensures ∙ close-letters w [] ws 0 w table (a .depth) (take w (f .result .words)) ∙ ap (λ (x : List ℕ). closeWords M (a .depth) (take w x)) (f .ensures) in
+    close-wide ws (fit-row ws (h .before .before .before .before .before .before .before .before .shared-slice-known .given)) (shape-of ws (t .shape)) table
+    (tabled-of ws table (t .wide) (t .deep) (s .pre .tabled)) (t .wide) (t .deep) (f .result .words) (q .result .words) (omega (arith, eight)) (q .ensures)
+    ∙ ap (λ (x : List ℕ). closeWords M (a .depth) (take w x)) (f .ensures) in
     begun M w (a .depth) (a .last) (a .text .now) live (a .places .now) first (h .is-live .result)
     (h .is-live .ensures ∙ take-bit w (q .result .words) (a .last) (s .pre .within)) (n .note .ensures .0) (n .note .ensures .1) (g .run-over .ensures)
 

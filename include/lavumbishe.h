@@ -19,7 +19,7 @@
  *  - Areas. Each is a pointer and a length in elements, not in bytes. The area to be written must not overlap one to be read. A
  *    pointer must be aligned for its type and must not be null, also where the length is 0.
  *  - Stack: 1 MiB for build, since the readers nest as deep as the rule's brackets may; 16 KiB for read back, 64 KiB for match, begin, step and check,
- *    128 KiB for propose. The tests measure some 753,000 bytes on x86-64 for build, 11,400 for read back, 14,900 for match, 15,100 for check and 102,500
+ *    128 KiB for propose. The tests measure some 738,000 bytes on x86-64 for build, 13,300 for read back, 17,900 for match, 18,000 for check and 106,700
  *    for propose. Build may be left to the desk: a panel that gets images needs match alone, or begin and step.
  *  - memcpy, memmove and memset, which the compiler may call. Nothing else is called.
  *
@@ -57,13 +57,14 @@ enum {
 enum {
     LAVUMBISHE_RULE_BYTES = 1024,
     LAVUMBISHE_TEXT_BYTES = 65535,
-    LAVUMBISHE_IMAGE_WORDS = 4705,
+    LAVUMBISHE_IMAGE_WORDS = 4834,
     LAVUMBISHE_MASK_WORDS = 8,
     LAVUMBISHE_ENDS = 65536
 };
 
 /* Build: from a rule to its image. Numbers 0 to 5. The count is the image's length in words, which are the first ones of those lent. Store it with
- * the words: read back and match take exactly so many. */
+ * the words: read back and match take exactly so many. An image that was made before groups could take '*' has a section less and gets 6: build it anew
+ * from its rule, or from its plain writing, which means what it meant. */
 uint64_t lavumbishe_build(const uint8_t *rule, size_t rule_len, uint64_t *image, size_t image_len);
 
 /* Read back: from an image to the rule's plain writing, which is again a rule, of the same image. Numbers 0, 6, 8. The count is the writing's length

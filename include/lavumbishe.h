@@ -42,7 +42,7 @@ enum {
     LAVUMBISHE_RULE_TOO_LONG = 1,   /* build:                       the rule has more than 1,024 bytes */
     LAVUMBISHE_NOT_A_RULE = 2,      /* build:                       the rule is not in the grammar (a closing newline is enough) */
     LAVUMBISHE_TOO_MANY_STATES = 3, /* build:                       more than 512 states */
-    LAVUMBISHE_TOO_DEEP = 4,        /* build:                       unions nested more than 8 deep */
+    LAVUMBISHE_TOO_DEEP = 4,        /* build:                       unions and groups with ? or * more than 8 deep */
     LAVUMBISHE_IMAGE_NO_ROOM = 5,   /* build:                       the image is longer than the words lent */
     LAVUMBISHE_NOT_AN_IMAGE = 6,    /* all but build:               the words are not exactly the image of a rule */
     LAVUMBISHE_TEXT_TOO_LONG = 7,   /* match, step, check, propose: the text or the stretch has more than 65,535 bytes */

@@ -8,8 +8,7 @@ use Prim.Native.Nat.{ℕ, zero, suc, _+_, _-_, _*_, _≤_, _<_}
 use lib.Dec.{leb}
 use lib.ListN.{drop, getD, length, replicate, take}
 use Rattle.model.specs.Models.Apart.{backAt, depthWord, gatherAt, propagateAt, scatterAt, stateWord}
-use Rattle.model.specs.Models.Run.{closeWords, endsWith, Masks, moveBy, passWords, returnsWords, stepWords}
-use Rattle.model.specs.Models.Verdict.{sameWords}
+use Rattle.model.specs.Models.Run.{closeWords, endsWith, Masks, moveBy, passWords, stepWords}
 use Rattle.moves.specs.Less.{lessOne, plusWords, startWords}
 use Rattle.moves.specs.Sets.{Apart}
 use Rattle.word.specs.Ends.{Limits}
@@ -131,12 +130,6 @@ passMasks n table = cutMasks n (workMasks [] 0 table)
 abbrev pub ruleMasks : List ℕ → ℕ → List (List ℕ) → Masks
 ruleMasks ws n table = cutMasks n (workMasks ws n table)
 
--- what is left of two rounds after the first
-abbrev pub secondRound : Masks → ℕ → List ℕ → List ℕ
-secondRound M d first =
-    let more = returnsWords M d first first in
-    cond (sameWords more first) first (passWords M d more)
-
 -- ONE BYTE on the first n words of eight: with one round, and with two
 pub record Stepped (n : ℕ) (ws : List ℕ) (b d : ℕ) (table : List (List ℕ)) (live r : List ℕ) : Type 0 where
   pub made : let M = ruleMasks ws n table in take n r ≡ passWords M d (moveBy M b (take n live))
@@ -172,7 +165,7 @@ pub record Steps (ws : List ℕ) (W d : ℕ) : Type 0 where
   pub long : 6 + 512 * W ≤ length ws
   pub shallow : d ≤ 8
 
--- of one of a rule with back edges, of which a row has all sources
+-- of one byte of a rule with back edges, of which a row has all sources
 pub record Turns (ws : List ℕ) (W d : ℕ) (table : List (List ℕ)) (row : List ℕ) : Type 0 where
   pub steps : Steps ws W d
   pub whole : Whole table d

@@ -10,9 +10,9 @@ ghost use mathlib.Core.List.{[]};
 ghost use mathlib.Core.Path.{_≡_};
 ghost use Prim.Native.Nat.{_+_, _*_, _≤_, _<_};
 ghost use lib.ListN.{getD, take};
-ghost use Rattle.model.specs.Models.Run.{closeWords, returnsWords, returnWords};
+ghost use Rattle.model.specs.Models.Run.{closeWords, returnsWords, returnWords, secondRound};
 ghost use Rattle.model.specs.Models.Words.{orWords};
-ghost use Rattle.run.specs.Work.{passMasks, secondRound, Sources, Whole};
+ghost use Rattle.run.specs.Work.{passMasks, Sources, Whole};
 
 // With what the back edges of depth k add.
 fn return_at(live: Mask, first: Mask, k: usize, n: usize, table: &Table) -> Mask

@@ -6,25 +6,21 @@ use mathlib.Core.List.{List, [], _∷_}
 use Prim.Native.Nat.{ℕ}
 use lib.Dec.{T, eqb→eq, eqb-refl}
 use Rattle.model.specs.Tree.{Tree}
-use Rattle.model.specs.Live.{After, Before, Free, itself, Live, LiveFrom, onward, Reached, Takes}
+use Rattle.model.specs.Live.{After, Before, Free, Live, LiveFrom, Reached, Takes}
 use Rattle.model.proofs.Definitions.Along.{StillAlong}
 use Rattle.model.proofs.Definitions.Free.{free-is}
 use Rattle.model.proofs.Definitions.Takes.{takes-is}
 use Rattle.model.proofs.Ends.Run.{liveSet, Moved, moved, moved-in, moved-out, startSet, still-free}
 use Rattle.model.proofs.Language.Arcs.{arc, arcs, backArc, forkArc, propagateArc}
 use Rattle.model.proofs.Language.Languages.{feed}
+use Rattle.model.proofs.Passes.Closure.{reached-map, reached-more}
 use Rattle.model.proofs.Passes.OnTrees.{Silent}
 use Rattle.model.proofs.Words.Full.{Full}
 use Rattle.model.proofs.Words.Rounds.{bits-are, closed}
 
--- what is reached grows with the edges and with the set
-pub reached-map : {R S : ℕ → ℕ → Type 0} {D E : ℕ → Type 0} → ((q r : ℕ) → R q r → S q r) → ((q : ℕ) → D q → E q) → {q : ℕ} → Reached R D q → Reached S E q
-reached-map f g (itself h) = itself (g _ h)
-reached-map f g (onward {q} {r} c e) = onward (reached-map f g c) (f q r e)
-
 module _ (t : Tree) where
   after-map : (b : ℕ) {D E : ℕ → Type 0} → ((q : ℕ) → D q → E q) → (q : ℕ) → After t b D q → After t b E q
-  after-map b {D} {E} f q = reached-map (λ x y e. e) go
+  after-map b {D} {E} f q = reached-more go
     where
       go : (r : ℕ) → (r ≡ 0) ⊎ ((q : ℕ) × D q × Takes t b q r) → (r ≡ 0) ⊎ ((q : ℕ) × E q × Takes t b q r)
       go r (inl e) = inl e
@@ -58,15 +54,15 @@ module _ (t : Tree) (F : Full t) where
   -- BEFORE ANY BYTE
   pub before-is : (q : ℕ) → T (closed t F startSet q) ↔ Before t q
   before-is q = (
-    λ h. reached-map (λ x y e. e) (λ x k. eqb→eq x 0 k) (closed-is startSet q .0 h),
-    λ h. closed-is startSet q .1 (reached-map (λ x y e. e) (λ x k. subst (λ (y : ℕ). T (startSet y)) (sym k) (eqb-refl 0)) h),
+    λ h. reached-more (λ x k. eqb→eq x 0 k) (closed-is startSet q .0 h),
+    λ h. closed-is startSet q .1 (reached-more (λ x k. subst (λ (y : ℕ). T (startSet y)) (sym k) (eqb-refl 0)) h),
   )
 
   -- AFTER A BYTE, from any set of states
   pub after-is : (b : ℕ) (D : ℕ → Bool) (q : ℕ) → T (closed t F (moved (arcs t 0 0) b D) q) ↔ After t b (λ x. T (D x)) q
   after-is b D q = (
-    λ h. reached-map (λ x y e. e) (λ x k. there x (moved-out t F b D x k)) (closed-is (moved (arcs t 0 0) b D) q .0 h),
-    λ h. closed-is (moved (arcs t 0 0) b D) q .1 (reached-map (λ x y e. e) back h),
+    λ h. reached-more (λ x k. there x (moved-out t F b D x k)) (closed-is (moved (arcs t 0 0) b D) q .0 h),
+    λ h. closed-is (moved (arcs t 0 0) b D) q .1 (reached-more back h),
   )
     where
       Moves : ℕ → Type 0

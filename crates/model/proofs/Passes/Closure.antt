@@ -28,6 +28,14 @@ pub reached-in : {R : ℕ → ℕ → Type 0} {D F : Set} → D ⊆ F → Shut R
 reached-in h s (itself d) = h _ d
 reached-in h s (onward {q = q} {r = r} c e) = s q r (reached-in h s c) e
 
+-- what is reached grows with the edges and with the set
+pub reached-map : {R S : ℕ → ℕ → Type 0} {D E : Set} → ((q r : ℕ) → R q r → S q r) → D ⊆ E → {q : ℕ} → Reached R D q → Reached S E q
+reached-map f g (itself h) = itself (g _ h)
+reached-map f g (onward {q} {r} c e) = onward (reached-map f g c) (f q r e)
+
+pub reached-more : {R : ℕ → ℕ → Type 0} {D E : Set} → D ⊆ E → {q : ℕ} → Reached R D q → Reached R E q
+reached-more g = reached-map (λ q r e. e) g
+
 add-in : {R : ℕ → ℕ → Type 0} {D F : Set} → D ⊆ F → Shut R F → Add R D ⊆ F
 add-in h s q (inl d) = h q d
 add-in h s q (inr d) = s (d .0) q (h (d .0) (d .1)) (d .2)

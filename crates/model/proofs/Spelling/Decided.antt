@@ -19,10 +19,10 @@ use Rattle.model.specs.Models.Spelling.{along, follows, isSpelled, lates
 use Rattle.model.specs.Spelling.{between, Follow, Latest, Reaches, Spelled}
 use Rattle.model.specs.Tree.{Tree}
 use Rattle.model.proofs.Definitions.Below.{quiet-rises}
-use Rattle.model.proofs.Definitions.Live.{free-silent, reached-map, silent-free}
+use Rattle.model.proofs.Definitions.Live.{free-silent, silent-free}
 use Rattle.model.proofs.Laws.Bool.{and-both, and-split, cond-cases, is-false, le-or-lt, or-left, or-right, or-split}
 use Rattle.model.proofs.Laws.Lists.{any-in, any-out}
-use Rattle.model.proofs.Passes.Closure.{Add, AnyEdge}
+use Rattle.model.proofs.Passes.Closure.{Add, AnyEdge, reached-map, reached-more}
 use Rattle.model.proofs.Passes.OnTrees.{falls, Gathers, Propagates, Returns, Scatters, Silent, tree-rounds}
 use Rattle.model.proofs.Spelling.Ends.{spelled-leads}
 use Rattle.model.proofs.Words.Full.{Full}
@@ -109,7 +109,7 @@ module _ (t : Tree) (F : Full t) where
 
   once-out : {q x : ℕ} → Once q x → Reached Quiet (Add (Returns t) (Rises q)) x
   once-out (inl h) = itself (inl h)
-  once-out (inr (p, r, b, h, k)) = reached-map (λ y z e. e) (λ y s. inr (p, h, subst (Returns t p) (sym s) b)) k
+  once-out (inr (p, r, b, h, k)) = reached-more (λ y s. inr (p, h, subst (Returns t p) (sym s) b)) k
 
   once-is : (q x : ℕ) → Once q x ↔ Reaches t q x
   once-is q x =

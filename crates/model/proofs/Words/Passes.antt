@@ -6,8 +6,8 @@ use Prim.Native.Nat.{ℕ, zero, suc}
 use lib.Dec.{T}
 use Rattle.model.specs.Tree.{Seq}
 use Rattle.model.specs.Edges.{depth}
-use Rattle.model.specs.Live.{itself, onward, Reached}
-use Rattle.model.proofs.Passes.Closure.{_⊆_, Add, AnyEdge, down, Set, up}
+use Rattle.model.specs.Live.{Reached}
+use Rattle.model.proofs.Passes.Closure.{_⊆_, Add, AnyEdge, down, reached-more, Set, up}
 use Rattle.model.proofs.Passes.OnTrees.{Gathers, Propagates, Scatters, tree-passes}
 use Rattle.model.proofs.Words.Full.{Full}
 use Rattle.model.proofs.Words.GatherPass.{gathered, gathered-is}
@@ -15,10 +15,6 @@ use Rattle.model.proofs.Words.PropagatePass.{propagated, propagated-is}
 use Rattle.model.proofs.Words.ScatterPass.{scattered, scattered-is}
 
 -- ---- a larger set reaches more
-pub reached-map : {E : ℕ → ℕ → Type 0} {D D′ : Set} → D ⊆ D′ → {q : ℕ} → Reached E D q → Reached E D′ q
-reached-map f (itself h) = itself (f _ h)
-reached-map f (onward c e) = onward (reached-map f c) e
-
 pub add-map : (E : ℕ → ℕ → Type 0) {D D′ : Set} → D ⊆ D′ → Add E D ⊆ Add E D′
 add-map E f q (inl h) = inl (f q h)
 add-map E f q (inr h) = inr (h .0, f (h .0) (h .1), h .2)
@@ -43,12 +39,12 @@ module _ (s : Seq) (F : Full s) where
   Down = down (Propagates s) (Gathers s) (Scatters s)
 
   up-map : (n : ℕ) {D D′ : Set} → D ⊆ D′ → Up n D ⊆ Up n D′
-  up-map zero f q h = reached-map f h
-  up-map (suc n) f q h = up-map n (add-map (Gathers s n) (λ y. reached-map f)) q h
+  up-map zero f q h = reached-more f h
+  up-map (suc n) f q h = up-map n (add-map (Gathers s n) (λ y. reached-more f)) q h
 
   down-map : (n k : ℕ) {D D′ : Set} → D ⊆ D′ → Down n k D ⊆ Down n k D′
   down-map zero k f q h = f q h
-  down-map (suc n) k f q h = down-map n (suc k) (λ x. reached-map (add-map (Scatters s k) f)) q h
+  down-map (suc n) k f q h = down-map n (suc k) (λ x. reached-more (add-map (Scatters s k) f)) q h
 
   risen-is : (n : ℕ) (D : ℕ → Bool) (q : ℕ) → T (risen n D q) ↔ Up n (λ x. T (D x)) q
   risen-is zero D q = propagated-is s F 0 D q
@@ -64,8 +60,8 @@ module _ (s : Seq) (F : Full s) where
   fallen-is (suc n) k D q =
       let S = scattered s F k D in
       let P = propagated s F (suc k) S in (
-        λ h. down-map n (suc k) (λ x u. reached-map (λ y v. scattered-is s F k D y .0 v) (propagated-is s F (suc k) S x .0 u)) q (fallen-is n (suc k) P q .0 h),
-        λ h. fallen-is n (suc k) P q .1 (down-map n (suc k) (λ x u. propagated-is s F (suc k) S x .1 (reached-map (λ y v. scattered-is s F k D y .1 v) u)) q h),
+        λ h. down-map n (suc k) (λ x u. reached-more (λ y v. scattered-is s F k D y .0 v) (propagated-is s F (suc k) S x .0 u)) q (fallen-is n (suc k) P q .0 h),
+        λ h. fallen-is n (suc k) P q .1 (down-map n (suc k) (λ x u. propagated-is s F (suc k) S x .1 (reached-more (λ y v. scattered-is s F k D y .1 v) u)) q h),
       )
 
   -- THE THEOREM: from any set of states the passes on bits compute what propagate, gather and scatter edges reach

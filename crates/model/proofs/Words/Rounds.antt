@@ -19,11 +19,11 @@ use Rattle.model.proofs.Language.Arcs.{Arc, arc, ArcKind, arcs, backArc
 use Rattle.model.proofs.Laws.Bool.{and-both, and-split, or-left, or-right, or-split, same-truth}
 use Rattle.model.proofs.Laws.Lists.{any-in, any-out, In}
 use Rattle.model.proofs.Passes.Bodies.{before, behind, inner, Lies, outer, same}
-use Rattle.model.proofs.Passes.Closure.{Add, reached-in, Set}
+use Rattle.model.proofs.Passes.Closure.{Add, reached-in, reached-more, Set}
 use Rattle.model.proofs.Passes.OnTrees.{falls, lies, return-high, return-low, Returns, Silent, tree-rounds}
 use Rattle.model.proofs.Words.Back.{ahead-first, Clear}
 use Rattle.model.proofs.Words.Full.{Full}
-use Rattle.model.proofs.Words.Passes.{add-map, passed, passed-is, reached-map}
+use Rattle.model.proofs.Words.Passes.{add-map, passed, passed-is}
 
 module _ (s : Seq) where
   abbrev es : List Arc
@@ -147,8 +147,8 @@ module _ (s : Seq) where
     -- THE THEOREM: from any set of states they compute what all edges without a letter reach
     pub bits-are : (D : ℕ → Bool) (q : ℕ) → T (closed D q) ↔ Reached (Silent s) (λ x. T (D x)) q
     bits-are D q = (
-      λ h. tree-rounds s F (λ x. T (D x)) q .0 (reached-map (λ x k. add-map (Returns s) (λ y. passed-is s F D y .0) x (added-is first x .0 k)) (passed-is s F new q .0 h)),
-      λ h. passed-is s F new q .1 (reached-map (λ x k. added-is first x .1 (add-map (Returns s) (λ y. passed-is s F D y .1) x k)) (tree-rounds s F (λ x. T (D x)) q .1 h)),
+      λ h. tree-rounds s F (λ x. T (D x)) q .0 (reached-more (λ x k. add-map (Returns s) (λ y. passed-is s F D y .0) x (added-is first x .0 k)) (passed-is s F new q .0 h)),
+      λ h. passed-is s F new q .1 (reached-more (λ x k. added-is first x .1 (add-map (Returns s) (λ y. passed-is s F D y .1) x k)) (tree-rounds s F (λ x. T (D x)) q .1 h)),
     )
       where
         first : ℕ → Bool

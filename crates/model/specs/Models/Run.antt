@@ -85,12 +85,14 @@ abbrev pub returnsWords : Masks → ℕ → (first live : List ℕ) → List ℕ
 returnsWords M zero first live = live
 returnsWords M (suc k) first live = returnsWords M k first (orWords live (returnWords (M .backMask k 0) (M .backMask k 1) first))
 
--- TWO ROUNDS: the passes, and once more only where the back edges add something
-abbrev pub closeWords : Masks → ℕ → List ℕ → List ℕ
-closeWords M d live =
-    let first = passWords M d live in
+-- TWO ROUNDS: the passes, and once more only where the back edges add something to what the first gave
+abbrev pub secondRound : Masks → ℕ → List ℕ → List ℕ
+secondRound M d first =
     let more = returnsWords M d first first in
     cond (sameWords more first) first (passWords M d more)
+
+abbrev pub closeWords : Masks → ℕ → List ℕ → List ℕ
+closeWords M d live = secondRound M d (passWords M d live)
 
 -- one byte, and the bytes read so far, the last one first
 abbrev pub stepWords : Masks → ℕ → ℕ → List ℕ → List ℕ

@@ -1,20 +1,21 @@
--- TWO ROUNDS: one turn of the loop over the depths' back edges; the second round, from what the first gave; that neither looks at a letter; that nothing is
--- added without a live source; and one byte with both, of which the first is all for a rule without a back edge.
+-- TWO ROUNDS: one turn of the loop over the depths' back edges; that neither round looks at a letter; that nothing is added without a live source; and one
+-- byte with both, of which the first is all for a rule without a back edge.
 use mathlib.Core.Path.{_≡_, refl, sym, ap, _∙_}
-use mathlib.Core.Bool.{Bool, true, false, cond}
+use mathlib.Core.Bool.{true, false, cond}
 use mathlib.Core.List.{List, []}
 use Prim.Native.Nat.{ℕ, zero, suc, _+_, _-_, _*_, _≤_, _<_}
 use native.Mathlib.Nat.{le-refl, not-suc-le-zero}
 use native.Mathlib.Omega.{arith}
 use lib.Bits.{bitAnd}
 use lib.ListN.{getD, length, replicate, take}
-use Rattle.model.specs.Models.Run.{closeWords, fallWords, Masks, passWords, returnsWords, returnWords, riseWords}
+use Rattle.model.specs.Models.Run.{closeWords, fallWords, Masks, passWords, returnsWords, returnWords, riseWords, secondRound}
 use Rattle.model.specs.Models.Verdict.{sameWords}
 use Rattle.model.specs.Models.Words.{orWords}
 use Rattle.mask.proofs.Laws.Same.{same-true}
+use Rattle.word.proofs.Laws.Rounds.{no-more, one-more}
 use Rattle.moves.specs.Sets.{Apart}
 use Rattle.moves.proofs.Laws.Back.{return-none}
-use Rattle.run.specs.Work.{cutMasks, NoBack, passMasks, ruleMasks, secondRound, Sources, Stepped, SteppedOn, Whole, workMasks}
+use Rattle.run.specs.Work.{cutMasks, NoBack, passMasks, ruleMasks, Sources, Stepped, SteppedOn, Whole, workMasks}
 use Rattle.run.proofs.Laws.Passes.{pass-letters}
 use Rattle.run.proofs.Laws.Rows.{no-word}
 
@@ -25,17 +26,6 @@ module _ (M : Masks) where
   returns-one (suc k) h first live =
       let e : suc k - 1 ≡ k = omega arith in
       ap (λ (j : ℕ). returnsWords M j first (orWords live (returnWords (M .backMask j 0) (M .backMask j 1) first))) e
-
-  -- the second round, by whether the back edges add something
-  module _ (d : ℕ) (first more : List ℕ) (e : more ≡ returnsWords M d first first) where
-    by : {b : Bool} → sameWords more first ≡ b → cond b first (passWords M d more) ≡ secondRound M d first
-    by t = sym (ap (λ (c : Bool). cond c first (passWords M d more)) t) ∙ ap (λ (m : List ℕ). cond (sameWords m first) first (passWords M d m)) e
-
-    pub one-more : sameWords more first ≡ false → passWords M d more ≡ secondRound M d first
-    one-more t = by t
-
-    pub no-more : sameWords more first ≡ true → first ≡ secondRound M d first
-    no-more t = by t
 
 -- ---- no letter matters
 module _ (n : ℕ) (ws ws′ : List ℕ) (W W′ : ℕ) (table : List (List ℕ)) where

@@ -9,7 +9,7 @@ use native.Mathlib.Omega.{arith}
 use lib.Bits.{bitOr, or-zero-r}
 use lib.ListN.{drop, getD, length, take, take-append-drop}
 use Rattle.model.specs.Bits.{bit}
-use Rattle.model.specs.Models.Run.{ahead, backWord, closeWords, fallWords, firstLive, gatherBy, Masks, moveBy, passWords, propagateBy, returnsWords, returnWords, riseWords, scatterBy}
+use Rattle.model.specs.Models.Run.{ahead, backWord, closeWords, fallWords, firstLive, gatherBy, Masks, moveBy, passWords, propagateBy, returnsWords, returnWords, riseWords, scatterBy, secondRound}
 use Rattle.model.specs.Models.Verdict.{sameWords}
 use Rattle.model.specs.Models.Words.{andWords, eachWord, orWords, shiftWords}
 use Rattle.model.proofs.Laws.Bits.{bit-zero, mask-same, no-bit}
@@ -151,7 +151,7 @@ module _ (n d : ℕ) (M N : Masks) (B : BackCut n d M N) where
       picked (sameWords more first) first (passWords M d more)
       ∙ ap₂ (λ (b : Bool) (r : List ℕ). cond b (take n first) r) same (pass more)
       ∙ ap (λ (ws : List ℕ). cond (sameWords ws (take n first)) (take n first) (passWords N d ws)) alike
-      ∙ ap (λ (ws : List ℕ). let again = returnsWords N d ws ws in cond (sameWords again ws) ws (passWords N d again)) (pass live)
+      ∙ ap (secondRound N d) (pass live)
     where
       picked : (b : Bool) (x y : List ℕ) → take n (cond b x y) ≡ cond b (take n x) (take n y)
       picked true x y = refl

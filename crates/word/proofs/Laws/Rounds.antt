@@ -1,13 +1,13 @@
--- THE TWO ROUNDS ON ONE WORD: one turn of the loop over the depths, and when the second round is made.
+-- THE TWO ROUNDS: one turn of the loop over the depths on one word; when the second round is made, on any words and on one.
 use mathlib.Core.Path.{_≡_, refl, sym, ap, ap₂, _∙_}
 use mathlib.Core.Logic.{_≢_}
-use mathlib.Core.Bool.{Bool, cond}
+use mathlib.Core.Bool.{Bool, true, false, cond}
 use mathlib.Core.List.{List, [], _∷_}
 use Prim.Native.Nat.{ℕ, zero, suc, _+_, _-_, _*_, _<_}
 use native.Mathlib.Nat.{not-suc-le-zero}
 use native.Mathlib.Omega.{arith}
 use lib.ListN.{getD}
-use Rattle.model.specs.Models.Run.{closeWords, Masks, passWords, returnsWords, returnWords}
+use Rattle.model.specs.Models.Run.{closeWords, Masks, passWords, returnsWords, returnWords, secondRound}
 use Rattle.model.specs.Models.Verdict.{sameWords}
 use Rattle.model.specs.Models.Words.{orWords}
 use Rattle.mask.proofs.Laws.Same.{same-false, same-true}
@@ -27,21 +27,25 @@ returns-again M backs d (suc k) first live h B I e =
     ∙ ap₂ (λ (s t : List ℕ). orWords live (returnWords s t first)) (ap (wordAt backs) q ∙ sym (B k 0)) (sym (B k 1)))
     ∙ I
 
--- ---- the second round is made exactly if something was added
-module _ (M : Masks) (d : ℕ) (live : List ℕ) (first more : ℕ) (P : first ∷ [] ≡ passWords M d live) (R : more ∷ [] ≡ returnsWords M d (first ∷ []) (first ∷ [])) where
-  rounds : cond (sameWords (more ∷ []) (first ∷ [])) (first ∷ []) (passWords M d (more ∷ [])) ≡ closeWords M d live
-  rounds =
-      ap (λ (ws : List ℕ). cond (sameWords ws (first ∷ [])) (first ∷ []) (passWords M d ws)) R
-      ∙ ap (λ (ws : List ℕ). let again = returnsWords M d ws ws in cond (sameWords again ws) ws (passWords M d again)) P
+-- ---- the second round, by whether the back edges add something to the first
+module _ (M : Masks) (d : ℕ) (first more : List ℕ) (e : more ≡ returnsWords M d first first) where
+  by : {b : Bool} → sameWords more first ≡ b → cond b first (passWords M d more) ≡ secondRound M d first
+  by t = sym (ap (λ (c : Bool). cond c first (passWords M d more)) t) ∙ ap (λ (m : List ℕ). cond (sameWords m first) first (passWords M d m)) e
 
+  pub one-more : sameWords more first ≡ false → passWords M d more ≡ secondRound M d first
+  one-more t = by t
+
+  pub no-more : sameWords more first ≡ true → first ≡ secondRound M d first
+  no-more t = by t
+
+-- both rounds of one word
+module _ (M : Masks) (d : ℕ) (live : List ℕ) (first more : ℕ) (P : first ∷ [] ≡ passWords M d live) (R : more ∷ [] ≡ returnsWords M d (first ∷ []) (first ∷ [])) where
   pub closed-once : more ≡ first → first ∷ [] ≡ closeWords M d live
-  closed-once e =
-      sym (ap (λ (b : Bool). cond b (first ∷ []) (passWords M d (more ∷ []))) (same-true (more ∷ []) (first ∷ []) (ap (λ (w : ℕ). w ∷ []) e))) ∙ rounds
+  closed-once e = no-more M d (first ∷ []) (more ∷ []) R (same-true (more ∷ []) (first ∷ []) (ap (λ (w : ℕ). w ∷ []) e)) ∙ ap (secondRound M d) P
 
   pub closed-twice : more ≢ first → passWords M d (more ∷ []) ≡ closeWords M d live
   closed-twice n =
-      sym (ap (λ (b : Bool). cond b (first ∷ []) (passWords M d (more ∷ []))) (same-false (more ∷ []) (first ∷ []) (λ e. n (ap (λ (ws : List ℕ). getD ws 0 0) e))))
-      ∙ rounds
+      one-more M d (first ∷ []) (more ∷ []) R (same-false (more ∷ []) (first ∷ []) (λ e. n (ap (λ (ws : List ℕ). getD ws 0 0) e))) ∙ ap (secondRound M d) P
 
 -- without back edges the passes are all
 pub no-edges : (ws : List ℕ) (any : Bool) (block below target : ℕ) (table : List ℕ) (d live : ℕ)

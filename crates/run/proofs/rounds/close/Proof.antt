@@ -1,6 +1,7 @@
 -- `close`: the first round and then the second.
 use mathlib.Core.Path.{ap, _∙_}
-use Rattle.run.specs.Work.{passMasks, secondRound}
+use Rattle.model.specs.Models.Run.{secondRound}
+use Rattle.run.specs.Work.{passMasks}
 use borrow.Author.Needs.{needs}
 use Rattle.run.proofs.rounds.close.Statement.{statement}
 use Rattle.run.proofs.rounds.close.Tie as tie

@@ -1,6 +1,6 @@
 // The desk program (document 01): reads the files `rule` and `journal` of the current folder whole, every byte counting, and writes its report.
-use files::read_file;
-use report::report;
+use desk_report::report;
+use program_files::read_file;
 
 // "No more than 1,025 bytes of the rule and 65,536 of the journal need be read." A report has at most 22,397 bytes.
 fn main() {

@@ -1,6 +1,6 @@
 // The examples of document 01, and those of repeated groups, through build, read back and match: what the desk program writes about a rule and a text,
 // and the masks that the document prints.
-use report::report;
+use desk_report::report;
 use watcher::build;
 
 fn show(rule: &[u8], journal: &[u8]) {

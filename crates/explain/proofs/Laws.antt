@@ -6,15 +6,15 @@ use Prim.Native.Nat.{ℕ, _+_, _-_, _^_, _≤_, _<_}
 use native.Mathlib.Omega.{arith}
 use lib.ListN.{drop, length, length-append, length-drop, length-replicate, length-take, replicate}
 use Rattle.model.specs.Spelling.{between, CheckSays, no-end, no-room, Proposal, proposed, ProposeSays, Spelled, right, wrong}
-use Rattle.proposer.specs.Answers.{proposedAnswer}
-use Rattle.proposer.specs.declared.Proposed.{Proposed}
-use Rattle.proposer.specs.declared.Proposed.the-variants.{Done}
+use Rattle.spelling_propose.specs.Answers.{proposedAnswer}
+use Rattle.spelling_propose.specs.declared.Proposed.{Proposed}
+use Rattle.spelling_propose.specs.declared.Proposed.the-variants.{Done}
 use Rattle.spelling.specs.Answers.{checkedNumber, checkedYes}
 use Rattle.spelling.specs.declared.Judged.{Judged}
 use Rattle.spelling.specs.declared.Judged.the-variants.{Yes}
-use Rattle.lines.specs.Lines.{decimal, refusedText}
-use Rattle.lines.specs.Work.{PutAt}
-use Rattle.lines.proofs.Laws.Numbers.{number-short}
+use Rattle.program_lines.specs.Lines.{decimal, refusedText}
+use Rattle.program_lines.specs.Work.{PutAt}
+use Rattle.program_lines.proofs.Laws.Numbers.{number-short}
 use Rattle.explain.specs.Readings.{Fits, Small}
 use Rattle.explain.specs.declared.reading.Numbered.{Numbered}
 use Rattle.explain.specs.declared.reading.Numbered.the-variants.{Of}

@@ -1,8 +1,8 @@
 // The record of a proposal as it is written: `start N`, `end N`, and a line for each byte between them: the place after it, the byte in plain writing, and
 // the state that it enters. A number of 32 bits has at most ten digits, so no line has more than 33 bytes.
-use lines::put;
-use lines::put_number;
-use plain::write_byte;
+use program_lines::put;
+use program_lines::put_number;
+use writing_letters::write_byte;
 ghost use mathlib.Core.Path.{_≡_};
 ghost use Prim.Native.Nat.{_+_, _*_, _^_, _≤_, _<_};
 ghost use lib.ListN.{length};

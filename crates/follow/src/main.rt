@@ -1,12 +1,12 @@
 // The program `follow` (document 02, Wish 1): reads the file `rule` of the current folder and then a journal from standard input as it arrives, and writes
 // each end's place as soon as it is found; at the end of the journal the total.
-use files::read_file;
-use follower::Watching;
-use follower::close;
-use follower::hear;
-use follower::open;
+use follow_report::Watching;
+use follow_report::close;
+use follow_report::hear;
+use follow_report::open;
 use libc::STDIN_FILENO;
 use libc::STDOUT_FILENO;
+use program_files::read_file;
 ghost use Rattle.io.specs.Counts.{Counts};
 
 // The bytes of one read, as many as there are by now: at the end of the journal, or where it can't be read, none.

@@ -10,9 +10,9 @@ use Rattle.model.specs.Image.{join, section}
 use Rattle.model.specs.Models.LayOut.{back-source, back-target, gather-block, gather-source, gather-target, loop-place, scatter-block, scatter-source, scatter-target}
 use Rattle.model.specs.Models.LayOut.{set as statesIn}
 use Rattle.model.specs.Models.Words.{andWords}
-use Rattle.tape.specs.Tables.{Table}
-use Rattle.tape.specs.Tapes.{propagateBlockTable, propagateSourceTable, propagateTargetTable, tableOf}
-use Rattle.tape.specs.declared.Tape.{Tape}
+use Rattle.tokens_masks.specs.Tables.{Table}
+use Rattle.tokens_masks.specs.Tapes.{propagateBlockTable, propagateSourceTable, propagateTargetTable, tableOf}
+use Rattle.tokens_masks.specs.declared.Tape.{Tape}
 
 -- the kinds of a tape are those of the tokens; what is past the kinds of tokens is the close of a group with `*`
 abbrev pub KindsAre : List ℕ → List ℕ → Type 0

@@ -1,4 +1,4 @@
-// The image, written: document 01, "The image". A tree comes as its tokens, five words for each, is laid out (crate tape), and goes
+// The image, written: document 01, "The image". A tree comes as its tokens, five words for each, is laid out (crate tokens_masks), and goes
 // into the words lent, section after section. `shape` has the tape and the lengths, `letter_masks` the masks of bytes, `sections` the writing.
 
 mod letter_masks;
@@ -9,8 +9,8 @@ use crate::sections::put_image;
 use crate::shape::image_length;
 use crate::shape::tape_of;
 use crate::shape::width_of;
-use tape::Shape;
-use tape::lay_out;
+use tokens_masks::Shape;
+use tokens_masks::lay_out;
 ghost use Rattle.image.specs.Says.{Kept, StoreSays};
 
 // What became of a tree's tokens: no image, since they are not those of a tree within 512 states and depth 8, or since it is longer than the

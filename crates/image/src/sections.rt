@@ -1,16 +1,16 @@
 // "Six sections in this order, each after its count of words", and a seventh for the back edges.
 use crate::letter_masks::put_letters;
 use crate::letter_masks::put_repeats;
-use tape::Tape;
-use tape::row_of;
+use tokens_masks::Tape;
+use tokens_masks::row_of;
 ghost use mathlib.Core.Path.{_≡_};
 ghost use mathlib.Core.List.{[], _∷_};
 ghost use Prim.Native.Nat.{_+_, _*_, _≤_, _<_};
 ghost use lib.ListN.{length as lengthOf, take};
 ghost use lib.Seq.{sets};
 ghost use Rattle.model.specs.Image.{section};
-ghost use Rattle.tape.specs.Masks.{tableIn};
-ghost use Rattle.tape.specs.Says.{Laid};
+ghost use Rattle.tokens_masks.specs.Masks.{tableIn};
+ghost use Rattle.tokens_masks.specs.Says.{Laid};
 ghost use Rattle.image.specs.Work.{backPart, imageWords, tablesPart, threeRows, twoRows};
 
 // "A mask is .. in the image its first W words"

@@ -1,5 +1,5 @@
 // The tape of a row of tokens, and how long an image is.
-use tape::Tape;
+use tokens_masks::Tape;
 ghost use mathlib.Core.Path.{_≡_};
 ghost use Prim.Native.Nat.{_+_, _*_, _≤_, min};
 ghost use Rattle.model.specs.Image.{width as widthOf};

@@ -1,7 +1,7 @@
 // The watcher's operations as a library for C and firmware: a symbol for each, which trusts no caller. Each gives one 64-bit number, that of the
 // documents' tables times 2^32 plus the count.
-use proposer::Proposed;
 use spelling::Judged;
+use spelling_propose::Proposed;
 use watch::Begun;
 use watch::Stepped;
 use watcher::Built;
@@ -21,7 +21,7 @@ ghost use Prim.Native.Nat.{_+_, _*_, _^_, _≤_, _<_};
 ghost use Rattle.model.specs.Answers.{BuildSays, MatchSays, ReadBackSays};
 ghost use Rattle.model.specs.Spelling.{CheckSays, ProposeSays};
 ghost use Rattle.model.specs.Watch.{BeginSays, StepSays};
-ghost use Rattle.proposer.specs.Answers.{proposedAnswer};
+ghost use Rattle.spelling_propose.specs.Answers.{proposedAnswer};
 ghost use Rattle.spelling.specs.Answers.{checkedNumber, checkedYes};
 ghost use Rattle.watch.specs.Answers.{begunAnswer, steppedAnswer};
 ghost use Rattle.writing.specs.Says.{writtenAnswer};

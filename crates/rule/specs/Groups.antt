@@ -9,7 +9,7 @@ use Rattle.model.specs.Grammar.{bracket, grouped}
 use Rattle.model.specs.Models.Reader.{bind, got, past, Read, readMark}
 use Rattle.model.specs.Tree.{Alts, Repeat, Seq}
 use Rattle.model.proofs.Reading.WellFormed.{several}
-use Rattle.kinds.specs.Places.{Stopped, Took}
+use Rattle.rule_bytes.specs.Places.{Stopped, Took}
 use Rattle.rule.specs.Parts.{AlternativesSay, PartSays, seqTokens}
 use Rattle.rule.specs.Tokens.{between, Numbered, Stands}
 use Rattle.rule.specs.declared.Alternatives.{Alternatives}

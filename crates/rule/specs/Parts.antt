@@ -10,7 +10,7 @@ use Rattle.model.specs.Models.Reader.{bind, got, Read, readSign}
 use Rattle.model.specs.Models.Tokens.{Token, tokens}
 use Rattle.model.specs.Tree.{Alts, Seq}
 use Rattle.model.proofs.Reading.WellFormed.{several}
-use Rattle.kinds.specs.Places.{Stopped, Took}
+use Rattle.rule_bytes.specs.Places.{Stopped, Took}
 use Rattle.rule.specs.Tokens.{between, Stands}
 use Rattle.rule.specs.declared.Alternatives.{Alternatives}
 use Rattle.rule.specs.declared.Alternatives.the-variants.{Bad as noAlternatives, Got as someAlternatives}

@@ -7,7 +7,7 @@ use lib.ListN.{drop, length, replicate, take}
 use lib.Seq.{sets}
 use Rattle.model.specs.Models.Tokens.{aBar, aClose, anOpen, Token, tokens}
 use Rattle.model.specs.Tree.{Alts, last, Mark, more}
-use Rattle.tape.specs.Rows.{rowWords, tokenWords}
+use Rattle.tokens_masks.specs.Rows.{rowWords, tokenWords}
 
 -- n times the same words
 abbrev pub timesWords : ℕ → List ℕ → List ℕ

@@ -1,4 +1,4 @@
-// Rules read: document 01, "The grammar". Readers go over the rule's bytes from a place on, letter by letter (crate letters), and answer the place
+// Rules read: document 01, "The grammar". Readers go over the rule's bytes from a place on, letter by letter (crate rule_letters), and answer the place
 // after what they read, or the place of the first byte that cannot be read. What an answer says is defined in specs/Parts.antt.
 ghost use mathlib.Core.Path.{_≡_};
 ghost use Rattle.rule.specs.Says.{outcomeOf, reading, ReadSays};

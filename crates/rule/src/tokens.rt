@@ -1,9 +1,9 @@
 // Tokens, written down as they are read: five words for each, its kind and its class. There is room for the 511 tokens between 512 states; what
 // lies past them is not written, and the number of a token stops at 512: a group with `+` doubles its tokens, so there may be more than can be counted.
-use letters::Class;
-use letters::none;
-use scan::token::Mark;
-use signs::Repeat;
+use rule_letters::Class;
+use rule_letters::none;
+use rule_signs::Repeat;
+use tokens::token::Mark;
 ghost use mathlib.Core.Path.{_≡_};
 ghost use mathlib.Core.List.{[], _∷_};
 ghost use Prim.Native.Nat.{_+_, _-_, _*_, _≤_};
@@ -12,11 +12,11 @@ ghost use lib.Seq.{sets};
 ghost use Rattle.model.specs.Grammar.{repeated};
 ghost use Rattle.model.specs.Image.{words};
 ghost use Rattle.model.specs.Models.Tokens.{anOpen, tokens as tokensOf};
-ghost use Rattle.signs.specs.Answers.{signOf};
-ghost use Rattle.letters.specs.Classes.{bytesOf, wordsOf};
-ghost use Rattle.scan.specs.Tokens.{markOf};
-ghost use Rattle.signs.specs.Repeats.{Bounded};
-ghost use Rattle.tape.specs.Rows.{markKind, tokenWords};
+ghost use Rattle.rule_signs.specs.Answers.{signOf};
+ghost use Rattle.rule_letters.specs.Classes.{bytesOf, wordsOf};
+ghost use Rattle.tokens.specs.Tokens.{markOf};
+ghost use Rattle.rule_signs.specs.Repeats.{Bounded};
+ghost use Rattle.tokens_masks.specs.Rows.{markKind, tokenWords};
 ghost use Rattle.rule.specs.Tokens.{copied, cut, enclosed, Numbered, opened, Stands, timesWords};
 
 // The kinds of tokens: a letter taken once, `?`, `*` or `+`; a union's open, bar and close, a close with an edge over its union, and one with an edge back

@@ -9,11 +9,11 @@ use lib.Dec.{leb}
 use lib.ListN.{drop, getD, length, replicate, take}
 use Rattle.model.specs.Models.Apart.{backAt, depthWord, gatherAt, propagateAt, scatterAt, stateWord}
 use Rattle.model.specs.Models.Run.{closeWords, endsWith, Masks, moveBy, passWords, stepWords}
-use Rattle.moves.specs.Less.{lessOne, plusWords, startWords}
-use Rattle.moves.specs.Sets.{Apart}
-use Rattle.word.specs.Ends.{Limits}
-use Rattle.word.specs.One.{ofNine}
-use Rattle.word.specs.Shape.{shaped, widthOf}
+use Rattle.run_moves.specs.Less.{lessOne, plusWords, startWords}
+use Rattle.run_moves.specs.Sets.{Apart}
+use Rattle.run_word.specs.Ends.{Limits}
+use Rattle.run_word.specs.One.{ofNine}
+use Rattle.run_word.specs.Shape.{shaped, widthOf}
 
 -- "A mask is one record of eight 64-bit words in work, and in the image its first W words"
 abbrev pub rowAt : List ℕ → ℕ → ℕ → List ℕ

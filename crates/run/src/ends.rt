@@ -7,11 +7,11 @@ use crate::stretch::is_live;
 use crate::stretch::run_over;
 use crate::table::Table;
 use crate::table::table;
-use moves::start;
-use word::places::note;
-use word::shape::depth;
-use word::shape::has_shape;
-use word::shape::states;
+use run_moves::start;
+use run_word::places::note;
+use run_word::shape::depth;
+use run_word::shape::has_shape;
+use run_word::shape::states;
 ghost use mathlib.Core.Bool.{true};
 ghost use mathlib.Core.Path.{_≡_};
 ghost use Prim.Native.Nat.{_-_, _≤_, _<_};
@@ -19,8 +19,8 @@ ghost use lib.ListN.{length};
 ghost use Rattle.model.specs.Models.Apart.{depthWord, stateWord};
 ghost use Rattle.model.specs.Models.Run.{endsWith};
 ghost use Rattle.run.specs.Says.{FindSays, GoOnSays};
-ghost use Rattle.word.specs.Ends.{Written};
-ghost use Rattle.word.specs.Shape.{shaped};
+ghost use Rattle.run_word.specs.Ends.{Written};
+ghost use Rattle.run_word.specs.Shape.{shaped};
 ghost use Rattle.run.specs.Work.{endsFound, Goes, masksOf, ruleMasks, Scans};
 
 // The ends of the text, with the table of work: a beginning, with place 0, and the text as one stretch.
@@ -77,7 +77,7 @@ pub fn find(image: &[u64], text: &[u8], places: &mut [u32]) -> u64
     if has_shape(image) {
         if text.len() <= 65535 {
             if states(image) <= 64 {
-                return word::ends::find(image, text, places);
+                return run_word::ends::find(image, text, places);
             }
             return find_in(image, text, places);
         }
@@ -115,7 +115,7 @@ fn go_on_word(image: &[u64], mask: &[u64], place: u64, stretch: &[u8], places: &
     ensures { λ r. ⌜ GoOnSays (now (image .entry)) (now (mask .entry)) place (now (stretch .entry)) (now (places .entry)) (r .words) (r .total) (now (places .exit)) ⌝ }
 {
     let first = mask[0];
-    let ran = word::ends::go_on(image, first, place, stretch, places);
+    let ran = run_word::ends::go_on(image, first, place, stretch, places);
     let mut words = [0u64; 8];
     words[0] = ran.live;
     Ran {

@@ -4,16 +4,16 @@ use crate::shape::width;
 use crate::steps::moved;
 use crate::table::table;
 use mask::Mask;
-use moves::start;
-use word::shape::depth;
-use word::shape::has_shape;
+use run_moves::start;
+use run_word::shape::depth;
+use run_word::shape::has_shape;
 ghost use mathlib.Core.Bool.{true};
 ghost use mathlib.Core.Path.{_≡_};
 ghost use lib.ListN.{take};
 ghost use Rattle.model.specs.Models.Apart.{depthWord};
 ghost use Rattle.model.specs.Models.Run.{closeWords};
 ghost use Rattle.run.specs.Says.{BeginSays, StepSays};
-ghost use Rattle.word.specs.Shape.{shaped};
+ghost use Rattle.run_word.specs.Shape.{shaped};
 ghost use Rattle.run.specs.Work.{beginWords, masksOf, nextWords};
 
 // Both rounds with the table of the image, on all eight words.

@@ -3,9 +3,9 @@
 use crate::steps::pass;
 use crate::table::Table;
 use mask::Mask;
-use moves::come_back;
-use moves::meet;
-use moves::same;
+use run_moves::come_back;
+use run_moves::meet;
+use run_moves::same;
 ghost use mathlib.Core.List.{[]};
 ghost use mathlib.Core.Path.{_≡_};
 ghost use Prim.Native.Nat.{_+_, _*_, _≤_, _<_};

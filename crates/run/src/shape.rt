@@ -1,8 +1,8 @@
 // The words to a mask, of words that have a shape.
-use word::shape::states;
+use run_word::shape::states;
 ghost use mathlib.Core.Bool.{true};
 ghost use mathlib.Core.Path.{_≡_};
-ghost use Rattle.word.specs.Shape.{shaped, widthOf};
+ghost use Rattle.run_word.specs.Shape.{shaped, widthOf};
 
 pub fn width(image: &[u64]) -> usize
     requires { ⌜ shaped (now image) ≡ true ⌝ }

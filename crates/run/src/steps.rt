@@ -3,18 +3,18 @@
 use crate::rows::row_at;
 use crate::table::Table;
 use mask::Mask;
-use moves::advance;
-use moves::gather;
-use moves::propagate;
-use moves::scatter;
-use moves::start;
+use run_moves::advance;
+use run_moves::gather;
+use run_moves::propagate;
+use run_moves::scatter;
+use run_moves::start;
 ghost use mathlib.Core.Bool.{true};
 ghost use mathlib.Core.List.{[]};
 ghost use mathlib.Core.Path.{_≡_};
 ghost use Prim.Native.Nat.{_+_, _*_, _≤_};
 ghost use lib.ListN.{getD, length, take};
 ghost use Rattle.model.specs.Models.Run.{fallWords, gatherWords, moveWords, passWords, propagateWords, riseWords, scatterWords};
-ghost use Rattle.moves.specs.Less.{plusWords, startWords};
+ghost use Rattle.run_moves.specs.Less.{plusWords, startWords};
 ghost use Rattle.run.specs.Work.{passMasks, rowAt};
 
 // Scatter, gather and propagate with the nine masks of depth k.

@@ -4,15 +4,15 @@ use crate::table::all_sources;
 use crate::turns::turn_by;
 use crate::widths::step_by;
 use mask::Mask;
-use moves::same;
-use word::places::note;
+use run_moves::same;
+use run_word::places::note;
 ghost use mathlib.Core.Path.{_≡_};
 ghost use Prim.Native.Nat.{_/_, _≤_, _<_};
 ghost use lib.ListN.{length, take};
 ghost use Rattle.model.specs.Bits.{bit};
 ghost use Rattle.model.specs.Models.Words.{value};
 ghost use Rattle.run.specs.Work.{NoBack, Overs, ruleMasks, Sources};
-ghost use Rattle.word.specs.Ends.{RanOver};
+ghost use Rattle.run_word.specs.Ends.{RanOver};
 
 // The live states after a stretch, and the total of its ends with those found before.
 pub struct Ran {

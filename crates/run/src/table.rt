@@ -3,7 +3,7 @@
 use crate::rows::row_at;
 use mask::Mask;
 use mask::logic::or;
-use moves::less_one;
+use run_moves::less_one;
 ghost use mathlib.Core.Path.{_≡_};
 ghost use Prim.Native.Nat.{_+_, _*_, _≤_, _<_};
 ghost use lib.ListN.{length};

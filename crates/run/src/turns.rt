@@ -6,7 +6,7 @@ use crate::steps::moved;
 use crate::steps::rise;
 use crate::table::Table;
 use mask::Mask;
-use moves::same;
+use run_moves::same;
 ghost use Rattle.run.specs.Work.{SteppedOn, Turns};
 
 fn turn_2(live: &mut [u64; 8], image: &[u64], byte: u8, depth: usize, table: &Table, sources: Mask)

@@ -1,11 +1,11 @@
 // The states of a proposal, one after another: each is entered by its byte from what the one before reaches without a letter.
-use edges::Work;
-use edges::enter;
-use edges::reach;
 use mask::bits::has_bit;
+use run_edges::Work;
+use run_edges::enter;
+use run_edges::reach;
 ghost use Prim.Native.Nat.{_+_, _≤_};
 ghost use lib.ListN.{length};
-ghost use Rattle.edges.specs.Reach.{WorkOf};
+ghost use Rattle.run_edges.specs.Reach.{WorkOf};
 ghost use Rattle.spelling.specs.Work.{FollowSays};
 
 pub fn follow(

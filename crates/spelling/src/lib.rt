@@ -1,13 +1,13 @@
-// Spellings (document 02, Wish 9): which bytes of a text did it, and by which states. The check of a proposal, whoever made it; the crate `proposer` makes
+// Spellings (document 02, Wish 9): which bytes of a text did it, and by which states. The check of a proposal, whoever made it; the crate `spelling_propose` makes
 // one. What each answer means is defined in specs/Answers.antt.
 
 mod follow;
 
 use crate::follow::follow;
-use edges::work;
-use verdict::Verdict;
-use verdict::check;
-use word::shape::states as states_of;
+use image_check::Verdict;
+use image_check::check;
+use run_edges::work;
+use run_word::shape::states as states_of;
 ghost use Rattle.model.specs.Spelling.{CheckSays};
 ghost use Rattle.spelling.specs.Answers.{checkedNumber, checkedYes};
 ghost use Rattle.spelling.specs.Work.{IsImage, RightSays};

@@ -6,12 +6,12 @@ mod words;
 
 use crate::words::is_mask;
 use crate::words::put_words;
+use image_check::Verdict;
+use image_check::check;
 use mask::bits::row_has_bit;
 use run::ends::go_on;
-use verdict::Verdict;
-use verdict::check;
-use word::places::note;
-use word::shape::states;
+use run_word::places::note;
+use run_word::shape::states;
 ghost use Rattle.model.specs.Watch.{BeginSays, StepSays};
 ghost use Rattle.watch.specs.Answers.{begunAnswer, steppedAnswer};
 

@@ -17,9 +17,9 @@ use Rattle.model.specs.Tree.{Tree}
 use Rattle.model.proofs.Image.Decided.{one-image}
 use Rattle.model.proofs.Spelling.Answers.{Alike, check-one, propose-one}
 use Rattle.model.proofs.Spelling.Ends.{spelled-end}
-use Rattle.proposer.specs.Answers.{proposedAnswer}
-use Rattle.proposer.specs.declared.Proposed.{Proposed}
-use Rattle.proposer.specs.declared.Proposed.the-variants.{Done, NoEnd, NoRoom, NotAnImage, TextTooLong}
+use Rattle.spelling_propose.specs.Answers.{proposedAnswer}
+use Rattle.spelling_propose.specs.declared.Proposed.{Proposed}
+use Rattle.spelling_propose.specs.declared.Proposed.the-variants.{Done, NoEnd, NoRoom, NotAnImage, TextTooLong}
 use Rattle.spelling.specs.Answers.{checkedNumber, checkedYes}
 use Rattle.spelling.specs.declared.Judged.{Judged}
 use Rattle.spelling.specs.declared.Judged.the-variants as judged

@@ -5,20 +5,20 @@
 mod building;
 
 use crate::building::store_tree;
-use proposer::Proposed;
+use image_check::Verdict;
+use image_check::check;
 use rule::Outcome;
 use rule::read_rule;
 use run::ends::find;
 use spelling::Judged;
-use verdict::Verdict;
-use verdict::check;
+use spelling_propose::Proposed;
 use watch::Begun;
 use watch::Stepped;
 use writing::Written;
 ghost use Rattle.model.specs.Answers.{BuildSays, MatchSays, ReadBackSays};
 ghost use Rattle.model.specs.Spelling.{CheckSays, ProposeSays};
 ghost use Rattle.model.specs.Watch.{BeginSays, StepSays};
-ghost use Rattle.proposer.specs.Answers.{proposedAnswer};
+ghost use Rattle.spelling_propose.specs.Answers.{proposedAnswer};
 ghost use Rattle.spelling.specs.Answers.{checkedNumber, checkedYes};
 ghost use Rattle.watch.specs.Answers.{begunAnswer, steppedAnswer};
 ghost use Rattle.writing.specs.Says.{writtenAnswer};
@@ -122,5 +122,5 @@ pub fn check_spelling(
 pub fn propose_spelling(image: &[u64], text: &[u8], end: usize, states: &mut [u32]) -> Proposed
     ensures { λ r. ⌜ ProposeSays (now (image .entry)) (now (text .entry)) end (now (states .entry)) (proposedAnswer r (now (states .exit))) ⌝ }
 {
-    proposer::propose_spelling(image, text, end, states)
+    spelling_propose::propose_spelling(image, text, end, states)
 }

@@ -12,8 +12,8 @@ use Rattle.model.specs.Image.{join}
 use Rattle.model.specs.Models.Apart.{bitOf, lettersIn}
 use Rattle.model.specs.Models.LayOut.{begin, owns}
 use Rattle.model.specs.Writing.{classWriting}
-use Rattle.tape.specs.Tapes.{tokensOf}
-use Rattle.tape.specs.declared.Tape.{Tape}
+use Rattle.tokens_masks.specs.Tapes.{tokensOf}
+use Rattle.tokens_masks.specs.declared.Tape.{Tape}
 use Rattle.writing.specs.declared.Written.{Written}
 use Rattle.writing.specs.declared.Written.the-variants.{Done, NoRoom}
 

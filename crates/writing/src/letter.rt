@@ -1,6 +1,6 @@
 // A letter: the class read off the letters' masks, and the repeat sign.
-use plain::classes::write_class;
-use plain::put;
+use writing_letters::classes::write_class;
+use writing_letters::put;
 ghost use mathlib.Core.Path.{_≡_};
 ghost use mathlib.Core.List.{_++_};
 ghost use Prim.Native.Nat.{_+_, _*_, _^_, _<_};

@@ -8,9 +8,9 @@ mod ranges;
 
 use crate::own::own_marks;
 use crate::ranges::write_range;
-use tape::Tape;
-use verdict::Verdict;
-use verdict::check;
+use image_check::Verdict;
+use image_check::check;
+use tokens_masks::Tape;
 ghost use mathlib.Core.Path.{_≡_};
 ghost use Prim.Native.Nat.{_*_, _<_};
 ghost use Rattle.writing.specs.Says.{WrittenSays};

@@ -1,16 +1,16 @@
 // Each union's own mark: a close shows whether an edge leads over its union, and that edge is a `?` only where no alternative can be empty
 // (document 02, Wish 3: "a `?` on a group that can already be empty is dropped before the tree is made"). A `*` is shown by a back edge, and stays.
-use scan::begin_scan;
-use scan::innermost;
-use scan::no_frame;
-use scan::step_over;
-use scan::token::read_kind;
-use tape::Tape;
+use tokens::begin_scan;
+use tokens::innermost;
+use tokens::no_frame;
+use tokens::step_over;
+use tokens::token::read_kind;
+use tokens_masks::Tape;
 ghost use mathlib.Core.Path.{_≡_};
 ghost use lib.Dec.{T};
 ghost use Rattle.model.specs.Models.LayOut.{own};
-ghost use Rattle.scan.specs.Tokens.{readKind, tokenOf};
-ghost use Rattle.tape.specs.Tapes.{isTree};
+ghost use Rattle.tokens.specs.Tokens.{readKind, tokenOf};
+ghost use Rattle.tokens_masks.specs.Tapes.{isTree};
 ghost use Rattle.writing.specs.Work.{OwnMarks};
 
 // The kind of a token with its union's own mark: where an alternative can be empty, the edge over the union is that alternative's and no `?`.

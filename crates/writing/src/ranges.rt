@@ -1,6 +1,6 @@
 // Ranges of states: a row of tokens, written one after another. "An alternative may itself hold unions, eight deep at most."
 use crate::letter::write_letter;
-use plain::put;
+use writing_letters::put;
 ghost use mathlib.Core.Path.{_≡_};
 ghost use Prim.Native.Nat.{_+_, _-_, _*_, _^_, _≤_, _<_};
 ghost use lib.ListN.{length};

@@ -1,6 +1,6 @@
 -- An image lies in the words lent, and a refusal in the text.
 use native.Mathlib.Omega.{arith}
-use Rattle.report.proofs.Laws.Stages.{image-first}
+use Rattle.desk_report.proofs.Laws.Stages.{image-first}
 use Rattle.explain.proofs.Laws.{refused-short}
 use borrow.Author.Needs.{needs}
 use Rattle.explain.proofs.answer.Statement.{statement}

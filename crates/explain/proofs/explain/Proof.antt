@@ -1,7 +1,7 @@
 -- Where the answer is done, the places lie in the journal and there is one state per byte.
 use mathlib.Core.Path.{sym}
 use native.Mathlib.Omega.{arith}
-use Rattle.lines.proofs.Laws.Room.{first}
+use Rattle.program_lines.proofs.Laws.Room.{first}
 use Rattle.explain.proofs.Laws.{proposed-lies, record-fits, refused-short, states-few}
 use borrow.Author.Needs.{needs}
 use Rattle.explain.proofs.explain.Statement.{statement}

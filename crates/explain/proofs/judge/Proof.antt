@@ -2,7 +2,7 @@
 use mathlib.Core.Path.{refl}
 use native.Mathlib.Omega.{arith}
 use lib.ListN.{length}
-use Rattle.lines.proofs.Laws.Room.{first}
+use Rattle.program_lines.proofs.Laws.Room.{first}
 use Rattle.explain.proofs.Laws.{line-fits, states-fit}
 use borrow.Author.Needs.{needs}
 use Rattle.explain.proofs.judge.Statement.{statement}

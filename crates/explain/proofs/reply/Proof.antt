@@ -2,7 +2,7 @@
 use mathlib.Core.Path.{sym}
 use Prim.Native.Nat.{ℕ}
 use lib.ListN.{length-replicate}
-use Rattle.lines.proofs.Laws.Room.{first}
+use Rattle.program_lines.proofs.Laws.Room.{first}
 use Rattle.explain.proofs.Laws.{room-enough}
 use Rattle.explain.proofs.reply.Statement.{statement}
 use Rattle.explain.proofs.reply.Tie as tie

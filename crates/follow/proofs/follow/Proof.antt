@@ -5,9 +5,9 @@ use native.Mathlib.Omega.{arith}
 use lib.ListN.{length, length-replicate}
 use borrow.Author.Needs.{needs}
 use borrow.Author.Tests.{not-false}
-use Rattle.lines.proofs.Laws.Room.{first}
-use Rattle.follower.proofs.Laws.Onward.{heard-place}
-use Rattle.follower.proofs.Laws.Short.{hears-short, total-short}
+use Rattle.program_lines.proofs.Laws.Room.{first}
+use Rattle.follow_report.proofs.Laws.Onward.{heard-place}
+use Rattle.follow_report.proofs.Laws.Short.{hears-short, total-short}
 use Rattle.follow.proofs.follow.Statement.{statement}
 use Rattle.follow.proofs.follow.Tie as tie
 

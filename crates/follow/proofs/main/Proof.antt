@@ -2,9 +2,9 @@
 use native.Mathlib.Omega.{arith}
 use lib.ListN.{take}
 use borrow.Author.Needs.{needs}
-use Rattle.lines.proofs.Laws.Room.{first}
-use Rattle.follower.proofs.Laws.Onward.{opened-words}
-use Rattle.follower.proofs.Laws.Short.{opens-short}
+use Rattle.program_lines.proofs.Laws.Room.{first}
+use Rattle.follow_report.proofs.Laws.Onward.{opened-words}
+use Rattle.follow_report.proofs.Laws.Short.{opens-short}
 use Rattle.follow.proofs.main.Statement.{statement}
 use Rattle.follow.proofs.main.Tie as tie
 

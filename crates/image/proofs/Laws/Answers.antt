@@ -12,10 +12,10 @@ use Rattle.model.specs.Edges.{depth, states}
 use Rattle.model.specs.Image.{image, width}
 use Rattle.model.specs.Tree as tree
 use Rattle.model.proofs.Laws.Bool.{le-or-lt}
-use Rattle.tape.specs.Says.{ShapeSays, TreeOnTape}
-use Rattle.tape.specs.declared.Shape.{Shape}
-use Rattle.tape.specs.declared.Shape.the-variants.{Other, Tree}
-use Rattle.tape.specs.declared.Tape.{Tape}
+use Rattle.tokens_masks.specs.Says.{ShapeSays, TreeOnTape}
+use Rattle.tokens_masks.specs.declared.Shape.{Shape}
+use Rattle.tokens_masks.specs.declared.Shape.the-variants.{Other, Tree}
+use Rattle.tokens_masks.specs.declared.Tape.{Tape}
 use Rattle.image.specs.Says.{no-room, stored, StoreSays, TokensOf, too-deep, TreeSays}
 use Rattle.image.specs.Work.{imageWords, KindsAre}
 use Rattle.image.specs.declared.Stored.the-variants.{Done, NoRoom, NoTree}

@@ -11,13 +11,13 @@ use lib.Seq.{length-take-le}
 use Rattle.model.specs.Models.LayOut.{begin, layOut, Which}
 use Rattle.model.proofs.Image.Rows.{length-set}
 use Rattle.model.proofs.Words.Operations.{each-length}
-use Rattle.tape.specs.Masks.{rowIn, tableIn}
-use Rattle.tape.specs.Tables.{blank, paintAll, Table}
-use Rattle.tape.specs.Tapes.{isTree, tableOf, tokensOf}
-use Rattle.tape.specs.declared.Tape.{Tape}
-use Rattle.tape.proofs.InWords.{row-long, table-row}
-use Rattle.tape.proofs.Painted.{row-is}
-use Rattle.tape.proofs.TableBits.{blank-rows}
+use Rattle.tokens_masks.specs.Masks.{rowIn, tableIn}
+use Rattle.tokens_masks.specs.Tables.{blank, paintAll, Table}
+use Rattle.tokens_masks.specs.Tapes.{isTree, tableOf, tokensOf}
+use Rattle.tokens_masks.specs.declared.Tape.{Tape}
+use Rattle.tokens_masks.proofs.InWords.{row-long, table-row}
+use Rattle.tokens_masks.proofs.Painted.{row-is}
+use Rattle.tokens_masks.proofs.TableBits.{blank-rows}
 use Rattle.image.specs.Work.{leads, letterRow, repeatRow, threeRows, twoRows}
 use Rattle.image.proofs.Laws.Parts.{AllLong}
 

@@ -11,13 +11,13 @@ use Rattle.model.specs.Models.Tokens.{aBar, aClose, aLetter, anOpen, Token, tok
 use Rattle.model.specs.Tree.{once, option, optional, plus, star, starred, Tree, unmarked}
 use Rattle.model.proofs.Image.Depth.{reach-is}
 use Rattle.model.proofs.Image.Tokens.{length-tokens}
-use Rattle.tape.specs.Rows.{kindOf}
-use Rattle.tape.specs.Says.{TreeOnTape}
-use Rattle.tape.specs.Tapes.{bares, readKinds, TapeOf, tokensOf}
-use Rattle.scan.specs.Tokens.{readKind, tokenOf}
-use Rattle.tape.specs.declared.Tape.{Tape}
-use Rattle.tape.proofs.Bare.{bares-reach}
-use Rattle.tape.proofs.Tokens.{read-kind}
+use Rattle.tokens_masks.specs.Rows.{kindOf}
+use Rattle.tokens_masks.specs.Says.{TreeOnTape}
+use Rattle.tokens_masks.specs.Tapes.{bares, readKinds, TapeOf, tokensOf}
+use Rattle.tokens.specs.Tokens.{readKind, tokenOf}
+use Rattle.tokens_masks.specs.declared.Tape.{Tape}
+use Rattle.tokens_masks.proofs.Bare.{bares-reach}
+use Rattle.tokens_masks.proofs.Tokens.{read-kind}
 use Rattle.image.specs.Says.{TokensOf}
 use Rattle.image.specs.Work.{KindsAre}
 use Rattle.image.proofs.Laws.TokenWords.{kind-at}

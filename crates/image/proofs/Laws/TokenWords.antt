@@ -14,7 +14,7 @@ use Rattle.model.specs.Models.Tokens.{aBar, aClose, aLetter, anOpen, classOf, T
 use Rattle.model.proofs.Image.Classes.{AllFine, class-is, Fine, fine-at}
 use Rattle.model.proofs.Words.Holds.{set-holds}
 use Rattle.model.proofs.Words.RowBits.{row-bit}
-use Rattle.tape.specs.Rows.{kindOf, rowWords, tokenWords}
+use Rattle.tokens_masks.specs.Rows.{kindOf, rowWords, tokenWords}
 use Rattle.image.specs.Work.{inClass}
 
 word-of : (l : List Token) (i j : ℕ) → i < length l → j < 5 → getD (rowWords l) (5 * i + j) 0 ≡ getD (tokenWords (getD l i aBar)) j 0

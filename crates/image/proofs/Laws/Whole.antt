@@ -8,11 +8,11 @@ use lib.ListN.{getD, length, take}
 use lib.Seq.{length-sets, sets}
 use Rattle.model.specs.Image.{section}
 use Rattle.model.specs.Models.LayOut.{back-source, back-target, gather-block, gather-source, gather-target, loop-place, scatter-block, scatter-source, scatter-target, Which}
-use Rattle.tape.specs.Masks.{rowIn, tableIn}
-use Rattle.tape.specs.Says.{Laid}
-use Rattle.tape.specs.Tables.{Table}
-use Rattle.tape.specs.Tapes.{propagateBlockTable, propagateSourceTable, propagateTargetTable, tableOf}
-use Rattle.tape.specs.declared.Tape.{Tape}
+use Rattle.tokens_masks.specs.Masks.{rowIn, tableIn}
+use Rattle.tokens_masks.specs.Says.{Laid}
+use Rattle.tokens_masks.specs.Tables.{Table}
+use Rattle.tokens_masks.specs.Tapes.{propagateBlockTable, propagateSourceTable, propagateTargetTable, tableOf}
+use Rattle.tokens_masks.specs.declared.Tape.{Tape}
 use Rattle.image.specs.Work.{backPart, bothPart, imageWords, letterRow, lettersPart, repeatRow, repeatsPart, tablesPart}
 use Rattle.image.proofs.Laws.Lengths.{depthRows, depths-long, Eights, in-eights, laid-eights, letters-long, repeats-long}
 use Rattle.image.proofs.Laws.Loops.{repeats-are}

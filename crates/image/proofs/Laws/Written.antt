@@ -24,12 +24,12 @@ use Rattle.model.proofs.Image.WellFormed.{well-fine}
 use Rattle.model.proofs.Reading.WellFormed.{rule-well}
 use Rattle.model.proofs.Words.Holds.{Near, set-holds}
 use Rattle.model.proofs.Words.Operations.{holds-and-l}
-use Rattle.tape.specs.Says.{RowsAre, TreeOnTape}
-use Rattle.tape.specs.Tables.{Table}
-use Rattle.tape.specs.Tapes.{propagateBlockTable, propagateSourceTable, propagateTargetTable, tableOf}
-use Rattle.tape.specs.declared.Tape.{Tape}
-use Rattle.tape.proofs.FirstWords.{first-words}
-use Rattle.tape.proofs.OfTree.{back-source-says, back-target-says, gather-block-says, gather-source-says, gather-target-says, laid-row, loops-say, propagate-block-says, propagate-source-says, propagate-target-says, scatter-block-says, scatter-source-says, scatter-target-says}
+use Rattle.tokens_masks.specs.Says.{RowsAre, TreeOnTape}
+use Rattle.tokens_masks.specs.Tables.{Table}
+use Rattle.tokens_masks.specs.Tapes.{propagateBlockTable, propagateSourceTable, propagateTargetTable, tableOf}
+use Rattle.tokens_masks.specs.declared.Tape.{Tape}
+use Rattle.tokens_masks.proofs.FirstWords.{first-words}
+use Rattle.tokens_masks.proofs.OfTree.{back-source-says, back-target-says, gather-block-says, gather-source-says, gather-target-says, laid-row, loops-say, propagate-block-says, propagate-source-says, propagate-target-says, scatter-block-says, scatter-source-says, scatter-target-says}
 use Rattle.image.specs.Says.{TokensOf}
 use Rattle.image.specs.Work.{imageWords, leads, letterRow, repeatRow, threeRows, twoRows}
 use Rattle.image.proofs.Laws.Tapes.{states-are}

@@ -14,7 +14,7 @@ use Rattle.model.proofs.Image.Tokens.{length-tokens}
 use Rattle.model.proofs.Image.TokenWriting.{length-owns, tokens-writing, tokensWriting, tokenWriting}
 use Rattle.model.proofs.Image.WellFormed.{well-formed}
 use Rattle.model.proofs.Reading.WellFormed.{rule-well}
-use Rattle.plain.proofs.Laws.Bounds.{class-short}
+use Rattle.writing_letters.proofs.Laws.Bounds.{class-short}
 use Rattle.writing.specs.Says.{writtenAnswer}
 use Rattle.writing.specs.declared.Written.{Written}
 use Rattle.writing.specs.declared.Written.the-variants.{Done, NoRoom, NotAnImage}

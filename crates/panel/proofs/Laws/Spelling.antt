@@ -9,9 +9,9 @@ use lib.Arith.{digits-div, digits-mod}
 use lib.ListN.{drop}
 use Rattle.model.specs.Spelling.{CheckSays, no-end, no-room, not-an-image, Proposal, proposed, ProposeSays, text-too-long}
 use Rattle.model.proofs.Spelling.Answers.{check-one, propose-one}
-use Rattle.proposer.specs.Answers.{proposedAnswer}
-use Rattle.proposer.specs.declared.Proposed.{Proposed}
-use Rattle.proposer.specs.declared.Proposed.the-variants.{Done, NoEnd, NoRoom, NotAnImage, TextTooLong}
+use Rattle.spelling_propose.specs.Answers.{proposedAnswer}
+use Rattle.spelling_propose.specs.declared.Proposed.{Proposed}
+use Rattle.spelling_propose.specs.declared.Proposed.the-variants.{Done, NoEnd, NoRoom, NotAnImage, TextTooLong}
 use Rattle.panel.specs.Says.{CheckGives, ProposeGives}
 
 -- ---- CHECK: number and yes, as a caller takes them from r; and what was given settles r

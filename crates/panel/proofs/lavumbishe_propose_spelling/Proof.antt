@@ -3,7 +3,7 @@ use mathlib.Core.Path.{ap₂, _∙_, sym}
 use Prim.Native.Nat.{ℕ, _+_, _*_, _^_}
 use native.Mathlib.Omega.{arith}
 use borrow.Author.Needs.{needs}
-use Rattle.proposer.specs.Answers.{proposedAnswer}
+use Rattle.spelling_propose.specs.Answers.{proposedAnswer}
 use Rattle.panel.proofs.Laws.Spelling.{proposed-lent, proposed-small, proposed-start}
 use Rattle.panel.proofs.lavumbishe_propose_spelling.Statement.{statement}
 use Rattle.panel.proofs.lavumbishe_propose_spelling.Tie as tie

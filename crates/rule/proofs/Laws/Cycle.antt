@@ -15,18 +15,18 @@ use Rattle.model.specs.Tree.{Alts, glue, last, more, Seq}
 use Rattle.model.proofs.Image.Groups.{empty-glue}
 use Rattle.model.proofs.Laws.Bool.{is-true, unequal}
 use Rattle.model.proofs.Reading.Cycle.{alts, alts-is, item, item-falls, item-is, seq, seq-falls, seq-is}
-use Rattle.kinds.specs.Places.{Stopped}
+use Rattle.rule_bytes.specs.Places.{Stopped}
 use Rattle.rule.specs.Groups.{closed}
 use Rattle.rule.specs.Parts.{AlternativesSay, PartSays, seqTokens, severalOf, Wrote}
-use Rattle.tape.specs.Rows.{tokenWords}
+use Rattle.tokens_masks.specs.Rows.{tokenWords}
 use Rattle.rule.specs.Tokens.{between, cut}
 use Rattle.rule.specs.declared.Alternatives.{Alternatives}
 use Rattle.rule.specs.declared.Alternatives.the-variants.{Bad as noAlternatives, Got as someAlternatives}
 use Rattle.rule.specs.declared.Part.{Part}
 use Rattle.rule.specs.declared.Part.the-variants.{Bad as noPart, Got as aPart}
-use Rattle.kinds.proofs.Laws.Binds.{bind-stops}
-use Rattle.kinds.proofs.Laws.Places.{here, inside, stays}
-use Rattle.kinds.proofs.Laws.Progress.{further}
+use Rattle.rule_bytes.proofs.Laws.Binds.{bind-stops}
+use Rattle.rule_bytes.proofs.Laws.Places.{here, inside, stays}
+use Rattle.rule_bytes.proofs.Laws.Progress.{further}
 use Rattle.rule.proofs.Laws.Rows.{glue-tokens}
 use Rattle.rule.proofs.Laws.Stands.{room-after, stands-append, stands-one}
 

@@ -14,15 +14,15 @@ use Rattle.model.specs.Models.Tokens.{aClose, anOpen, shown, Token}
 use Rattle.model.specs.Tree.{Alts, canSkip, end, last, more, once, option, optional, plus, Repeat, star, starred, union, unmarked}
 use Rattle.model.proofs.Image.Groups.{empty-bracket, empty-glue, option-dropped, option-tokens, plus-tokens, star-tokens}
 use Rattle.model.proofs.Reading.WellFormed.{several}
-use Rattle.kinds.specs.Places.{Stopped, Took}
+use Rattle.rule_bytes.specs.Places.{Stopped, Took}
 use Rattle.rule.specs.Groups.{closed, Counted}
 use Rattle.rule.specs.Parts.{AlternativesSay, PartSays, seqTokens, Wrote}
 use Rattle.rule.specs.Tokens.{between, copied, cut, enclosed, Stands}
 use Rattle.rule.specs.declared.Alternatives.{Alternatives}
 use Rattle.rule.specs.declared.Alternatives.the-variants.{Bad as noAlternatives, Got as someAlternatives}
 use Rattle.rule.specs.declared.Part.the-variants.{Got as aPart}
-use Rattle.kinds.proofs.Laws.Binds.{bind-stops}
-use Rattle.kinds.proofs.Laws.Places.{inside}
+use Rattle.rule_bytes.proofs.Laws.Binds.{bind-stops}
+use Rattle.rule_bytes.proofs.Laws.Places.{inside}
 use Rattle.rule.proofs.Laws.Cycle.{past-one, past-other}
 use Rattle.rule.proofs.Laws.Rows.{alts-onto, tokens-onto}
 use Rattle.rule.proofs.Laws.Stands.{asUnion, stands-again, stands-append, stands-union}

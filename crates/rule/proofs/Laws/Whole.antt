@@ -18,7 +18,7 @@ use Rattle.model.proofs.Image.Tokens.{length-tokens}
 use Rattle.model.proofs.Laws.Bool.{le-false, le-or-lt, le-true}
 use Rattle.model.proofs.Reading.Cycle.{alts}
 use Rattle.model.proofs.Reading.Decides.{reads}
-use Rattle.kinds.specs.Places.{Took}
+use Rattle.rule_bytes.specs.Places.{Took}
 use Rattle.rule.specs.Groups.{WholeSays}
 use Rattle.rule.specs.Parts.{seqTokens}
 use Rattle.rule.specs.Says.{not-a-rule, outcomeOf, read, reading, ReadSays, too-many-states}

@@ -11,11 +11,11 @@ use Rattle.model.specs.Models.Words.{Fit}
 use Rattle.model.specs.Tree.{end, once, option, Repeat, Seq}
 use Rattle.model.proofs.Laws.Each.{each-app}
 use Rattle.model.proofs.Laws.Stores.{sets-append}
-use Rattle.letters.specs.Classes.{bytesOf, wordsOf}
-use Rattle.tape.specs.Rows.{repeatKind, rowWords, tokenWords}
+use Rattle.rule_letters.specs.Classes.{bytesOf, wordsOf}
+use Rattle.tokens_masks.specs.Rows.{repeatKind, rowWords, tokenWords}
 use Rattle.rule.specs.Tokens.{opened, timesWords}
-use Rattle.letters.specs.declared.Class.{Class}
-use Rattle.letters.proofs.Laws.Classes.{class-words}
+use Rattle.rule_letters.specs.declared.Class.{Class}
+use Rattle.rule_letters.proofs.Laws.Classes.{class-words}
 use Rattle.rule.proofs.Laws.Writes.{sets-opened}
 
 -- ---- rows of tokens

@@ -28,10 +28,10 @@ use Rattle.model.proofs.Reading.WellFormed.{rule-well}
 use Rattle.model.proofs.Words.Holds.{Holds, pad-holds}
 use Rattle.model.proofs.Words.ImageRun.{image-carry}
 use Rattle.model.proofs.Words.Run.{Carry}
-use Rattle.word.specs.Shape.{shaped}
-use Rattle.moves.specs.Less.{startWords}
+use Rattle.run_word.specs.Shape.{shaped}
+use Rattle.run_moves.specs.Less.{startWords}
 use Rattle.run.specs.Work.{masksOf, rowAt}
-use Rattle.word.proofs.Laws.Shape.{Shape, shape-is}
+use Rattle.run_word.proofs.Laws.Shape.{Shape, shape-is}
 
 -- the mask of state 0: one word, and zeros above
 start-bit : (x : ℕ) → bit (value (1 ∷ [])) x ≡ startSet x

@@ -20,8 +20,8 @@ use Rattle.model.proofs.Laws.Stores.{sets-fit}
 use Rattle.model.proofs.Watch.Stretch.{whole-ends}
 use Rattle.model.proofs.Words.Run.{Bytes}
 use Rattle.run.specs.Says.{FindSays}
-use Rattle.word.specs.Ends.{Written}
-use Rattle.word.specs.Shape.{shaped}
+use Rattle.run_word.specs.Ends.{Written}
+use Rattle.run_word.specs.Shape.{shaped}
 use Rattle.run.specs.Work.{endsFound, masksOf}
 use Rattle.run.proofs.Image.Carry.{as-arcs, carried, image-shaped}
 use Rattle.run.proofs.Image.Live.{depth-is}

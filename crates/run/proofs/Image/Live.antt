@@ -24,7 +24,7 @@ use Rattle.model.proofs.Words.Holds.{Holds}
 use Rattle.model.proofs.Words.Rounds.{closed}
 use Rattle.model.proofs.Words.Run.{rounds-words, step-words}
 use Rattle.run.specs.Says.{BeginSays, StatesAre, StepSays}
-use Rattle.moves.specs.Less.{startWords}
+use Rattle.run_moves.specs.Less.{startWords}
 use Rattle.run.specs.Work.{beginWords, masksOf, nextWords, noWords}
 use Rattle.run.proofs.Image.Carry.{as-arcs, carried, image-shaped}
 

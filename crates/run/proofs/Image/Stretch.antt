@@ -30,12 +30,12 @@ use Rattle.model.proofs.Words.Full.{Full}
 use Rattle.model.proofs.Words.Holds.{Holds}
 use Rattle.model.proofs.Words.RowBits.{row-past}
 use Rattle.model.proofs.Words.Run.{Bytes, Carry}
-use Rattle.word.specs.Ends.{RanOver}
-use Rattle.word.proofs.Laws.Back.{BackCut}
-use Rattle.word.proofs.Laws.Cut.{Cut, take-bit}
-use Rattle.word.specs.One.{oneMasks}
-use Rattle.word.specs.Shape.{widthOf}
-use Rattle.word.proofs.Laws.Shape.{shape-of}
+use Rattle.run_word.specs.Ends.{RanOver}
+use Rattle.run_word.proofs.Laws.Back.{BackCut}
+use Rattle.run_word.proofs.Laws.Cut.{Cut, take-bit}
+use Rattle.run_word.specs.One.{oneMasks}
+use Rattle.run_word.specs.Shape.{widthOf}
+use Rattle.run_word.proofs.Laws.Shape.{shape-of}
 use Rattle.run.specs.Says.{Gone, StatesAre}
 use Rattle.run.specs.Work.{masksOf, rowAt, ruleMasks, Tabled}
 use Rattle.run.proofs.Image.Carry.{as-arcs, carried, image-shaped}

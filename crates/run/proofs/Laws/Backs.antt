@@ -20,10 +20,10 @@ use Rattle.model.proofs.Laws.Bits.{bit-zero}
 use Rattle.model.proofs.Laws.Bool.{le-or-lt}
 use Rattle.model.proofs.Words.Bits.{bit-and, bit-ext, bit-or}
 use Rattle.model.proofs.Words.Operations.{each-at}
-use Rattle.moves.specs.Sets.{Apart}
-use Rattle.word.specs.Shape.{widthOf}
-use Rattle.word.proofs.Laws.Back.{Low}
-use Rattle.word.proofs.Laws.Shape.{Sections, sections-of, Shape, shape-is}
+use Rattle.run_moves.specs.Sets.{Apart}
+use Rattle.run_word.specs.Shape.{widthOf}
+use Rattle.run_word.proofs.Laws.Back.{Low}
+use Rattle.run_word.proofs.Laws.Shape.{Sections, sections-of, Shape, shape-is}
 use Rattle.run.specs.Work.{Entered, masksOf, PutBacks, rowAt, Sources, Tabled, Whole}
 use Rattle.run.proofs.Laws.Rows.{row-clear, row-long}
 

@@ -9,12 +9,12 @@ use lib.Seq.{drop-cons}
 use Rattle.model.specs.Models.Apart.{backAt, depthWord, gatherAt, propagateAt, scatterAt, stateWord}
 use Rattle.model.specs.Models.Run.{Masks}
 use Rattle.model.proofs.Words.Run.{Bytes}
-use Rattle.word.specs.One.{endsOfOne, oneMasks, wordAt}
-use Rattle.word.specs.Shape.{shaped, widthOf}
-use Rattle.word.proofs.Laws.Back.{BackCut}
-use Rattle.word.proofs.Laws.Cut.{Cut, ends-cut}
-use Rattle.word.proofs.Laws.One.{found-one, one-long}
-use Rattle.word.proofs.Laws.Shape.{Shape, shape-of}
+use Rattle.run_word.specs.One.{endsOfOne, oneMasks, wordAt}
+use Rattle.run_word.specs.Shape.{shaped, widthOf}
+use Rattle.run_word.proofs.Laws.Back.{BackCut}
+use Rattle.run_word.proofs.Laws.Cut.{Cut, ends-cut}
+use Rattle.run_word.proofs.Laws.One.{found-one, one-long}
+use Rattle.run_word.proofs.Laws.Shape.{Shape, shape-of}
 use Rattle.run.specs.Work.{endsFound, masksOf, rowAt}
 use Rattle.run.proofs.Image.Ends.{found-whole}
 use Rattle.run.proofs.Laws.Backs.{masks-low}

@@ -12,9 +12,9 @@ use Rattle.model.specs.Models.Run.{closeWords, fallWords, Masks, passWords, ret
 use Rattle.model.specs.Models.Verdict.{sameWords}
 use Rattle.model.specs.Models.Words.{orWords}
 use Rattle.mask.proofs.Laws.Same.{same-true}
-use Rattle.word.proofs.Laws.Rounds.{no-more, one-more}
-use Rattle.moves.specs.Sets.{Apart}
-use Rattle.moves.proofs.Laws.Back.{return-none}
+use Rattle.run_word.proofs.Laws.Rounds.{no-more, one-more}
+use Rattle.run_moves.specs.Sets.{Apart}
+use Rattle.run_moves.proofs.Laws.Back.{return-none}
 use Rattle.run.specs.Work.{cutMasks, NoBack, passMasks, ruleMasks, Sources, Stepped, SteppedOn, Whole, workMasks}
 use Rattle.run.proofs.Laws.Passes.{pass-letters}
 use Rattle.run.proofs.Laws.Rows.{no-word}

@@ -9,7 +9,7 @@ use lib.ListN.{drop, getD, length, length-append, length-drop, length-replicate,
 use lib.Seq.{getD-drop, length-take-le, set-at, take-suc}
 use Rattle.model.specs.Models.Words.{Fit}
 use Rattle.model.proofs.Image.Address.{part-fits}
-use Rattle.moves.proofs.Laws.Less.{fit-take}
+use Rattle.run_moves.proofs.Laws.Less.{fit-take}
 use Rattle.run.specs.Work.{kindAt, rowAt, rowsFrom}
 
 -- ---- a row made word by word: what was made so far is the row of fewer words

@@ -13,13 +13,13 @@ use Rattle.model.specs.Models.Apart.{backAt, depthWord, gatherAt, propagateAt, 
 use Rattle.model.specs.Models.Run.{closeWords, endsWith, Masks}
 use Rattle.model.specs.Models.Words.{Fit}
 use Rattle.model.proofs.Words.Run.{Bytes}
-use Rattle.moves.specs.Less.{lessOne, plusWords}
-use Rattle.moves.proofs.Laws.Less.{plus-less}
-use Rattle.word.specs.Shape.{widthOf}
-use Rattle.word.proofs.Laws.Back.{BackCut}
-use Rattle.word.proofs.Laws.Cut.{close-cut, Cut, ends-cut}
-use Rattle.word.proofs.Laws.Nine.{nine-scatter}
-use Rattle.word.proofs.Laws.Shape.{Shape}
+use Rattle.run_moves.specs.Less.{lessOne, plusWords}
+use Rattle.run_moves.proofs.Laws.Less.{plus-less}
+use Rattle.run_word.specs.Shape.{widthOf}
+use Rattle.run_word.proofs.Laws.Back.{BackCut}
+use Rattle.run_word.proofs.Laws.Cut.{close-cut, Cut, ends-cut}
+use Rattle.run_word.proofs.Laws.Nine.{nine-scatter}
+use Rattle.run_word.proofs.Laws.Shape.{Shape}
 use Rattle.run.specs.Work.{cutMasks, kindAt, masksOf, passMasks, Put, PutTo, rowAt, ruleMasks, Tabled, workMasks}
 use Rattle.run.proofs.Laws.Backs.{masks-low}
 use Rattle.run.proofs.Laws.Rounds.{close-letters}

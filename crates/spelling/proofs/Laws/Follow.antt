@@ -16,7 +16,7 @@ use Rattle.model.specs.Models.Words.{value}
 use Rattle.model.specs.Tree.{Tree}
 use Rattle.model.specs.Spelling.{Follow, Reaches}
 use Rattle.model.proofs.Definitions.Below.{takes-below}
-use Rattle.edges.specs.Reach.{EnterSays, ReachSays}
+use Rattle.run_edges.specs.Reach.{EnterSays, ReachSays}
 use Rattle.spelling.specs.Work.{FollowSays}
 use Rattle.spelling.proofs.Laws.Sets.{entered-from, row-is}
 

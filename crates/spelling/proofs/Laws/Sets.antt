@@ -18,7 +18,7 @@ use Rattle.model.proofs.Words.RowBits.{row-past}
 use Rattle.model.specs.Spelling.{Reaches}
 use Rattle.model.proofs.Definitions.Below.{takes-below}
 use Rattle.model.proofs.Spelling.Reach.{reaches-below}
-use Rattle.edges.specs.Reach.{EnterSays, ReachSays}
+use Rattle.run_edges.specs.Reach.{EnterSays, ReachSays}
 use Rattle.run.specs.Says.{StatesAre}
 
 -- a set whose states are all the tree's, at every place

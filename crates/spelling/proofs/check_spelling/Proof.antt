@@ -2,7 +2,7 @@
 use mathlib.Core.Path.{refl, sym, subst}
 use lib.Dec.{T}
 use Rattle.model.specs.Spelling.{not-an-image, right, text-too-long, wrong}
-use Rattle.verdict.proofs.Laws.Found.{found, not-found}
+use Rattle.image_check.proofs.Laws.Found.{found, not-found}
 use borrow.Author.Needs.{needs}
 use Rattle.spelling.proofs.check_spelling.Statement.{statement}
 use Rattle.spelling.proofs.check_spelling.Tie as tie

@@ -26,13 +26,13 @@ use Rattle.run.specs.Says as run
 use Rattle.run.specs.Work.{Goes}
 use Rattle.run.proofs.Image.Carry.{as-arcs, image-shaped}
 use Rattle.run.proofs.Image.Stretch.{states-mask}
-use Rattle.verdict.specs.Says.{CheckSays}
-use Rattle.verdict.specs.declared.Checked.{Checked}
-use Rattle.verdict.specs.declared.Verdict.the-variants.{Image, Other}
-use Rattle.verdict.proofs.Laws.Found.{Found, found, not-found}
-use Rattle.word.specs.Shape.{widthOf}
-use Rattle.word.proofs.Laws.Stretch.{noted-few}
-use Rattle.word.proofs.Laws.Shape.{shape-of}
+use Rattle.image_check.specs.Says.{CheckSays}
+use Rattle.image_check.specs.declared.Checked.{Checked}
+use Rattle.image_check.specs.declared.Verdict.the-variants.{Image, Other}
+use Rattle.image_check.proofs.Laws.Found.{Found, found, not-found}
+use Rattle.run_word.specs.Shape.{widthOf}
+use Rattle.run_word.proofs.Laws.Stretch.{noted-few}
+use Rattle.run_word.proofs.Laws.Shape.{shape-of}
 
 states-are : (ws : List ℕ) (t : Tree) → ImageOf ws t → stateWord ws ≡ states t
 states-are ws t I = ap stateWord (as-arcs ws t I)

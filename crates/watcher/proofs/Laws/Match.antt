@@ -9,10 +9,10 @@ use Rattle.model.proofs.Definitions.TreeEnds.{tree-ends, treeEnds}
 use Rattle.model.proofs.Image.Decided.{rule-full}
 use Rattle.model.proofs.Words.Run.{Bytes}
 use Rattle.run.specs.Says.{FindSays}
-use Rattle.verdict.specs.Says.{CheckSays}
-use Rattle.verdict.specs.declared.Checked.{Checked}
-use Rattle.verdict.specs.declared.Verdict.the-variants.{Image, Other}
-use Rattle.verdict.proofs.Laws.Found.{found, not-found}
+use Rattle.image_check.specs.Says.{CheckSays}
+use Rattle.image_check.specs.declared.Checked.{Checked}
+use Rattle.image_check.specs.declared.Verdict.the-variants.{Image, Other}
+use Rattle.image_check.proofs.Laws.Found.{found, not-found}
 
 module _ (words text before : List ℕ) {r : Checked} (C : CheckSays words r) where
   pub other : r .verdict ≡ Other → MatchSays words text before (refused 6 before)

@@ -1,7 +1,7 @@
 -- Each way out is a row of the table: no image, a text too long, or the ends that the run finds with the image that was checked.
 use native.Mathlib.Omega.{arith}
 use borrow.Author.Needs.{needs}
-use Rattle.word.proofs.Laws.Bytes.{all-bytes}
+use Rattle.run_word.proofs.Laws.Bytes.{all-bytes}
 use Rattle.watcher.proofs.Laws.Match.{all-found, other, too-long}
 use Rattle.watcher.proofs.match_ends.Statement.{statement}
 use Rattle.watcher.proofs.match_ends.Tie as tie

@@ -15,11 +15,11 @@ use Rattle.model.specs.Writing.{writing}
 use Rattle.model.proofs.Image.Tokens.{length-tokens}
 use Rattle.model.proofs.Laws.Bool.{le-false, le-or-lt, le-true}
 use Rattle.model.proofs.Laws.Stores.{sets-fit}
-use Rattle.tape.specs.Tapes.{isTree, TapeOf}
-use Rattle.tape.specs.declared.Tape.{Tape}
-use Rattle.tape.proofs.OfTree.{is-tree}
+use Rattle.tokens_masks.specs.Tapes.{isTree, TapeOf}
+use Rattle.tokens_masks.specs.declared.Tape.{Tape}
+use Rattle.tokens_masks.proofs.OfTree.{is-tree}
 use Rattle.image.proofs.Laws.Written.{length-image}
-use Rattle.verdict.proofs.Laws.Found.{Found}
+use Rattle.image_check.proofs.Laws.Found.{Found}
 use Rattle.writing.specs.Says.{WrittenSays}
 use Rattle.writing.specs.Work.{bytesAfter, Lettered, OwnMarks, rangeText, writtenIf}
 use Rattle.writing.specs.declared.Written.{Written}

@@ -14,17 +14,17 @@ use Rattle.model.specs.Models.LayOut as model
 use Rattle.model.specs.Models.Tokens.{aClose, kept}
 use Rattle.model.specs.Models.Tokens as tokens
 use Rattle.model.proofs.Laws.Bool.{and-split, unequal}
-use Rattle.scan.specs.Scans.{Innermost, Ready, ReadyAt, scanOf, StepSays, stackOf, withFrames}
-use Rattle.scan.specs.Tokens.{markOf, readKind, tokenOf}
-use Rattle.scan.specs.declared.Frame.{Frame}
-use Rattle.scan.specs.declared.Next.{Next}
-use Rattle.scan.specs.declared.Scan.{Scan}
-use Rattle.scan.specs.declared.token.Token.{Token}
-use Rattle.scan.specs.declared.token.Token.the-variants.{Bar, Close, Letter, Open}
-use Rattle.scan.proofs.Scans.{ready-close, stack-is}
-use Rattle.tape.specs.Tapes.{isTree, readKinds, tokensOf}
-use Rattle.tape.specs.declared.Tape.{Tape}
-use Rattle.tape.proofs.Along.{Along, along-begin, along-misfit, along-ready, along-step, from, from-cons, from-end, tapeOf}
+use Rattle.tokens.specs.Scans.{Innermost, Ready, ReadyAt, scanOf, StepSays, stackOf, withFrames}
+use Rattle.tokens.specs.Tokens.{markOf, readKind, tokenOf}
+use Rattle.tokens.specs.declared.Frame.{Frame}
+use Rattle.tokens.specs.declared.Next.{Next}
+use Rattle.tokens.specs.declared.Scan.{Scan}
+use Rattle.tokens.specs.declared.token.Token.{Token}
+use Rattle.tokens.specs.declared.token.Token.the-variants.{Bar, Close, Letter, Open}
+use Rattle.tokens.proofs.Scans.{ready-close, stack-is}
+use Rattle.tokens_masks.specs.Tapes.{isTree, readKinds, tokensOf}
+use Rattle.tokens_masks.specs.declared.Tape.{Tape}
+use Rattle.tokens_masks.proofs.Along.{Along, along-begin, along-misfit, along-ready, along-step, from, from-cons, from-end, tapeOf}
 use Rattle.writing.specs.Work.{OwnMarks}
 
 -- ---- one kind

@@ -21,10 +21,10 @@ use Rattle.model.proofs.Image.Tokens.{length-tokens}
 use Rattle.model.proofs.Image.TokenWriting.{length-owns, tokens-writing, tokensWriting, tokenWriting}
 use Rattle.model.proofs.Image.WellFormed.{well-fine, well-formed}
 use Rattle.model.proofs.Reading.WellFormed.{rule-well, WellFormed}
-use Rattle.tape.specs.Tapes.{bare, bares, readKinds, TapeOf}
-use Rattle.scan.specs.Tokens.{readKind, tokenOf}
-use Rattle.tape.specs.declared.Tape.{Tape}
-use Rattle.tape.proofs.Bare.{bares-own}
+use Rattle.tokens_masks.specs.Tapes.{bare, bares, readKinds, TapeOf}
+use Rattle.tokens.specs.Tokens.{readKind, tokenOf}
+use Rattle.tokens_masks.specs.declared.Tape.{Tape}
+use Rattle.tokens_masks.proofs.Bare.{bares-own}
 use Rattle.writing.specs.Work.{classTo, OwnMarks, rangeText, tokenText}
 use Rattle.writing.proofs.Laws.Tokens.{starred-text}
 

@@ -8,7 +8,7 @@ use native.Mathlib.Numerals.{add-one}
 use native.Mathlib.Omega.{arith}
 use lib.ListN.{getD, length, set}
 use Rattle.model.specs.Image.{join}
-use Rattle.plain.proofs.Laws.Texts.{Writes, writes-as, writes-none, writes-one, writes-then}
+use Rattle.writing_letters.proofs.Laws.Texts.{Writes, writes-as, writes-none, writes-one, writes-then}
 use Rattle.writing.specs.Work.{tokenText}
 use Rattle.writing.proofs.Laws.Tokens.{open-text, token-short}
 

@@ -9,7 +9,7 @@ use lib.Dec.{eqb, ltb}
 use lib.ListN.{length, length-append}
 use Rattle.model.specs.Writing.{classWriting}
 use Rattle.model.proofs.Laws.Bool.{cond-cases, le-false, le-true, unequal}
-use Rattle.plain.proofs.Laws.Bounds.{class-short}
+use Rattle.writing_letters.proofs.Laws.Bounds.{class-short}
 use Rattle.writing.specs.Work.{classTo, signText, tokenText}
 
 -- ---- signs

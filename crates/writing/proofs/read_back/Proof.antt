@@ -2,7 +2,7 @@
 use mathlib.Core.Path.{refl}
 use borrow.Author.Needs.{needs}
 use Rattle.model.specs.Answers.{not-an-image}
-use Rattle.verdict.proofs.Laws.Found.{Found, found, not-found}
+use Rattle.image_check.proofs.Laws.Found.{Found, found, not-found}
 use Rattle.writing.proofs.Laws.Answer.{asked, found-tree, says-found}
 use Rattle.writing.proofs.read_back.Statement.{statement}
 use Rattle.writing.proofs.read_back.Tie as tie

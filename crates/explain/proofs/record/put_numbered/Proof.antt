@@ -1,9 +1,9 @@
 -- The word, and at most ten digits and the line's end after it.
 use native.Mathlib.Omega.{arith}
 use lib.ListN.{length-append}
-use Rattle.lines.specs.Lines.{decimal, line}
-use Rattle.lines.proofs.Laws.Numbers.{number-short}
-use Rattle.lines.proofs.Laws.Puts.{put-then}
+use Rattle.program_lines.specs.Lines.{decimal, line}
+use Rattle.program_lines.proofs.Laws.Numbers.{number-short}
+use Rattle.program_lines.proofs.Laws.Puts.{put-then}
 use borrow.Author.Needs.{needs}
 use Rattle.explain.proofs.record.put_numbered.Statement.{statement}
 use Rattle.explain.proofs.record.put_numbered.Tie as tie

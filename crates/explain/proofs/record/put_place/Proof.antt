@@ -3,8 +3,8 @@ use mathlib.Core.Path.{_≡_, ap, _∙_}
 use Prim.Native.Nat.{_≤_}
 use native.Mathlib.Omega.{arith}
 use lib.ListN.{length, take}
-use Rattle.lines.specs.Lines.{decimal}
-use Rattle.lines.proofs.Laws.Numbers.{fewest-decimal}
+use Rattle.program_lines.specs.Lines.{decimal}
+use Rattle.program_lines.proofs.Laws.Numbers.{fewest-decimal}
 use Rattle.explain.proofs.Laws.{ten-digits}
 use borrow.Author.Needs.{needs}
 use Rattle.explain.proofs.record.put_place.Statement.{statement}

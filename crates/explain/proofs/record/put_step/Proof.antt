@@ -1,6 +1,6 @@
 -- Ten digits at most, a blank, four bytes at most, a word of seven, and ten digits and the line's end: 33 bytes at most.
 use native.Mathlib.Omega.{arith}
-use Rattle.plain.proofs.Laws.Bytes.{byte-short}
+use Rattle.writing_letters.proofs.Laws.Bytes.{byte-short}
 use borrow.Author.Needs.{needs}
 use Rattle.explain.proofs.record.put_step.Statement.{statement}
 use Rattle.explain.proofs.record.put_step.Tie as tie

@@ -4,10 +4,10 @@ use Prim.Native.Nat.{_<_}
 use native.Mathlib.Omega.{arith}
 use lib.ListN.{length}
 use borrow.Author.Needs.{needs}
-use Rattle.scan.specs.Tokens.{repeatOf}
+use Rattle.tokens.specs.Tokens.{repeatOf}
 use Rattle.rule.specs.Groups.{Counted}
 use Rattle.rule.specs.Parts.{AlternativesSay}
-use Rattle.kinds.proofs.Laws.Places.{inside}
+use Rattle.rule_bytes.proofs.Laws.Places.{inside}
 use Rattle.rule.proofs.Laws.Groups.{close-here, close-other, close-stops}
 use Rattle.rule.proofs.groups.close_item.Statement.{statement}
 use Rattle.rule.proofs.groups.close_item.Tie as tie

@@ -5,7 +5,7 @@ use borrow.Author.Needs.{needs}
 use Rattle.model.specs.Models.Reader.{readMark}
 use Rattle.model.specs.Tree.{once}
 use Rattle.model.proofs.Laws.Bool.{unequal}
-use Rattle.kinds.proofs.Laws.Places.{inside, leaves, takes}
+use Rattle.rule_bytes.proofs.Laws.Places.{inside, leaves, takes}
 use Rattle.rule.proofs.groups.read_mark.Statement.{statement}
 use Rattle.rule.proofs.groups.read_mark.Tie as tie
 

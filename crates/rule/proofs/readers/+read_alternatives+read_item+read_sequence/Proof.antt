@@ -16,7 +16,7 @@ use Rattle.rule.specs.declared.Part.the-variants.{Got as aPart}
 use Rattle.rule.proofs.Laws.Cycle.{alternatives-end, alternatives-go, alternatives-stop, item-bracket, item-letter, item-on, sequence-ends, sequence-goes, sequence-on, sequence-stops}
 use Rattle.rule.proofs.Laws.Groups.{says-counted}
 use Rattle.rule.proofs.Laws.Stands.{room-after, stands-one}
-use Rattle.kinds.proofs.Laws.Places.{inside}
+use Rattle.rule_bytes.proofs.Laws.Places.{inside}
 use borrow.Fn.Kinds.{In}
 use borrow.Fn.PlainCycle.{Measures, is, falls, and}
 use Rattle.rule.proofs.readers.read_alternatives.Reads as read-alternatives
@@ -28,7 +28,7 @@ use Rattle.rule.proofs.readers.+read_alternatives+read_item+read_sequen
 use Rattle.rule.proofs.readers.read_sequence.Reads as read-sequence
 use Rattle.rule.proofs.readers.read_sequence.Kinds as read-sequence-kinds
 use Rattle.rule.proofs.readers.+read_alternatives+read_item+read_sequence.Lts-read_sequence as read-sequence-lts
-use Rattle.kinds.proofs.byte_at.Reads as byte-at-reads
+use Rattle.rule_bytes.proofs.byte_at.Reads as byte-at-reads
 use Rattle.rule.proofs.groups.close_item.Reads as close-item-reads
 use Rattle.rule.proofs.readers.is_over.Reads as is-over-reads
 use Rattle.rule.proofs.readers.read_piece.Reads as read-piece-reads

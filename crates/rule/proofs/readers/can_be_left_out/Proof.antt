@@ -5,8 +5,8 @@ use Prim.Native.Nat.{ℕ}
 use borrow.Author.Needs.{needs}
 use Rattle.model.specs.Edges.{seqEmpty}
 use Rattle.model.specs.Grammar.{repeated}
-use Rattle.signs.specs.Answers.{signOf}
-use Rattle.signs.specs.declared.Repeat.{Repeat}
+use Rattle.rule_signs.specs.Answers.{signOf}
+use Rattle.rule_signs.specs.declared.Repeat.{Repeat}
 use Rattle.model.proofs.Image.Groups.{empty-times}
 use Rattle.rule.proofs.readers.can_be_left_out.Statement.{statement}
 use Rattle.rule.proofs.readers.can_be_left_out.Tie as tie

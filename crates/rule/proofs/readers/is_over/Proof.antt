@@ -6,7 +6,7 @@ use lib.ListN.{getD, drop-of-length-le}
 use borrow.Author.Needs.{needs}
 use Rattle.model.specs.Models.Reader.{over}
 use Rattle.model.proofs.Laws.Bool.{unequal}
-use Rattle.kinds.proofs.Laws.Places.{here}
+use Rattle.rule_bytes.proofs.Laws.Places.{here}
 use Rattle.rule.proofs.readers.is_over.Statement.{statement}
 use Rattle.rule.proofs.readers.is_over.Tie as tie
 

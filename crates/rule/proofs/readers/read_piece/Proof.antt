@@ -2,7 +2,7 @@
 use mathlib.Core.Bool.{true}
 use borrow.Author.Needs.{needs}
 use Rattle.rule.specs.Parts.{afterLetter, PartSays}
-use Rattle.kinds.proofs.Laws.Binds.{bind-goes, bind-stops}
+use Rattle.rule_bytes.proofs.Laws.Binds.{bind-goes, bind-stops}
 use Rattle.rule.proofs.readers.read_piece.Statement.{statement}
 use Rattle.rule.proofs.readers.read_piece.Tie as tie
 

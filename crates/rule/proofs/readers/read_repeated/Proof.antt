@@ -3,10 +3,10 @@ use mathlib.Core.Path.{refl}
 use borrow.Author.Needs.{needs}
 use Rattle.model.specs.Grammar.{repeated}
 use Rattle.model.specs.Models.Reader.{got}
-use Rattle.signs.specs.Answers.{signOf}
-use Rattle.letters.specs.Classes.{bytesOf}
-use Rattle.kinds.proofs.Laws.Binds.{bind-gives, bind-stops}
-use Rattle.signs.proofs.Laws.Progress.{sign-bounded}
+use Rattle.rule_signs.specs.Answers.{signOf}
+use Rattle.rule_letters.specs.Classes.{bytesOf}
+use Rattle.rule_bytes.proofs.Laws.Binds.{bind-gives, bind-stops}
+use Rattle.rule_signs.proofs.Laws.Progress.{sign-bounded}
 use Rattle.rule.proofs.readers.read_repeated.Statement.{statement}
 use Rattle.rule.proofs.readers.read_repeated.Tie as tie
 

@@ -7,7 +7,7 @@ use borrow.Author.Needs.{needs}
 use lib.ListN.{drop, take}
 use lib.Seq.{sets}
 use Rattle.model.specs.Models.Tokens.{anOpen}
-use Rattle.tape.specs.Rows.{tokenWords}
+use Rattle.tokens_masks.specs.Rows.{tokenWords}
 use Rattle.rule.proofs.Laws.Writes.{sets-before}
 use Rattle.rule.proofs.tokens.insert_open.Statement.{statement}
 use Rattle.rule.proofs.tokens.insert_open.Tie as tie

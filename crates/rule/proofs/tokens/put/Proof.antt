@@ -5,7 +5,7 @@ use Prim.Native.Nat.{_*_}
 use native.Mathlib.Numerals.{towards-suc}
 use native.Mathlib.Omega.{arith}
 use borrow.Author.Needs.{needs}
-use Rattle.letters.specs.Classes.{wordsOf}
+use Rattle.rule_letters.specs.Classes.{wordsOf}
 use Rattle.rule.proofs.Laws.Writes.{sets-past}
 use Rattle.rule.proofs.tokens.put.Statement.{statement}
 use Rattle.rule.proofs.tokens.put.Tie as tie

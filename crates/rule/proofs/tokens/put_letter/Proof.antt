@@ -11,12 +11,12 @@ use Rattle.model.specs.Models.Tokens.{tokens}
 use Rattle.model.specs.Models.Words.{Fit}
 use Rattle.model.specs.Tree.{end, once, option, plus, Repeat as Taken, star}
 use Rattle.model.proofs.Laws.Stores.{sets-append}
-use Rattle.signs.specs.Answers.{signOf}
-use Rattle.letters.specs.Classes.{bytesOf, wordsOf}
-use Rattle.signs.specs.Repeats.{Bounded}
-use Rattle.tape.specs.Rows.{repeatKind}
+use Rattle.rule_signs.specs.Answers.{signOf}
+use Rattle.rule_letters.specs.Classes.{bytesOf, wordsOf}
+use Rattle.rule_signs.specs.Repeats.{Bounded}
+use Rattle.tokens_masks.specs.Rows.{repeatKind}
 use Rattle.rule.specs.Tokens.{cut, Stands, timesWords}
-use Rattle.signs.specs.declared.Repeat.{Repeat}
+use Rattle.rule_signs.specs.declared.Repeat.{Repeat}
 use Rattle.rule.proofs.Laws.Stands.{sets-alike}
 use Rattle.rule.proofs.Laws.Written.{copies-length, letter-words, times-length, times-row}
 use Rattle.rule.proofs.tokens.put_letter.Statement.{statement}

@@ -6,7 +6,7 @@ use native.Mathlib.Numerals.{add-one}
 use native.Mathlib.Omega.{arith}
 use borrow.Author.Needs.{needs}
 use lib.Seq.{length-sets, sets}
-use Rattle.letters.specs.Classes.{wordsOf}
+use Rattle.rule_letters.specs.Classes.{wordsOf}
 use Rattle.rule.specs.Tokens.{cut, timesWords}
 use Rattle.rule.proofs.Laws.Stands.{sets-alike}
 use Rattle.rule.proofs.Laws.Written.{sets-times}

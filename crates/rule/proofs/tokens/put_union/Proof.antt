@@ -4,7 +4,7 @@ use mathlib.Core.List.{List, _∷_}
 use Prim.Native.Nat.{ℕ, _*_}
 use borrow.Author.Needs.{needs}
 use lib.Seq.{sets}
-use Rattle.letters.proofs.Laws.Classes.{no-words}
+use Rattle.rule_letters.proofs.Laws.Classes.{no-words}
 use Rattle.rule.proofs.tokens.put_union.Statement.{statement}
 use Rattle.rule.proofs.tokens.put_union.Tie as tie
 

@@ -5,8 +5,8 @@ use Prim.Native.Nat.{_-_}
 use native.Mathlib.Omega.{arith}
 use Rattle.model.specs.Models.Apart.{depthWord, stateWord}
 use Rattle.model.specs.Models.Run.{endsWith}
-use Rattle.word.specs.One.{endsOfOne}
-use Rattle.word.proofs.Laws.Bytes.{all-bytes}
+use Rattle.run_word.specs.One.{endsOfOne}
+use Rattle.run_word.proofs.Laws.Bytes.{all-bytes}
 use Rattle.run.specs.Work.{masksOf}
 use Rattle.run.proofs.Image.Ends.{find-both, found-no-shape, found-too-long, found-whole}
 use Rattle.run.proofs.Laws.One.{one-same}

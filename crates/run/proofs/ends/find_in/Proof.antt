@@ -4,9 +4,9 @@ use mathlib.Core.List.{List}
 use Prim.Native.Nat.{ℕ}
 use native.Mathlib.Omega.{arith}
 use Rattle.mask.proofs.Laws.Bits.{fit-row}
-use Rattle.word.specs.Ends.{Written}
-use Rattle.word.proofs.Laws.Bytes.{all-bytes}
-use Rattle.word.proofs.Laws.Shape.{sections-of, shape-of}
+use Rattle.run_word.specs.Ends.{Written}
+use Rattle.run_word.proofs.Laws.Bytes.{all-bytes}
+use Rattle.run_word.proofs.Laws.Shape.{sections-of, shape-of}
 use Rattle.run.proofs.Laws.Table.{tabled-of, work-ends}
 use borrow.Author.Needs.{needs}
 use Rattle.run.proofs.ends.find_in.Statement.{statement}

@@ -1,8 +1,8 @@
 -- `go_on_word`: the loop on plain words, and the word after it as the first of eight (`went-word`).
 use native.Mathlib.Omega.{arith}
 use Rattle.mask.proofs.Laws.Bits.{fit-row}
-use Rattle.word.proofs.Laws.Bytes.{all-bytes}
-use Rattle.word.proofs.Laws.Shape.{shape-of}
+use Rattle.run_word.proofs.Laws.Bytes.{all-bytes}
+use Rattle.run_word.proofs.Laws.Shape.{shape-of}
 use Rattle.run.proofs.Image.Stretch.{went-word}
 use borrow.Author.Needs.{needs}
 use Rattle.run.proofs.ends.go_on_word.Statement.{statement}

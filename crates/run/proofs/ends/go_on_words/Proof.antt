@@ -1,8 +1,8 @@
 -- `go_on_words`: the loop with the table of work, from the words of a mask (`went`).
 use native.Mathlib.Omega.{arith}
 use Rattle.mask.proofs.Laws.Bits.{fit-row}
-use Rattle.word.proofs.Laws.Bytes.{all-bytes}
-use Rattle.word.proofs.Laws.Shape.{sections-of, shape-of}
+use Rattle.run_word.proofs.Laws.Bytes.{all-bytes}
+use Rattle.run_word.proofs.Laws.Shape.{sections-of, shape-of}
 use Rattle.run.proofs.Image.Stretch.{went}
 use Rattle.run.proofs.Laws.Backs.{whole-backs}
 use Rattle.run.proofs.Laws.Table.{tabled-of}

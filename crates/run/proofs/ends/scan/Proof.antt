@@ -6,9 +6,9 @@ use native.Mathlib.Omega.{arith}
 use lib.ListN.{length, take}
 use Rattle.model.specs.Models.Run.{closeWords}
 use Rattle.mask.proofs.Laws.Bits.{fit-row}
-use Rattle.word.proofs.Laws.Cut.{take-bit}
-use Rattle.word.proofs.Laws.Shape.{sections-of, shape-of}
-use Rattle.word.proofs.Laws.Stretch.{begun, noted-few}
+use Rattle.run_word.proofs.Laws.Cut.{take-bit}
+use Rattle.run_word.proofs.Laws.Shape.{sections-of, shape-of}
+use Rattle.run_word.proofs.Laws.Stretch.{begun, noted-few}
 use Rattle.run.specs.Work.{ruleMasks}
 use Rattle.run.proofs.Laws.Backs.{whole-backs}
 use Rattle.run.proofs.Laws.Table.{close-wide, tabled-of}

@@ -3,7 +3,7 @@ use mathlib.Core.Path.{_≡_, sym, ap, _∙_}
 use mathlib.Core.Bool.{Bool, cond}
 use Rattle.model.specs.Models.Apart.{depthWord}
 use Rattle.model.specs.Models.Run.{closeWords}
-use Rattle.moves.specs.Less.{startWords}
+use Rattle.run_moves.specs.Less.{startWords}
 use Rattle.run.specs.Work.{beginWords, masksOf, noWords}
 use Rattle.run.proofs.Image.Live.{begin-says}
 use native.Mathlib.Omega.{arith}

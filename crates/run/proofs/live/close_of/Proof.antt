@@ -3,7 +3,7 @@ use mathlib.Core.Path.{_≡_}
 use native.Mathlib.Omega.{arith}
 use lib.ListN.{length}
 use Rattle.mask.proofs.Laws.Bits.{fit-row}
-use Rattle.word.proofs.Laws.Shape.{shape-of}
+use Rattle.run_word.proofs.Laws.Shape.{shape-of}
 use Rattle.run.proofs.Laws.Table.{close-eight, tabled-of}
 use borrow.Author.Needs.{needs}
 use Rattle.run.proofs.live.close_of.Statement.{statement}

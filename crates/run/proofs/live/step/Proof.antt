@@ -7,10 +7,10 @@ use lib.ListN.{length}
 use Rattle.mask.proofs.Laws.Bits.{fit-row}
 use Rattle.model.specs.Models.Apart.{depthWord}
 use Rattle.model.specs.Models.Run.{closeWords, moveWords, stepWords}
-use Rattle.moves.specs.Less.{startWords}
+use Rattle.run_moves.specs.Less.{startWords}
 use Rattle.run.specs.Work.{masksOf, nextWords, noWords, rowAt}
 use Rattle.run.proofs.Image.Live.{step-says}
-use Rattle.word.proofs.Laws.Shape.{sections-of, shape-of}
+use Rattle.run_word.proofs.Laws.Shape.{sections-of, shape-of}
 use Rattle.run.proofs.Laws.Widths.{close-whole, move-whole}
 use borrow.Author.Needs.{needs}
 use Rattle.run.proofs.live.step.Statement.{statement}

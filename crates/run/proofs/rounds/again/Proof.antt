@@ -2,7 +2,7 @@
 use mathlib.Core.Path.{sym, _∙_}
 use lib.ListN.{take}
 use Rattle.run.specs.Work.{passMasks}
-use Rattle.word.proofs.Laws.Rounds.{no-more, one-more}
+use Rattle.run_word.proofs.Laws.Rounds.{no-more, one-more}
 use borrow.Author.Needs.{needs}
 use Rattle.run.proofs.rounds.again.Statement.{statement}
 use Rattle.run.proofs.rounds.again.Tie as tie

@@ -2,7 +2,7 @@
 use mathlib.Core.Path.{ap}
 use Prim.Native.Nat.{ℕ, _+_, _/_}
 use native.Mathlib.Omega.{arith}
-use Rattle.word.proofs.Laws.Shape.{shape-of}
+use Rattle.run_word.proofs.Laws.Shape.{shape-of}
 use borrow.Author.Needs.{needs}
 use Rattle.run.proofs.shape.width.Statement.{statement}
 use Rattle.run.proofs.shape.width.Tie as tie

@@ -4,9 +4,9 @@ use mathlib.Core.Path.{sym, _∙_}
 use Prim.Native.Nat.{_-_}
 use native.Mathlib.Omega.{arith}
 use lib.ListN.{length, take}
-use Rattle.word.proofs.Laws.Cut.{take-bit}
+use Rattle.run_word.proofs.Laws.Cut.{take-bit}
 use Rattle.run.specs.Work.{ruleMasks}
-use Rattle.word.proofs.Laws.Stretch.{at-end, at-next, Since, since-now, since-then}
+use Rattle.run_word.proofs.Laws.Stretch.{at-end, at-next, Since, since-now, since-then}
 use borrow.Author.Needs.{needs}
 use Rattle.run.proofs.stretch.run_back.Statement.{statement}
 use Rattle.run.proofs.stretch.run_back.Tie as tie

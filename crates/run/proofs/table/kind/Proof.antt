@@ -4,9 +4,9 @@ use mathlib.Core.List.{List, []}
 use Prim.Native.Nat.{ℕ, _+_, _-_}
 use native.Mathlib.Omega.{arith}
 use lib.ListN.{getD}
-use Rattle.moves.specs.Less.{lessOne}
-use Rattle.word.proofs.Laws.Nine.{nine-gather, nine-less, nine-propagate, nine-scatter}
-use Rattle.word.proofs.Laws.Shape.{gather-place, propagate-place, sections-of}
+use Rattle.run_moves.specs.Less.{lessOne}
+use Rattle.run_word.proofs.Laws.Nine.{nine-gather, nine-less, nine-propagate, nine-scatter}
+use Rattle.run_word.proofs.Laws.Shape.{gather-place, propagate-place, sections-of}
 use Rattle.run.specs.Work.{kindAt}
 use borrow.Author.Needs.{needs}
 use Rattle.run.proofs.table.kind.Statement.{statement}

@@ -4,8 +4,8 @@ use mathlib.Core.List.{[]}
 use native.Mathlib.Omega.{arith}
 use Prim.Native.Nat.{ℕ, _-_, _<_}
 use lib.ListN.{getD, length, length-set}
-use Rattle.moves.specs.Less.{lessOne}
-use Rattle.word.proofs.Laws.Nine.{entered-more}
+use Rattle.run_moves.specs.Less.{lessOne}
+use Rattle.run_word.proofs.Laws.Nine.{entered-more}
 use borrow.Author.Needs.{needs}
 use Rattle.run.proofs.table.less_ones.Statement.{statement}
 use Rattle.run.proofs.table.less_ones.Tie as tie

@@ -3,7 +3,7 @@ use mathlib.Core.Path.{_≡_, ap, subst, _∙_}
 use Prim.Native.Nat.{ℕ, _+_, _-_, _*_, _≤_}
 use native.Mathlib.Omega.{arith}
 use Rattle.model.proofs.Image.Address.{part-fits}
-use Rattle.word.proofs.Laws.Shape.{back-place, sections-of}
+use Rattle.run_word.proofs.Laws.Shape.{back-place, sections-of}
 use Rattle.run.specs.Work.{PutBacks, rowAt}
 use Rattle.run.proofs.Laws.Backs.{backs-begin, backs-more}
 use Rattle.run.proofs.table.put_backs.Statement.{statement}

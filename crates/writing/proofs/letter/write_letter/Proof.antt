@@ -5,8 +5,8 @@ use native.Mathlib.Omega.{arith}
 use lib.ListN.{length}
 use Rattle.model.specs.Models.Words.{value}
 use Rattle.model.specs.Writing.{classWriting}
-use Rattle.plain.proofs.Laws.Bounds.{class-short}
-use Rattle.plain.proofs.Laws.Texts.{known, writes-as, writes-then}
+use Rattle.writing_letters.proofs.Laws.Bounds.{class-short}
+use Rattle.writing_letters.proofs.Laws.Texts.{known, writes-as, writes-then}
 use Rattle.writing.specs.Work.{classTo, signText}
 use Rattle.writing.proofs.Laws.Letters.{class-value}
 use Rattle.writing.proofs.letter.write_letter.Statement.{statement}

@@ -1,7 +1,7 @@
 -- No byte or one, by the kind.
 use mathlib.Core.Path.{sym, ap}
 use borrow.Author.Needs.{needs}
-use Rattle.plain.proofs.Laws.Texts.{writes-as, writes-none, writes-one}
+use Rattle.writing_letters.proofs.Laws.Texts.{writes-as, writes-none, writes-one}
 use Rattle.writing.specs.Work.{signText}
 use Rattle.writing.proofs.Laws.Tokens.{plus-sign}
 use Rattle.writing.proofs.letter.write_sign.Statement.{statement}

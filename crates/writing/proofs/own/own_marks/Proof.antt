@@ -4,9 +4,9 @@ use Prim.Native.Nat.{_-_}
 use native.Mathlib.Omega.{arith}
 use borrow.Author.Needs.{needs}
 use lib.ListN.{getD, length-map}
-use Rattle.scan.specs.Scans.{noFrame, ReadyAt, withFrames}
-use Rattle.tape.proofs.Along.{along-depth, tapeOf}
-use Rattle.tape.proofs.Scanning.{top-here}
+use Rattle.tokens.specs.Scans.{noFrame, ReadyAt, withFrames}
+use Rattle.tokens_masks.proofs.Along.{along-depth, tapeOf}
+use Rattle.tokens_masks.proofs.Scanning.{top-here}
 use Rattle.writing.proofs.Laws.Own.{Owning, owning-begin, owning-end, owning-ready, owning-step}
 use Rattle.writing.proofs.own.own_marks.Statement.{statement}
 use Rattle.writing.proofs.own.own_marks.Tie as tie

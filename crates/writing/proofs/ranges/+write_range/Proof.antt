@@ -11,7 +11,7 @@ use borrow.Fn.PlainCycle.{Measures, is, falls, and}
 use Rattle.writing.proofs.ranges.write_range.Reads as reads
 use Rattle.writing.proofs.ranges.write_range.Kinds as kinds
 use Rattle.writing.proofs.ranges.+write_range.Lts-write_range as lts
-use Rattle.plain.proofs.put.Reads as put-reads
+use Rattle.writing_letters.proofs.put.Reads as put-reads
 use Rattle.writing.proofs.ranges.close_of.Reads as close-of-reads
 use Rattle.writing.proofs.ranges.write_token.Reads as write-token-reads
 use Rattle.writing.proofs.ranges.+write_range.{statement}

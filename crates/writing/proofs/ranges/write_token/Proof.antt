@@ -4,7 +4,7 @@ use mathlib.Core.List.{[], _∷_}
 use Prim.Native.Nat.{_+_, _<_}
 use native.Mathlib.Omega.{arith}
 use borrow.Author.Needs.{needs}
-use Rattle.plain.proofs.Laws.Texts.{writes-as, writes-next, writes-one}
+use Rattle.writing_letters.proofs.Laws.Texts.{writes-as, writes-next, writes-one}
 use Rattle.writing.proofs.Laws.Tokens.{bar-text, close-text, letter-text, marked-text}
 use Rattle.writing.proofs.ranges.write_token.Statement.{statement}
 use Rattle.writing.proofs.ranges.write_token.Tie as tie

@@ -1,0 +1,23 @@
+-- The third word where there is one, and no more than eight.
+use mathlib.Core.Path.{_≡_}
+use Prim.Native.Nat.{ℕ}
+use native.Mathlib.Omega.{arith}
+use lib.ListN.{getD, List·getD-eq-default}
+use borrow.Author.Needs.{needs}
+use Rattle.follow_report.proofs.mask_words.Statement.{statement}
+use Rattle.follow_report.proofs.mask_words.Tie as tie
+
+returns : tie.Need-returns
+returns c = let none : getD {A = ℕ} (c .before .args .image .now) 2 0 ≡ 0 = List·getD-eq-default (c .before .args .image .now) 0 (omega arith) in omega (arith, none)
+
+shared-slice-read-words : tie.Need-shared-slice-read-words
+shared-slice-read-words c = search needs
+
+returns-2 : tie.Need-returns-2
+returns-2 c = search needs
+
+returns-3 : tie.Need-returns-3
+returns-3 c = search needs
+
+pub mask-words-spec : {M : Type 1} → statement M
+mask-words-spec = tie.close (tie.spec returns shared-slice-read-words returns-2 returns-3)

@@ -1,0 +1,179 @@
+-- THE TAPE THAT THE MASKS SHOW is the model's: a row of several masks has a state exactly if some of them has it, and the masks lie where the model
+-- looks for them.
+use mathlib.Core.Path.{_≡_, refl, sym, ap, ap₂, _∙_}
+use mathlib.Core.Bool.{Bool, true, false, not, _&&_, cond}
+use mathlib.Core.List.{List, [], _∷_}
+use Prim.Native.Nat.{ℕ, zero, suc, _+_, _-_, _*_, _≤_, _<_}
+use native.Mathlib.Nat.{le-of-suc-le-suc, not-suc-le-zero, zero-add, zero-lt-suc}
+use native.Mathlib.Omega.{arith}
+use lib.ListN.{drop, getD, length, take}
+use Rattle.model.specs.Bits.{bit, mask}
+use Rattle.model.specs.Models.Apart.{anyBelow, backAt, backIn, bitOf, bitOfThree, bitOfTwo, chunk, depthWord, gatherAt, gatherIn, lettersIn, markOf, propagateAt, propagateIn, repeatOf, repeatsIn, scatterAt, scatterIn, stateWord, tape, tokenAt, tokenOf, tokensBetween, tokensFrom, widthWord}
+use Rattle.model.specs.Models.Tokens.{Token}
+use Rattle.model.specs.Models.Words.{Fit, value}
+use Rattle.model.proofs.Image.SameBits.{fit-drop, fit-take}
+use Rattle.model.proofs.Laws.Bits.{below-same}
+use Rattle.tokens_masks.specs.Rows.{kindOf, markKind, repeatKind}
+use Rattle.tokens_masks.specs.Tapes.{bare, bares, readKinds, tokensOf}
+use Rattle.tokens.specs.Tokens as kinds
+use Rattle.tokens_masks.specs.declared.Tape.{Tape}
+use Rattle.tokens_masks.proofs.Tokens.{read-kind}
+use Rattle.image_apart.specs.Work.{ShownBy, enteredWords, kindAt, marksOf, orRows, wordsAt}
+use Rattle.model.proofs.Image.Address.{back-at, gather-at, part-fits, propagate-at, scatter-at}
+use Rattle.image_apart.proofs.Laws.Address.{chunk-at, part-at, repeats-at}
+use Rattle.image_apart.proofs.Laws.Rows.{entered-long, Mask, only-bit, only-fit, rows-bit, rows-fit, rows-length, words-long}
+
+-- ---- a token by its kind
+kind-is : (l : Bool) (class : ℕ) (s p c o b : Bool)
+    → cond l (repeatKind (repeatOf s p)) (cond c (markKind (markOf s b)) (cond o 4 5)) ≡ kindOf (tokenOf l class s p c o b)
+kind-is true class s p c o b = refl
+kind-is false class s p true o b = refl
+kind-is false class s p false true b = refl
+kind-is false class s p false false b = refl
+
+read-row : (n a : ℕ) (f : ℕ → Token) (ks : List ℕ) → n ≤ length ks → ((i : ℕ) → i < n → getD ks i 0 ≡ kindOf (f (a + i)))
+    → readKinds (take n ks) ≡ bares (tokensFrom n a f)
+read-row zero a f ks h e = refl
+read-row (suc n) a f [] h e = absurd (not-suc-le-zero h)
+read-row (suc n) a f (k ∷ ks) h e =
+    ap₂ (λ (y : Token) (ys : List Token). y ∷ ys)
+    (ap (λ (i : ℕ). kinds.tokenOf (kinds.readKind i)) (e 0 (zero-lt-suc n)) ∙ read-kind (f (a + 0))
+    ∙ (let z : a + 0 ≡ a = omega arith in ap (λ (i : ℕ). bare (f i)) z))
+    (read-row n (suc a) f ks (le-of-suc-le-suc h)
+    (λ i l. e (suc i) (omega arith) ∙ (let z : a + suc i ≡ suc a + i = omega arith in ap (λ (j : ℕ). kindOf (f j)) z)))
+
+-- ---- a row's states by the masks, one by one
+row-bit : (n : ℕ) (f : ℕ → List ℕ) (g : ℕ → Bool) (x : ℕ) → ((k : ℕ) → k < n → Mask (f k)) → ((k : ℕ) → k < n → bit (value (f k)) x ≡ g k)
+    → bit (value (orRows n f)) x ≡ anyBelow n g
+row-bit n f g x M e = rows-bit f n x M ∙ below-same n (λ k. bit (value (f k)) x) g e
+
+mask-bit : {xs ys : List ℕ} (x : ℕ) → xs ≡ ys → bit (value xs) x ≡ bit (value ys) x
+mask-bit x e = ap (λ (l : List ℕ). bit (value l) x) e
+
+module _ (ws : List ℕ) (fit : Fit ws) (W d : ℕ) (narrow : W ≤ 8) (long : length ws ≡ 10 + W * (515 + 11 * d)) where
+  words-fit : (at : ℕ) → Fit (wordsAt ws at W)
+  words-fit at = fit-take W (drop at ws) (fit-drop at ws fit)
+
+  words-mask : (at : ℕ) → at + W ≤ length ws → Mask (wordsAt ws at W)
+  words-mask at h = record { fit = words-fit at; few = omega (arith, words-long ws at W h) }
+
+  letter-masks : (b : ℕ) → b < 256 → Mask (wordsAt ws (5 + W * b) W)
+  letter-masks b h = words-mask (5 + W * b) (omega (arith, part-fits W h))
+
+  -- THE LETTERS' ROW
+  pub letters-row : (x : ℕ) → bit (value (marksOf ws W d .letters)) x ≡ anyBelow 256 (λ b. bitOf W (lettersIn ws) b x)
+  letters-row x =
+      row-bit 256 (λ b. wordsAt ws (5 + W * b) W) (λ b. bitOf W (lettersIn ws) b x) x letter-masks
+      (λ b h. mask-bit x (chunk-at ws (lettersIn ws) 5 W refl b))
+
+  pub letters-fit : Fit (marksOf ws W d .letters)
+  letters-fit = rows-fit (λ b. wordsAt ws (5 + W * b) W) 256 letter-masks
+
+  pub letters-long : length (marksOf ws W d .letters) ≡ 8
+  letters-long = rows-length (λ b. wordsAt ws (5 + W * b) W) 256
+
+-- ---- the other rows, where the words say the width and the depth
+module _ (ws : List ℕ) (fit : Fit ws) where
+  abbrev W : ℕ
+  W = widthWord ws
+
+  abbrev d : ℕ
+  d = depthWord ws
+
+  module _ (narrow : W ≤ 8) (long : length ws ≡ 10 + W * (515 + 11 * d)) where
+    masks : (at : ℕ) → at + W ≤ length ws → Mask (wordsAt ws at W)
+    masks = words-mask ws fit W d narrow long
+
+    loops-row : (x : ℕ) → bit (value (marksOf ws W d .loops)) x ≡ anyBelow 256 (λ b. bitOf W (repeatsIn ws) b x)
+    loops-row x =
+        row-bit 256 (λ b. wordsAt ws (6 + 256 * W + W * b) W) (λ b. bitOf W (repeatsIn ws) b x) x
+        (λ b h. masks (6 + 256 * W + W * b) (omega (arith, part-fits W h)))
+        (λ b h. mask-bit x (chunk-at ws (repeatsIn ws) (6 + 256 * W) W (repeats-at ws) b))
+
+    closes-row : (x : ℕ) → bit (value (marksOf ws W d .closes)) x ≡ anyBelow d (λ k. bitOfThree W (gatherIn ws) 2 k x)
+    closes-row x =
+        row-bit d (λ k. wordsAt ws (at k) W) (λ k. bitOfThree W (gatherIn ws) 2 k x) x
+        (λ k h. masks (at k) (omega (arith, part-fits (3 * W) h)))
+        (λ k h. mask-bit x (part-at ws (gatherIn ws) (gatherAt W d) W (gather-at ws) 3 2 k (at k) (omega arith) (omega arith)))
+      where
+        at : ℕ → ℕ
+        at k = gatherAt W d + 2 * W + 3 * W * k
+
+    opens-row : (x : ℕ) → bit (value (marksOf ws W d .opens)) x ≡ anyBelow d (λ k. bitOfThree W (scatterIn ws) 1 k x)
+    opens-row x =
+        row-bit d (λ k. wordsAt ws (at k) W) (λ k. bitOfThree W (scatterIn ws) 1 k x) x
+        (λ k h. masks (at k) (omega (arith, part-fits (3 * W) h)))
+        (λ k h. mask-bit x (part-at ws (scatterIn ws) (scatterAt W) W (scatter-at ws) 3 1 k (at k) (omega arith) (omega arith)))
+      where
+        at : ℕ → ℕ
+        at k = scatterAt W + W + 3 * W * k
+
+    returns-row : (x : ℕ) → bit (value (marksOf ws W d .returns)) x ≡ anyBelow d (λ k. bitOfTwo W (backIn ws) 0 k x)
+    returns-row x =
+        row-bit d (λ k. wordsAt ws (at k) W) (λ k. bitOfTwo W (backIn ws) 0 k x) x
+        (λ k h. masks (at k) (omega (arith, part-fits (2 * W) h)))
+        (λ k h. mask-bit x (part-at ws (backIn ws) (backAt W d) W (back-at ws) 2 0 k (at k) (omega arith) (omega arith)))
+      where
+        at : ℕ → ℕ
+        at k = backAt W d + 2 * W * k
+
+    -- in a block and not its source
+    entered-row : (x : ℕ) → bit (value (marksOf ws W d .entered)) x
+        ≡ anyBelow (suc d) (λ k. bitOfThree W (propagateIn ws) 0 k x && not (bitOfThree W (propagateIn ws) 1 k x))
+    entered-row x =
+        row-bit (suc d) (λ k. enteredWords ws (at k) W) (λ k. bitOfThree W (propagateIn ws) 0 k x && not (bitOfThree W (propagateIn ws) 1 k x)) x
+        (λ k h. record {
+          fit = only-fit (wordsAt ws (at k) W) (wordsAt ws (at k + W) W) (block k h .fit);
+          few = omega (arith, entered-long ws (at k) W (room k h));
+        })
+        (λ k h. only-bit (wordsAt ws (at k) W) (wordsAt ws (at k + W) W) x (same-length k h) (block k h .fit) (source k h .fit)
+        ∙ ap₂ (λ (a b : Bool). a && not b) (mask-bit x (mask-of 0 k (at k) (omega arith) (omega arith)))
+        (mask-bit x (mask-of 1 k (at k + W) (omega arith) (omega arith))))
+      where
+        at : ℕ → ℕ
+        at k = propagateAt W d + 3 * W * k
+
+        mask-of : (j k place : ℕ) → W * j + W ≤ 3 * W → place ≡ propagateAt W d + 3 * W * k + W * j
+            → wordsAt ws place W ≡ chunk W j (chunk (3 * W) k (propagateIn ws))
+        mask-of = part-at ws (propagateIn ws) (propagateAt W d) W (propagate-at ws) 3
+
+        room : (k : ℕ) → k < suc d → at k + 2 * W ≤ length ws
+        room k h = omega (arith, part-fits (3 * W) h)
+
+        block : (k : ℕ) → k < suc d → Mask (wordsAt ws (at k) W)
+        block k h = masks (at k) (omega (arith, room k h))
+
+        source : (k : ℕ) → k < suc d → Mask (wordsAt ws (at k + W) W)
+        source k h = masks (at k + W) (omega (arith, room k h))
+
+        same-length : (k : ℕ) → k < suc d → length (wordsAt ws (at k) W) ≡ length (wordsAt ws (at k + W) W)
+        same-length k h = words-long ws (at k) W (omega (arith, room k h)) ∙ sym (words-long ws (at k + W) W (omega (arith, room k h)))
+
+    kind-of-token : (i : ℕ) → kindAt (marksOf ws W d) i ≡ kindOf (tokenAt ws i)
+    kind-of-token i =
+        (λ j. cond (letters-row ws fit W d narrow long (suc i) j) (repeatKind (repeatOf (entered-row (suc i) j) (loops-row (suc i) j)))
+        (cond (closes-row (suc i) j) (markKind (markOf (entered-row (suc i) j) (returns-row i j))) (cond (opens-row i j) 4 5)))
+        ∙ kind-is (anyBelow 256 (λ b. bitOf W (lettersIn ws) b (suc i))) (mask 256 (λ b. bitOf W (lettersIn ws) b (suc i)))
+        (anyBelow (suc d) (λ k. bitOfThree W (propagateIn ws) 0 k (suc i) && not (bitOfThree W (propagateIn ws) 1 k (suc i))))
+        (anyBelow 256 (λ b. bitOf W (repeatsIn ws) b (suc i)))
+        (anyBelow d (λ k. bitOfThree W (gatherIn ws) 2 k (suc i))) (anyBelow d (λ k. bitOfThree W (scatterIn ws) 1 k i))
+        (anyBelow d (λ k. bitOfTwo W (backIn ws) 0 k i))
+
+-- THE TAPE TAKEN APART has the model's tokens
+pub apart-is : (ws : List ℕ) {W d m : ℕ} {t : Tape} → Fit ws → W ≡ widthWord ws → d ≡ depthWord ws → m ≡ stateWord ws → W ≤ 8 → 2 ≤ m → m ≤ 512
+    → length ws ≡ 10 + W * (515 + 11 * d) → length (t .kinds) ≡ 512 → ShownBy (marksOf ws W d) (m - 1) t → tokensOf t ≡ bares (tape ws)
+apart-is ws {W} {d} {m} {t} fit w e states narrow some few long room A =
+    ap (λ (n : ℕ). readKinds (take n (t .kinds))) (A .long)
+    ∙ read-row (m - 1) 0 (tokenAt ws) (t .kinds) (omega arith) kind
+    ∙ ap (λ (n : ℕ). bares (tokensBetween n (tokenAt ws))) (let s : suc (m - 1) ≡ stateWord ws = omega arith in s)
+  where
+    wide : widthWord ws ≤ 8
+    wide = omega arith
+
+    whole : length ws ≡ 10 + widthWord ws * (515 + 11 * depthWord ws)
+    whole = long ∙ (λ i. 10 + w i * (515 + 11 * e i))
+
+    kind : (i : ℕ) → i < m - 1 → getD (t .kinds) i 0 ≡ kindOf (tokenAt ws (0 + i))
+    kind i h =
+        A .kinds i h ∙ ap₂ (λ (u k : ℕ). kindAt (marksOf ws u k) i) w e ∙ kind-of-token ws fit wide whole i
+        ∙ ap (λ (j : ℕ). kindOf (tokenAt ws j)) (sym (zero-add i))

@@ -1,0 +1,121 @@
+-- SOME MASKS FOR EACH DEPTH COMPARED: part k is those of depth k, so word j of mask `which` of depth k stands (count * k + which) * W + j words after the
+-- first. Three masks are the block, the source and the target that lay out gives; two are the source and the target.
+use mathlib.Core.Path.{_≡_, refl, sym, ap, _∙_, subst}
+use mathlib.Core.Bool.{true, false}
+use mathlib.Core.List.{List, [], _++_, append-nil}
+use Prim.Native.Nat.{ℕ, _+_, _*_, _≤_, _<_}
+use native.Mathlib.Nat.{add-mul, mul-comm, mul-le-mul-left, mul-right-comm, zero-add}
+use native.Mathlib.Omega.{arith}
+use lib.ListN.{getD, length, take}
+use lib.Seq.{getD-take}
+use Rattle.model.specs.Image.{join}
+use Rattle.model.specs.Models.Verdict.{sameWords}
+use Rattle.model.proofs.Image.Rows.{join-same}
+use Rattle.tokens_masks.specs.Masks.{rowIn, tableIn}
+use Rattle.tokens_masks.proofs.InWords.{row-long, row-word, table-row}
+use Rattle.image_apart.specs.Work.{wordsAt}
+use Rattle.image.specs.Work.{threeRows, twoRows}
+use Rattle.image.proofs.Laws.Lengths.{backRows, depthRows, length-row}
+use Rattle.image.proofs.Laws.Parts.{AllLong, length-joined}
+use Rattle.model.proofs.Image.Address.{part-fits}
+use Rattle.image_check.specs.Work.{depthMasks, sameMasks, sameTables}
+use Rattle.image_check.proofs.Laws.Compare.{differ-here, place-in, same-all, same-more, same-none, SameTo, word-from}
+
+module _ {W : ℕ} (first count : ℕ) (ms : List ℕ) (narrow : W ≤ 8) (kinds : first + count ≤ 3) (long : length ms ≡ 216) where
+  -- mask i of depth k has W words in its part
+  row-part : (k : ℕ) → k < 9 → AllLong W count (λ i. take W (rowIn ms (3 * k + first + i)))
+  row-part k h i l = length-row (rowIn ms (3 * k + first + i)) narrow (row-long ms (3 * k + first + i) (omega arith))
+
+  pub masks-long : {n : ℕ} → n ≤ 9 → AllLong (count * W) n (depthMasks W first count ms)
+  masks-long few k h = length-joined W count (λ i. take W (rowIn ms (3 * k + first + i))) (row-part k (omega arith)) ∙ mul-comm W count
+
+  masks-word : (k which j : ℕ) → k < 9 → which < count → j < W → getD (depthMasks W first count ms k) (W * which + j) 0 ≡ getD ms (8 * (3 * k + first + which) + j) 0
+  masks-word k which j h m l =
+      word-from W (λ i. take W (rowIn ms (3 * k + first + i))) count 0 which j (λ i p. row-part k h (0 + i) (omega arith)) m l
+      ∙ ap (λ (i : ℕ). getD (take W (rowIn ms (3 * k + first + i))) j 0) (zero-add which)
+      ∙ getD-take W (rowIn ms (3 * k + first + which)) j 0 l
+      ∙ row-word ms (3 * k + first + which) j (omega arith)
+
+-- the first q words of the section are the same
+pub record MasksTo (ms ws : List ℕ) (at W depths first count q : ℕ) : Type 0 where
+  pub narrow : W ≤ 8
+  pub few : depths ≤ 9
+  pub kinds : first + count ≤ 3
+  pub sized : length ms ≡ 216
+  pub fits : at + count * W * depths ≤ length ws
+  pub same : SameTo ws at (count * W * depths) (count * W) depths (depthMasks W first count ms) q
+
+pub masks-none : {ms ws : List ℕ} {at W depths first count : ℕ} → W ≤ 8 → depths ≤ 9 → first + count ≤ 3 → at + count * W * depths ≤ length ws → length ms ≡ 216
+    → MasksTo ms ws at W depths first count 0
+masks-none {ms} {first = first} {count = count} narrow few kinds fits sized = record {
+  narrow = narrow;
+  few = few;
+  kinds = kinds;
+  sized = sized;
+  fits = fits;
+  same = same-none refl (masks-long first count ms narrow kinds sized few) fits;
+}
+
+module _ {ms ws : List ℕ} {at W depths first count q : ℕ} (S : MasksTo ms ws at W depths first count q) where
+  pub masks-at : {p : ℕ} → q ≡ p → MasksTo ms ws at W depths first count p
+  masks-at e = subst (MasksTo ms ws at W depths first count) e S
+
+  pub masks-all : {k : ℕ} → q ≡ count * k * W → depths ≤ k → sameMasks ws at W depths first count ms ≡ true
+  masks-all {k} e h = same-all (S .same) (omega (arith, mul-le-mul-left (count * W) h, mul-right-comm count W k))
+
+module _ {ms ws : List ℕ} {at W depths first count k which j : ℕ} (S : MasksTo ms ws at W depths first count ((count * k + which) * W + j))
+    (depth : k < depths) (mask : which < count) (word : j < W) where
+  there : (count * k + which) * W + j ≡ count * W * k + (W * which + j)
+  there = omega (arith, add-mul (count * k) which W, mul-right-comm count k W, mul-comm which W)
+
+  inner : W * which + j < count * W
+  inner = omega (arith, part-fits W mask, mul-comm W count)
+
+  place : at + ((count * k + which) * W + j) ≡ at + (count * k + which) * W + j
+  place = omega arith
+
+  pub masks-in : at + (count * k + which) * W + j < length ws
+  masks-in = omega (arith, place-in (S .same) there depth inner, S .fits)
+
+  word-is : getD (depthMasks W first count ms k) (W * which + j) 0 ≡ getD ms (8 * (3 * k + first + which) + j) 0
+  word-is = masks-word first count ms (S .narrow) (S .kinds) (S .sized) k which j (omega (arith, S .few)) mask word
+
+  pub masks-more : getD ws (at + (count * k + which) * W + j) 0 ≡ getD ms (8 * (3 * k + first + which) + j) 0
+      → MasksTo ms ws at W depths first count ((count * k + which) * W + (j + 1))
+  masks-more e =
+      let next : (count * k + which) * W + j + 1 ≡ (count * k + which) * W + (j + 1) = omega arith in
+      subst (MasksTo ms ws at W depths first count) next (record {
+        narrow = S .narrow;
+        few = S .few;
+        kinds = S .kinds;
+        sized = S .sized;
+        fits = S .fits;
+        same = same-more (S .same) there depth inner (ap (λ (i : ℕ). getD ws i 0) place ∙ e ∙ sym word-is);
+      })
+
+  pub masks-differ : (getD ws (at + (count * k + which) * W + j) 0 ≡ getD ms (8 * (3 * k + first + which) + j) 0 → ⊥)
+      → sameMasks ws at W depths first count ms ≡ false
+  masks-differ d = differ-here (S .same) there depth inner (λ e. d (ap (λ (i : ℕ). getD ws i 0) (sym place) ∙ e ∙ word-is))
+
+-- ---- by tables: all three of each depth; the last two
+module _ (ws : List ℕ) (at W depths : ℕ) (ms : List ℕ) (few : depths ≤ 9) where
+  row-is : (k i : ℕ) → k < 9 → (j : ℕ) → j ≡ 3 * k + i → take W (rowIn ms j) ≡ take W (getD (tableIn ms i) k [])
+  row-is k i h j e = ap (λ (r : ℕ). take W (rowIn ms r)) e ∙ ap (take W) (sym (table-row ms i k h))
+
+  pub three-masks : sameMasks ws at W depths 0 3 ms ≡ sameTables ws at W depths (tableIn ms 0) (tableIn ms 1) (tableIn ms 2)
+  three-masks =
+      ap (sameWords (wordsAt ws at (3 * W * depths)))
+      (join-same depths 0 (depthMasks W 0 3 ms) (depthRows W (tableIn ms 0) (tableIn ms 1) (tableIn ms 2)) (λ k l. three k (omega arith)))
+    where
+      three : (k : ℕ) → k < 9 → depthMasks W 0 3 ms k ≡ threeRows W (getD (tableIn ms 0) k []) (getD (tableIn ms 1) k []) (getD (tableIn ms 2) k [])
+      three k h =
+          λ i. row-is k 0 h (3 * k + 0 + 0) (omega arith) i
+          ++ (row-is k 1 h (3 * k + 0 + 1) (omega arith) i ++ (append-nil (take W (rowIn ms (3 * k + 0 + 2))) ∙ row-is k 2 h (3 * k + 0 + 2) (omega arith)) i)
+
+  pub two-masks : sameMasks ws at W depths 1 2 ms ≡ sameWords (wordsAt ws at (2 * W * depths)) (join depths 0 (backRows W (tableIn ms 1) (tableIn ms 2)))
+  two-masks =
+      ap (sameWords (wordsAt ws at (2 * W * depths))) (join-same depths 0 (depthMasks W 1 2 ms) (backRows W (tableIn ms 1) (tableIn ms 2)) (λ k l. two k (omega arith)))
+    where
+      two : (k : ℕ) → k < 9 → depthMasks W 1 2 ms k ≡ twoRows W (getD (tableIn ms 1) k []) (getD (tableIn ms 2) k [])
+      two k h =
+          λ i. row-is k 1 h (3 * k + 1 + 0) (omega arith) i ++ (append-nil (take W (rowIn ms (3 * k + 1 + 1))) ∙ row-is k 2 h (3 * k + 1 + 1) (omega arith)) i

@@ -1,0 +1,49 @@
+-- WHAT THE COMPARISON COMPUTES: any words, with what is laid out for a tape, section by section.
+use mathlib.Core.Bool.{Bool, _&&_}
+use mathlib.Core.List.{List, []}
+use Prim.Native.Nat.{ℕ, suc, _+_, _*_}
+use lib.ListN.{getD, take}
+use Rattle.model.specs.Image.{join}
+use Rattle.model.specs.Models.Apart.{backAt, gatherAt, propagateAt, scatterAt}
+use Rattle.model.specs.Models.LayOut.{back-source, back-target, gather-block, gather-source, gather-target, letter-place, loop-place, scatter-block, scatter-source, scatter-target}
+use Rattle.model.specs.Models.Verdict.{sameWords}
+use Rattle.model.specs.Models.Words.{andWords}
+use Rattle.tokens_masks.specs.Masks.{rowIn}
+use Rattle.tokens_masks.specs.Tables.{Table}
+use Rattle.tokens_masks.specs.Tapes.{propagateBlockTable, propagateSourceTable, propagateTargetTable, tableOf}
+use Rattle.tokens_masks.specs.declared.Tape.{Tape}
+use Rattle.image.specs.Work.{threeRows, twoRows}
+use Rattle.image_apart.specs.Work.{wordsAt}
+
+abbrev pub sameRepeats : List ℕ → ℕ → List ℕ → Bool
+sameRepeats ws W loops = sameWords (wordsAt ws (6 + 256 * W) (256 * W)) (join 256 0 (λ b. andWords (wordsAt ws (5 + W * b) W) loops))
+
+-- of the masks of one depth k, three to a depth, `count` from the one of number `first` on; and those of all depths, from a place on
+abbrev pub depthMasks : (W first count : ℕ) (masks : List ℕ) → ℕ → List ℕ
+depthMasks W first count masks k = join count 0 (λ i. take W (rowIn masks (3 * k + first + i)))
+
+abbrev pub sameMasks : List ℕ → (at W depths first count : ℕ) → List ℕ → Bool
+sameMasks ws at W depths first count masks = sameWords (wordsAt ws at (count * W * depths)) (join depths 0 (depthMasks W first count masks))
+
+abbrev pub sameTables : List ℕ → (at W depths : ℕ) → Table → Table → Table → Bool
+sameTables ws at W depths block source target =
+    sameWords (wordsAt ws at (3 * W * depths)) (join depths 0 (λ k. threeRows W (getD block k []) (getD source k []) (getD target k [])))
+
+abbrev pub sameScatter : List ℕ → (at W d : ℕ) → Tape → Bool
+sameScatter ws at W d t = sameTables ws at W d (tableOf t scatter-block) (tableOf t scatter-source) (tableOf t scatter-target)
+
+abbrev pub sameGather : List ℕ → (at W d : ℕ) → Tape → Bool
+sameGather ws at W d t = sameTables ws at W d (tableOf t gather-block) (tableOf t gather-source) (tableOf t gather-target)
+
+abbrev pub samePropagate : List ℕ → (at W d : ℕ) → Tape → Bool
+samePropagate ws at W d t = sameTables ws at W (suc d) (propagateBlockTable t) (propagateSourceTable t) (propagateTargetTable t)
+
+abbrev pub sameBack : List ℕ → (at W d : ℕ) → Tape → Bool
+sameBack ws at W d t =
+    sameWords (wordsAt ws at (2 * W * d)) (join d 0 (λ k. twoRows W (getD (tableOf t back-source) k []) (getD (tableOf t back-target) k [])))
+
+abbrev pub sameAll : List ℕ → (W d : ℕ) → List ℕ → Tape → Bool
+sameAll ws W d letters t =
+    sameWords letters (getD (tableOf t letter-place) 0 [])
+    && (sameRepeats ws W (getD (tableOf t loop-place) 0 [])
+    && (sameScatter ws (scatterAt W) W d t && (sameGather ws (gatherAt W d) W d t && (samePropagate ws (propagateAt W d) W d t && sameBack ws (backAt W d) W d t))))

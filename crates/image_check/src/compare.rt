@@ -1,0 +1,108 @@
+// "The first word that differs ends the comparison, whichever section it lies in."
+use mask::bits::same_rows;
+use tokens_masks::Tape;
+use tokens_masks::row_of;
+ghost use mathlib.Core.Path.{_≡_};
+ghost use mathlib.Core.Bool.{not};
+ghost use Prim.Native.Nat.{_+_, _*_, _≤_};
+ghost use lib.ListN.{length as lengthOf};
+ghost use Rattle.tokens_masks.specs.Says.{Laid};
+ghost use Rattle.image_check.specs.Work.{sameAll, sameMasks, sameRepeats};
+
+// Each mask of the repeats is the byte's mask of the letters at the loops' places.
+fn repeats_differ(words: &[u64], width: usize, loops: [u64; 8]) -> bool
+    requires { ⌜ (width ≤ 8) × (6 + 512 * width ≤ lengthOf (now words)) ⌝ }
+    ensures { λ r. ⌜ r ≡ not (sameRepeats (now (words .entry)) width loops) ⌝ }
+{
+    let mut differ = false;
+    let mut b: usize = 0;
+    'search: while b < 256 {
+        let mut j: usize = 0;
+        while j < width {
+            if words[6 + 256 * width + width * b + j] != words[5 + width * b + j] & loops[j] {
+                differ = true;
+                break 'search;
+            }
+            j += 1;
+        }
+        b += 1;
+    }
+    differ
+}
+
+// Masks for each of the first depths, from a place on, with those laid out, of which there are three to a depth: `count` of them, from `first` on. By
+// depths, masks and words.
+fn masks_differ(
+    words: &[u64],
+    at: usize,
+    width: usize,
+    depths: usize,
+    first: usize,
+    count: usize,
+    masks: &[u64],
+) -> bool
+    requires { ⌜ (width ≤ 8) × (depths ≤ 9) × (first + count ≤ 3) × (at + count * width * depths ≤ lengthOf (now words)) × (lengthOf (now masks) ≡ 216) ⌝ }
+    ensures { λ r. ⌜ r ≡ not (sameMasks (now (words .entry)) at width depths first count (now (masks .entry))) ⌝ }
+{
+    let mut differ = false;
+    let mut k: usize = 0;
+    'search: while k < depths {
+        let mut which: usize = 0;
+        while which < count {
+            let mut j: usize = 0;
+            while j < width {
+                if words[at + (count * k + which) * width + j]
+                    != masks[8 * (3 * k + first + which) + j]
+                {
+                    differ = true;
+                    break 'search;
+                }
+                j += 1;
+            }
+            which += 1;
+        }
+        k += 1;
+    }
+    differ
+}
+
+// Whether the words are what is laid out for the tape: `letters` are the states that some letter's mask has.
+pub fn agrees(
+    words: &[u64],
+    width: usize,
+    depth: usize,
+    letters: [u64; 8],
+    tape: Tape,
+    places: &[u64; 16],
+    scatters: &[u64; 216],
+    gathers: &[u64; 216],
+    propagates: &[u64; 216],
+    backs: &[u64; 216],
+) -> bool
+    requires shape { ⌜ (width ≤ 8) × (depth ≤ 8) × (lengthOf (now words) ≡ 10 + width * (515 + 11 * depth)) ⌝ }
+    requires laid { ⌜ Laid tape (now places) (now scatters) (now gathers) (now propagates) (now backs) ⌝ }
+    ensures { λ r. ⌜ r ≡ sameAll (now (words .entry)) width depth letters tape ⌝ }
+{
+    let scatter = 7 + 512 * width;
+    let gather = scatter + 1 + 3 * width * depth;
+    let propagate = gather + 1 + 3 * width * depth;
+    let back = propagate + 1 + 3 * width * (depth + 1);
+    let letter_places = row_of(places, 0);
+    if !same_rows(letters, letter_places) {
+        return false;
+    }
+    let loop_places = row_of(places, 1);
+    if repeats_differ(words, width, loop_places) {
+        return false;
+    }
+    if masks_differ(words, scatter, width, depth, 0, 3, scatters) {
+        return false;
+    }
+    if masks_differ(words, gather, width, depth, 0, 3, gathers) {
+        return false;
+    }
+    if masks_differ(words, propagate, width, depth + 1, 0, 3, propagates) {
+        return false;
+    }
+    !masks_differ(words, back, width, depth, 1, 2, backs)
+}

@@ -1,0 +1,28 @@
+-- The word `refused `, and the number after it: at most twenty digits.
+use native.Mathlib.Omega.{arith}
+use borrow.Author.Needs.{needs}
+use Rattle.program_lines.proofs.Laws.Numbers.{number-short}
+use Rattle.program_lines.proofs.Laws.Puts.{put-then}
+use Rattle.program_lines.proofs.refuse.Statement.{statement}
+use Rattle.program_lines.proofs.refuse.Tie as tie
+
+slice-aggregate-put : tie.Need-slice-aggregate-put
+slice-aggregate-put c = search needs
+
+put-requires : tie.Need-put-requires
+put-requires c κs = search needs
+
+put-number-requires : tie.Need-put-number-requires
+put-number-requires c κs = search needs
+
+same-length : tie.Need-same-length
+same-length c = search needs
+
+returns : tie.Need-returns
+returns c =
+    let s = c .before .before .before .before .before .before .before .before .before .before in
+    put-then (c .before .before .before .before .before .before .put .ensures) (c .before .before .put-number .ensures)
+    (omega (arith, number-short 19 (s .args .number) (omega (arith, s .good))))
+
+pub refuse-spec : {M : Type 1} → statement M
+refuse-spec = tie.close (tie.spec slice-aggregate-put put-requires put-number-requires same-length returns)

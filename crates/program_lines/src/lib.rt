@@ -1,0 +1,73 @@
+// Lines of bytes and numbers in a lent text, as far as there is room. No place is refused: where one after another would pass 64 bits, nothing is promised.
+use std::num::wrapping_add_usize;
+ghost use mathlib.Core.Path.{_≡_};
+ghost use Prim.Native.Nat.{min};
+ghost use lib.ListN.{take};
+ghost use Rattle.program_lines.specs.Lines.{decimal, endLines, line, refusedText, totalText};
+ghost use Rattle.program_lines.specs.Work.{PutAt, Puts};
+
+// Bytes one after another from a place on, and the place after them.
+pub fn put(text: &mut [u8], at: usize, bytes: &[u8]) -> usize
+    ensures { λ r. ⌜ Puts (now (bytes .entry)) (now (text .entry)) at r (now (text .exit)) ⌝ }
+{
+    let mut i: usize = 0;
+    while i < bytes.len() {
+        let place = wrapping_add_usize(at, i);
+        if place < text.len() {
+            text[place] = bytes[i];
+        }
+        i += 1;
+    }
+    wrapping_add_usize(at, bytes.len())
+}
+
+pub fn put_line(text: &mut [u8], at: usize, bytes: &[u8]) -> usize
+    ensures { λ r. ⌜ Puts (line (now (bytes .entry))) (now (text .entry)) at r (now (text .exit)) ⌝ }
+{
+    let after = put(text, at, bytes);
+    put(text, after, b"\n")
+}
+
+pub fn put_number(text: &mut [u8], at: usize, number: u64) -> usize
+    ensures { λ r. ⌜ Puts (line (decimal number)) (now (text .entry)) at r (now (text .exit)) ⌝ }
+{
+    let mut digits = [0u8; 20];
+    let length = io::decimal(number, &mut digits);
+    put_line(text, at, &digits[..length])
+}
+
+// "total T"
+pub fn put_total(text: &mut [u8], at: usize, total: u64) -> usize
+    ensures { λ r. ⌜ Puts (totalText total) (now (text .entry)) at r (now (text .exit)) ⌝ }
+{
+    let after = put(text, at, b"total ");
+    put_number(text, after, total)
+}
+
+// "refused N"
+pub fn refuse(text: &mut [u8], number: u64) -> usize
+    ensures { λ r. ⌜ PutAt (refusedText number) (now (text .entry)) 0 r (now (text .exit)) ⌝ }
+{
+    let after = put(text, 0, b"refused ");
+    put_number(text, after, number)
+}
+
+fn least(a: usize, b: usize) -> usize
+    ensures { λ r. ⌜ r ≡ min a b ⌝ }
+{
+    if a < b { a } else { b }
+}
+
+// A line for each of the first ends, as many as are counted and were lent.
+pub fn put_ends(text: &mut [u8], at: usize, ends: &[u32], count: usize) -> usize
+    ensures { λ r. ⌜ Puts (endLines (take count (now (ends .entry)))) (now (text .entry)) at r (now (text .exit)) ⌝ }
+{
+    let shown = least(count, ends.len());
+    let mut next = at;
+    let mut i = 0;
+    while i < shown {
+        next = put_number(text, next, ends[i] as u64);
+        i += 1;
+    }
+    next
+}

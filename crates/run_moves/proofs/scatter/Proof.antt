@@ -1,0 +1,23 @@
+-- `scatter` is what its steps give, put together.
+use borrow.Author.Needs.{needs}
+use Rattle.run_moves.proofs.scatter.Statement.{statement}
+use Rattle.run_moves.proofs.scatter.Tie as tie
+
+and-requires : tie.Need-and-requires
+and-requires c κs = search needs
+
+subtract-requires : tie.Need-subtract-requires
+subtract-requires c κs = search needs
+
+and-requires-2 : tie.Need-and-requires-2
+and-requires-2 c κs = search needs
+
+or-requires : tie.Need-or-requires
+or-requires c κs = search needs
+
+returns : tie.Need-returns
+returns c = cc
+
+pub scatter-spec : {M : Type 1} → statement M
+scatter-spec =
+    tie.close (tie.spec and-requires subtract-requires and-requires-2 or-requires returns)

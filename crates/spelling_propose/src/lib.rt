@@ -1,0 +1,82 @@
+// The proposer of spellings (document 02, Wish 9): for an end of a text the latest start, and the states that its bytes enter.
+// Going back from the end place, the set of states from which the bytes lead to the accepting state is computed place by place; the first place at which
+// state 0 is among them is the latest start. Going forward from there, each byte enters a state of the next place's set. The sets of every 256th
+// place are kept, and those of one stretch of 256 computed anew: every byte is gone back over twice, however long the text is.
+
+mod earlier;
+mod origins;
+mod search;
+mod sets;
+mod write;
+
+use crate::origins::find_origins;
+use crate::search::Found;
+use crate::search::find_start;
+use crate::write::write;
+use image_check::Verdict;
+use image_check::check;
+use run_edges::work;
+use run_word::shape::states as states_of;
+ghost use Prim.Native.Nat.{_≤_};
+ghost use lib.ListN.{length};
+ghost use Rattle.model.specs.Spelling.{ProposeSays};
+ghost use Rattle.spelling.specs.Work.{IsImage};
+ghost use Rattle.spelling_propose.specs.Answers.{proposedAnswer};
+
+// What the proposer answers: the refusals 6, 7, 16 and 17, or done, with the start and the number of states.
+pub enum Proposed {
+    NotAnImage,
+    TextTooLong,
+    NoEnd,
+    NoRoom,
+    Done(usize, usize),
+}
+
+// Propose: from an image, a text and an end to the latest start, and the states of a spelling in lent words. The image is checked in this same call.
+pub fn propose_spelling(image: &[u64], text: &[u8], end: usize, states: &mut [u32]) -> Proposed
+    ensures { λ r. ⌜ ProposeSays (now (image .entry)) (now (text .entry)) end (now (states .entry)) (proposedAnswer r (now (states .exit))) ⌝ }
+{
+    let checked = check(image);
+    let verdict = checked.verdict;
+    let Verdict::Image(_) = verdict else {
+        return Proposed::NotAnImage;
+    };
+    if text.len() > 65535 {
+        return Proposed::TextTooLong;
+    }
+    if end > text.len() {
+        return Proposed::NoEnd;
+    }
+    propose(image, text, end, states)
+}
+
+// The search for the start, and then the states: for a place in the text.
+fn propose(image: &[u64], text: &[u8], end: usize, states: &mut [u32]) -> Proposed
+    requires { ⌜ IsImage (now image) × (end ≤ length (now text)) × (length (now text) ≤ 65535) ⌝ }
+    ensures { λ r. ⌜ ProposeSays (now (image .entry)) (now (text .entry)) end (now (states .entry)) (proposedAnswer r (now (states .exit))) ⌝ }
+{
+    let masks = work(image);
+    let last = states_of(image) - 1;
+    let origins = find_origins(image, &masks, last + 1);
+    let none = [0u64; 8];
+    let mut kept = [none; 256];
+    let found = find_start(image, text, end, last, &origins, &mut kept);
+    let Found::At(start) = found else {
+        return Proposed::NoEnd;
+    };
+    if states.len() < end - start {
+        return Proposed::NoRoom;
+    }
+    write(
+        image,
+        &masks,
+        text,
+        start,
+        end,
+        last,
+        &origins,
+        &kept,
+        states,
+    );
+    Proposed::Done(start, end - start)
+}

@@ -1,0 +1,179 @@
+-- PROPAGATE'S MASKS JOINED WORD BY WORD: the words before word n of the nine depths' masks are joined, those from n on are as they were.
+use mathlib.Core.Path.{_≡_, refl, sym, ap, ap₂, _∙_}
+use mathlib.Core.List.{List, []}
+use Prim.Native.Nat.{ℕ, _+_, _*_, _/_, _%_, _≤_, _<_}
+use native.Mathlib.Nat.{not-suc-le-zero}
+use native.Mathlib.Omega.{arith}
+use borrow.Author.Count.{below-more}
+use lib.ListN.{getD, length, length-set, set}
+use lib.Seq.{ext-getD, getD-set-other, getD-set-same}
+use Rattle.model.specs.Models.Words.{eachWord}
+use Rattle.model.proofs.Words.Operations.{each-at, each-length}
+use Rattle.tokens_masks.specs.Joins.{Either, Join, joinTables, joinWord, Only}
+use Rattle.tokens_masks.specs.Masks.{Joined, rowIn, tableIn}
+use Rattle.tokens_masks.proofs.InWords.{row-long, row-word, table-long, table-row}
+use Rattle.tokens_masks.proofs.Joins.{joined-at, length-joined}
+
+-- where word n of the blocks stands; the sources are 8 words after it, the targets 16
+abbrev pub at : ℕ → ℕ
+at n = 24 * (n / 8) + n % 8
+
+-- word n of the three masks is joined; it is as it was
+pub record Now (r ms : List ℕ) (n : ℕ) : Type 0 where
+  pub block : getD ms (at n) 0 ≡ joinWord Either (getD r (at n + 8) 0) (getD r (at n + 16) 0)
+  pub source : getD ms (at n + 8) 0 ≡ joinWord Only (getD r (at n + 8) 0) (getD r (at n + 16) 0)
+  pub target : getD ms (at n + 16) 0 ≡ joinWord Only (getD r (at n + 16) 0) (getD r (at n + 8) 0)
+
+pub record Still (r ms : List ℕ) (n : ℕ) : Type 0 where
+  pub source : getD ms (at n + 8) 0 ≡ getD r (at n + 8) 0
+  pub target : getD ms (at n + 16) 0 ≡ getD r (at n + 16) 0
+
+pub record Joining (r : List ℕ) (n : ℕ) (ms : List ℕ) : Type 0 where
+  pub long : length ms ≡ 216
+  pub done : (m : ℕ) → m < n → Now r ms m
+  pub todo : (m : ℕ) → n ≤ m → m < 72 → Still r ms m
+
+pub joining-begin : (r : List ℕ) → length r ≡ 216 → Joining r 0 r
+joining-begin r l = record { long = l; done = λ m h. absurd (not-suc-le-zero h); todo = λ m h k. record { source = refl; target = refl } }
+
+-- ---- three words stored
+module _ (ms : List ℕ) (a u v w : ℕ) (fits : a + 16 < length ms) where
+  abbrev one : List ℕ
+  one = set ms a u
+
+  abbrev two : List ℕ
+  two = set one (a + 8) v
+
+  abbrev after : List ℕ
+  after = set two (a + 16) w
+
+  two-long : length two ≡ length ms
+  two-long = length-set one (a + 8) v ∙ length-set ms a u
+
+  stored-long : length after ≡ length ms
+  stored-long = length-set two (a + 16) w ∙ two-long
+
+  stored-block : getD after a 0 ≡ u
+  stored-block =
+      getD-set-other two (a + 16) a w 0 (λ q. omega arith) ∙ getD-set-other one (a + 8) a v 0 (λ q. omega arith) ∙ getD-set-same ms a u 0 (omega arith)
+
+  stored-source : getD after (a + 8) 0 ≡ v
+  stored-source = getD-set-other two (a + 16) (a + 8) w 0 (λ q. omega arith) ∙ getD-set-same one (a + 8) v 0 (omega (arith, length-set ms a u))
+
+  stored-target : getD after (a + 16) 0 ≡ w
+  stored-target = getD-set-same two (a + 16) w 0 (omega (arith, two-long))
+
+  stored-other : (j : ℕ) → (j ≡ a → ⊥) → (j ≡ a + 8 → ⊥) → (j ≡ a + 16 → ⊥) → getD after j 0 ≡ getD ms j 0
+  stored-other j d e f = getD-set-other two (a + 16) j w 0 f ∙ getD-set-other one (a + 8) j v 0 e ∙ getD-set-other ms a j u 0 d
+
+-- ---- the step
+module _ {r : List ℕ} {n : ℕ} {ms : List ℕ} (J : Joining r n ms) (h : n < 72) where
+  abbrev l : ℕ
+  l = getD ms (at n + 8) 0
+
+  abbrev e : ℕ
+  e = getD ms (at n + 16) 0
+
+  fits : at n + 16 < length ms
+  fits = omega (arith, J .long)
+
+  abbrev next : List ℕ
+  next = set (set (set ms (at n) (joinWord Either l e)) (at n + 8) (joinWord Only l e)) (at n + 16) (joinWord Only e l)
+
+  same : (j : ℕ) → (j ≡ at n → ⊥) → (j ≡ at n + 8 → ⊥) → (j ≡ at n + 16 → ⊥) → getD next j 0 ≡ getD ms j 0
+  same = stored-other ms (at n) (joinWord Either l e) (joinWord Only l e) (joinWord Only e l) fits
+
+  -- words of another place are elsewhere
+  apart : (m i j : ℕ) → i < 3 → j < 3 → (m ≡ n → ⊥) → at m + 8 * i ≡ at n + 8 * j → ⊥
+  apart m i j hi hj d q = d (omega arith)
+
+  kept : (m i : ℕ) → i < 3 → (m ≡ n → ⊥) → getD next (at m + 8 * i) 0 ≡ getD ms (at m + 8 * i) 0
+  kept m i hi d =
+      same (at m + 8 * i) (λ q. apart m i 0 hi (omega arith) d (omega arith)) (λ q. apart m i 1 hi (omega arith) d (omega arith))
+      (λ q. apart m i 2 hi (omega arith) d (omega arith))
+
+  kept-block : (m : ℕ) → (m ≡ n → ⊥) → getD next (at m) 0 ≡ getD ms (at m) 0
+  kept-block m d = let z : at m ≡ at m + 8 * 0 = omega arith in ap (λ (j : ℕ). getD next j 0) z ∙ kept m 0 (omega arith) d ∙ ap (λ (j : ℕ). getD ms j 0) (sym z)
+
+  pub joining-step : Joining r (n + 1) next
+  joining-step = record {
+    long = stored-long ms (at n) (joinWord Either l e) (joinWord Only l e) (joinWord Only e l) fits ∙ J .long;
+    done =
+        below-more (Now r next) n
+        (λ m k. let N = J .done m k in
+        let d : m ≡ n → ⊥ = λ q. omega arith in
+        record { block = kept-block m d ∙ N .block; source = kept m 1 (omega arith) d ∙ N .source; target = kept m 2 (omega arith) d ∙ N .target })
+        (let S = J .todo n (omega arith) h in
+        record {
+          block =
+              stored-block ms (at n) (joinWord Either l e) (joinWord Only l e) (joinWord Only e l) fits ∙ ap₂ (joinWord Either) (S .source) (S .target);
+          source = stored-source ms (at n) (joinWord Either l e) (joinWord Only l e) (joinWord Only e l) fits ∙ ap₂ (joinWord Only) (S .source) (S .target);
+          target = stored-target ms (at n) (joinWord Either l e) (joinWord Only l e) (joinWord Only e l) fits ∙ ap₂ (joinWord Only) (S .target) (S .source);
+        });
+    todo = λ m k z. let S = J .todo m (omega arith) z in
+        let d : m ≡ n → ⊥ = λ q. omega arith in
+        record { source = kept m 1 (omega arith) d ∙ S .source; target = kept m 2 (omega arith) d ∙ S .target };
+  }
+
+-- ---- the tables
+module _ (r ms : List ℕ) (lr : length r ≡ 216) (lm : length ms ≡ 216) (J : Join) (i u v : ℕ) (hi : i < 3) (hu : u < 3) (hv : v < 3)
+    (words : (m : ℕ) → m < 72 → getD ms (at m + 8 * i) 0 ≡ joinWord J (getD r (at m + 8 * u) 0) (getD r (at m + 8 * v) 0)) where
+  word : (k j : ℕ) → k < 9 → j < 8 → getD ms (8 * (3 * k + i) + j) 0 ≡ joinWord J (getD r (8 * (3 * k + u) + j) 0) (getD r (8 * (3 * k + v) + j) 0)
+  word k j hk hj =
+      ap (λ (x : ℕ). getD ms x 0) (here i)
+      ∙ words (8 * k + j) (omega arith)
+      ∙ ap₂ (λ (x y : ℕ). joinWord J (getD r x 0) (getD r y 0)) (sym (here u)) (sym (here v))
+    where
+      here : (x : ℕ) → 8 * (3 * k + x) + j ≡ at (8 * k + j) + 8 * x
+      here x = omega arith
+
+  row : (k : ℕ) → k < 9 → rowIn ms (3 * k + i) ≡ eachWord (joinWord J) (rowIn r (3 * k + u)) (rowIn r (3 * k + v))
+  row k hk =
+      ext-getD 0 (rowIn ms (3 * k + i)) (eachWord (joinWord J) a b) (long-m ∙ sym (each-length (joinWord J) a b (long-a ∙ sym long-b) ∙ long-a))
+      (λ j h. go j (omega (arith, long-m)))
+    where
+      a : List ℕ
+      a = rowIn r (3 * k + u)
+
+      b : List ℕ
+      b = rowIn r (3 * k + v)
+
+      long-m : length (rowIn ms (3 * k + i)) ≡ 8
+      long-m = row-long ms (3 * k + i) (omega arith)
+
+      long-a : length a ≡ 8
+      long-a = row-long r (3 * k + u) (omega arith)
+
+      long-b : length b ≡ 8
+      long-b = row-long r (3 * k + v) (omega arith)
+
+      go : (j : ℕ) → j < 8 → getD (rowIn ms (3 * k + i)) j 0 ≡ getD (eachWord (joinWord J) a b) j 0
+      go j h =
+          row-word ms (3 * k + i) j h
+          ∙ word k j hk h
+          ∙ ap₂ (joinWord J) (sym (row-word r (3 * k + u) j h)) (sym (row-word r (3 * k + v) j h))
+          ∙ each-at (joinWord J) a b j (long-a ∙ sym long-b) (omega (arith, long-a))
+
+  joined-table : tableIn ms i ≡ joinTables J (tableIn r u) (tableIn r v)
+  joined-table =
+      ext-getD [] (tableIn ms i) (joinTables J (tableIn r u) (tableIn r v))
+      (table-long ms i ∙ sym (length-joined J (tableIn r u) (tableIn r v) same ∙ table-long r u)) (λ k h. go k (omega (arith, table-long ms i)))
+    where
+      same : length (tableIn r u) ≡ length (tableIn r v)
+      same = table-long r u ∙ sym (table-long r v)
+
+      go : (k : ℕ) → k < 9 → getD (tableIn ms i) k [] ≡ getD (joinTables J (tableIn r u) (tableIn r v)) k []
+      go k h =
+          table-row ms i k h
+          ∙ row k h
+          ∙ ap₂ (eachWord (joinWord J)) (sym (table-row r u k h)) (sym (table-row r v k h))
+          ∙ joined-at J (tableIn r u) (tableIn r v) k same (omega (arith, table-long r u))
+
+pub joining-end : {r : List ℕ} {n : ℕ} {ms : List ℕ} → length r ≡ 216 → Joining r n ms → 72 ≤ n → Joined r ms
+joining-end {r} {n} {ms} l J h = record {
+  block =
+      joined-table r ms l (J .long) Either 0 1 2 (omega arith) (omega arith) (omega arith)
+      (λ m k. ap (λ (x : ℕ). getD ms x 0) (let z : at m + 8 * 0 ≡ at m = omega arith in z) ∙ J .done m (omega arith) .block);
+  source = joined-table r ms l (J .long) Only 1 1 2 (omega arith) (omega arith) (omega arith) (λ m k. J .done m (omega arith) .source);
+  target = joined-table r ms l (J .long) Only 2 2 1 (omega arith) (omega arith) (omega arith) (λ m k. J .done m (omega arith) .target);
+}

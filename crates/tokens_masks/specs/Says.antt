@@ -1,0 +1,86 @@
+-- WHAT THE PUBLIC FUNCTIONS SAY OF THE TAPE OF A RULE'S TREE, in the terms of document 01.
+use mathlib.Core.Path.{_≡_}
+use mathlib.Core.Bool.{Bool, _&&_}
+use mathlib.Core.List.{List, []}
+use Prim.Native.Nat.{ℕ, suc, _≤_, _<_}
+use lib.ListN.{getD, replicate}
+use Rattle.model.specs.Bits.{bit, mask}
+use Rattle.model.specs.Edges.{depth, states}
+use Rattle.model.specs.Grammar.{IsRule}
+use Rattle.model.specs.Image.{backSource, backTarget, gatherBlock, gatherSource, gatherTarget, letters, propagateBlock, propagateSource, propagateTarget, repeats, scatterBlock, scatterSource, scatterTarget, words}
+use Rattle.model.specs.Models.Apart.{anyBelow}
+use Rattle.model.specs.Models.LayOut.{back-source, back-target, gather-block, gather-source, gather-target, letter-place, loop-place, scatter-block, scatter-source, scatter-target}
+use Rattle.model.specs.Models.Words.{value}
+use Rattle.model.specs.Tree as tree
+use Rattle.tokens_masks.specs.Masks.{rowIn, tableIn}
+use Rattle.tokens_masks.specs.Tables.{Table}
+use Rattle.tokens_masks.specs.Tapes.{propagateBlockTable, propagateSourceTable, propagateTargetTable, tableOf, TapeOf}
+use Rattle.tokens_masks.specs.declared.Shape.{Shape}
+use Rattle.tokens_masks.specs.declared.Shape.the-variants.{Tree}
+use Rattle.tokens_masks.specs.declared.Tape.{Tape}
+
+-- the tree of a rule, "within 512 states and depth 8", and its tape
+pub record TreeOnTape (s : tree.Tree) (t : Tape) : Type 0 where
+  pub rule : List ℕ
+  pub is-rule : IsRule rule s
+  pub few : states s ≤ 512
+  pub shallow : depth s ≤ 8
+  pub tape : TapeOf s t
+
+-- a tape is told to be a tree's exactly if it is one, with the tree's depth
+pub record ShapeSays (t : Tape) (shape : Shape) : Type 0 where
+  pub of-tree : (s : tree.Tree) → TreeOnTape s t → shape ≡ Tree (depth s)
+  pub some-tree : (d : ℕ) → shape ≡ Tree d → (s : tree.Tree) × TreeOnTape s t
+
+-- the first rows are, in eight words, the masks of sets of the tree's states, one for each depth; the rows past them are 0
+pub record RowsAre (s : tree.Tree) (table : Table) (rows : ℕ) (sets : ℕ → ℕ → Bool) : Type 0 where
+  pub row : (k : ℕ) → k < rows → getD table k [] ≡ words 8 (mask (states s) (sets k))
+  pub past : (k : ℕ) → rows ≤ k → k < 9 → getD table k [] ≡ replicate 8 0
+
+-- "For each union depth 0 to d-1": scatter and gather, and back edges "for k from 0 to d-1"
+abbrev pub UnionsSay : (tree.Tree → ℕ → ℕ → Bool) → Tape → Table → Type 0
+UnionsSay sets t table = (s : tree.Tree) → TreeOnTape s t → RowsAre s table (depth s) (sets s)
+
+-- "For each depth 0 to d": propagate
+abbrev pub PropagateSays : (tree.Tree → ℕ → ℕ → Bool) → Tape → Table → Type 0
+PropagateSays sets t table = (s : tree.Tree) → TreeOnTape s t → RowsAre s table (suc (depth s)) (sets s)
+
+-- the states that a letter leads to, with any byte
+abbrev pub LettersSay : Tape → List ℕ → Type 0
+LettersSay t row = (s : tree.Tree) → TreeOnTape s t → row ≡ words 8 (mask (states s) (λ x. anyBelow 256 (λ b. letters s b x)))
+
+-- "repeats: likewise, the bit of each loop": of the states that a byte's letters lead to, those with a loop
+abbrev pub LoopsSay : Tape → List ℕ → Type 0
+LoopsSay t row = (s : tree.Tree) → TreeOnTape s t → (b x : ℕ) → x < states s → (letters s b x && bit (value row) x) ≡ repeats s b x
+
+-- LAY OUT SAYS, of the words of letter and loop places, of scatter's, gather's, propagate's and the back edges' masks: what it computes
+pub record Laid (t : Tape) (p s g r b : List ℕ) : Type 0 where
+  pub letter-places : rowIn p 0 ≡ getD (tableOf t letter-place) 0 []
+  pub loop-places : rowIn p 1 ≡ getD (tableOf t loop-place) 0 []
+  pub scatter-blocks : tableIn s 0 ≡ tableOf t scatter-block
+  pub scatter-sources : tableIn s 1 ≡ tableOf t scatter-source
+  pub scatter-targets : tableIn s 2 ≡ tableOf t scatter-target
+  pub gather-blocks : tableIn g 0 ≡ tableOf t gather-block
+  pub gather-sources : tableIn g 1 ≡ tableOf t gather-source
+  pub gather-targets : tableIn g 2 ≡ tableOf t gather-target
+  pub propagate-blocks : tableIn r 0 ≡ propagateBlockTable t
+  pub propagate-sources : tableIn r 1 ≡ propagateSourceTable t
+  pub propagate-targets : tableIn r 2 ≡ propagateTargetTable t
+  pub back-sources : tableIn b 1 ≡ tableOf t back-source
+  pub back-targets : tableIn b 2 ≡ tableOf t back-target
+
+-- and, of the tape of a rule's tree, that it is what documents 01 and 02 put there
+pub record MasksSay (t : Tape) (p s g r b : List ℕ) : Type 0 where
+  pub letter-places : LettersSay t (rowIn p 0)
+  pub loop-places : LoopsSay t (rowIn p 1)
+  pub scatter-blocks : UnionsSay scatterBlock t (tableIn s 0)
+  pub scatter-sources : UnionsSay scatterSource t (tableIn s 1)
+  pub scatter-targets : UnionsSay scatterTarget t (tableIn s 2)
+  pub gather-blocks : UnionsSay gatherBlock t (tableIn g 0)
+  pub gather-sources : UnionsSay gatherSource t (tableIn g 1)
+  pub gather-targets : UnionsSay gatherTarget t (tableIn g 2)
+  pub propagate-blocks : PropagateSays propagateBlock t (tableIn r 0)
+  pub propagate-sources : PropagateSays propagateSource t (tableIn r 1)
+  pub propagate-targets : PropagateSays propagateTarget t (tableIn r 2)
+  pub back-sources : UnionsSay backSource t (tableIn b 1)
+  pub back-targets : UnionsSay backTarget t (tableIn b 2)

@@ -1,0 +1,30 @@
+-- TABLES: the masks of one kind, nine rows of eight words, and the tokens painted into them one after another.
+use mathlib.Core.List.{List, [], _∷_}
+use Prim.Native.Nat.{ℕ, zero, suc, _-_}
+use lib.ListN.{getD, replicate, set}
+use Rattle.model.specs.Models.LayOut.{Scan, step, Which}
+use Rattle.model.specs.Models.Tokens.{Token}
+use Rattle.model.specs.Models.Words.{putBit}
+use Rattle.tokens_masks.specs.Strokes.{Stroke, strokeOf}
+
+abbrev pub Table : Type 0
+Table = List (List ℕ)
+
+abbrev pub blank : Table
+blank = replicate 9 (replicate 8 0)
+
+-- state x in row k; the n states from x on
+abbrev pub markState : Table → ℕ → ℕ → Table
+markState a k x = set a k (putBit (getD a k []) x)
+
+abbrev pub markRun : ℕ → Table → ℕ → ℕ → Table
+markRun zero a k x = a
+markRun (suc n) a k x = markRun n (markState a k x) k (suc x)
+
+abbrev pub paintStroke : Table → Stroke → Table
+paintStroke a s = markRun (s .to - s .from) a (s .row) (s .from)
+
+-- ALL TOKENS, from the scan q on, painted into the table of the masks of kind w
+abbrev pub paintAll : List Token → Scan → Which → Table → Table
+paintAll [] q w a = a
+paintAll (y ∷ ys) q w a = paintAll ys (step y q) w (paintStroke a (strokeOf y q w))

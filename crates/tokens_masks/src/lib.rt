@@ -1,0 +1,162 @@
+// A tree as its tape, and lay out: from the tape to the masks of scatter, gather, propagate and back edges for each depth.
+//
+// A tree with m states is a row of m - 1 tokens, one between each two neighbouring states. One scan over them, from left to right, knows all that
+// the masks need: the crate `tokens` has the tokens and what is known before each, `stroke` the places that one token marks, `masks` the masks.
+
+mod masks;
+mod stroke;
+
+use crate::masks::blank_all;
+use crate::masks::join_propagate;
+use crate::stroke::mark_token;
+use tokens::begin_scan;
+use tokens::fits;
+use tokens::innermost;
+use tokens::is_ended;
+use tokens::no_frame;
+use tokens::step_over;
+use tokens::token::Token;
+use tokens::token::read_kind;
+ghost use mathlib.Core.Path.{_≡_};
+ghost use Prim.Native.Nat.{_<_, max};
+ghost use Rattle.tokens_masks.specs.Masks.{Blank, RowSays, Sized};
+ghost use Rattle.tokens_masks.specs.Says.{Laid, MasksSay, ShapeSays};
+ghost use Rattle.tokens_masks.specs.Tapes.{deeperBy, Kinds, ScanLays, shapeOf};
+ghost use Rattle.tokens.specs.Tokens.{tokenOf};
+
+// The first `length` of the kinds are a tree's tokens: 0 to 3 a letter, taken once, `?`, `*` or `+`; 4 an open, 5 a bar,
+// 6 a close, 7 one with an edge over its union, 8 one of a group with `*`.
+pub struct Tape {
+    pub kinds: [u8; 512],
+    pub length: usize,
+}
+
+// What a tape is: the tokens of a tree within 512 states and depth 8, and that tree's depth; or anything else.
+pub enum Shape {
+    Tree(usize),
+    Other,
+}
+
+fn larger(a: usize, b: usize) -> usize
+    ensures { λ r. ⌜ r ≡ max a b ⌝ }
+{
+    if a < b { b } else { a }
+}
+
+// The largest depth after a token: an open leads one deeper.
+fn deeper(deepest: usize, depth: usize, token: Token) -> usize
+    requires { ⌜ depth < 9 ⌝ }
+    ensures { λ r. ⌜ r ≡ deeperBy deepest depth (tokenOf token) ⌝ }
+{
+    match token {
+        Token::Letter(_) => deepest,
+        Token::Open => larger(deepest, depth + 1),
+        Token::Bar => deepest,
+        Token::Close(_) => deepest,
+    }
+}
+
+// The scan over the whole tape, which marks what each token marks.
+fn scan_tape(
+    tape: Tape,
+    places: &mut [u64],
+    scatter: &mut [u64],
+    gather: &mut [u64],
+    propagate: &mut [u64],
+    back: &mut [u64],
+) -> Shape
+    requires { ⌜ Blank (now places) (now scatter) (now gather) (now propagate) (now back) ⌝ }
+    ensures shape { λ r. ⌜ r ≡ shapeOf tape ⌝ }
+    ensures masks { λ r. ⌜ ScanLays tape (now (places .exit)) (now (scatter .exit)) (now (gather .exit)) (now (propagate .exit)) (now (back .exit)) ⌝ }
+{
+    let kinds = tape.kinds;
+    let length = tape.length;
+    if length > 511 {
+        return Shape::Other;
+    }
+    let none = no_frame();
+    let mut frames = [none; 9];
+    let mut scan = begin_scan();
+    let mut deepest: usize = 0;
+    let mut i: usize = 0;
+    while i < length {
+        let token = read_kind(kinds[i]);
+        let top = innermost(scan.depth);
+        let frame = frames[top];
+        if !fits(scan, frame, token) {
+            return Shape::Other;
+        }
+        mark_token(places, scatter, gather, propagate, back, scan, frame, token);
+        let d = deeper(deepest, scan.depth, token);
+        deepest = d;
+        let next = step_over(scan, frame, token);
+        let stored = next.frame;
+        let place = next.place;
+        frames[place] = stored;
+        let after = next.scan;
+        scan = after;
+        i += 1;
+    }
+    if is_ended(scan) {
+        Shape::Tree(deepest)
+    } else {
+        Shape::Other
+    }
+}
+
+// What is marked for the tape. Where it is not a tree's, no mask has a state.
+fn lay_kinds(
+    tape: Tape,
+    places: &mut [u64],
+    scatter: &mut [u64],
+    gather: &mut [u64],
+    propagate: &mut [u64],
+    back: &mut [u64],
+) -> Shape
+    requires { ⌜ Sized (now places) (now scatter) (now gather) (now propagate) (now back) ⌝ }
+    ensures shape { λ r. ⌜ r ≡ shapeOf tape ⌝ }
+    ensures kinds { λ r. ⌜ Kinds tape (now (places .exit)) (now (scatter .exit)) (now (gather .exit)) (now (propagate .exit)) (now (back .exit)) ⌝ }
+{
+    blank_all(places, scatter, gather, propagate, back);
+    let shape = scan_tape(tape, places, scatter, gather, propagate, back);
+    if let Shape::Other = shape {
+        blank_all(places, scatter, gather, propagate, back);
+    }
+    shape
+}
+
+// Lay out: whether the tape is the tokens of a tree, and how deep that is; letter places and loop places; block, source and target of each depth; and
+// source and target of its back edges.
+pub fn lay_out(
+    tape: Tape,
+    places: &mut [u64; 16],
+    scatter: &mut [u64; 216],
+    gather: &mut [u64; 216],
+    propagate: &mut [u64; 216],
+    back: &mut [u64; 216],
+) -> Shape
+    ensures computed { λ r. ⌜ r ≡ shapeOf tape ⌝ }
+    ensures shape { λ r. ⌜ ShapeSays tape r ⌝ }
+    ensures laid { λ r. ⌜ Laid tape (now (places .exit)) (now (scatter .exit)) (now (gather .exit)) (now (propagate .exit)) (now (back .exit)) ⌝ }
+    ensures masks { λ r. ⌜ MasksSay tape (now (places .exit)) (now (scatter .exit)) (now (gather .exit)) (now (propagate .exit)) (now (back .exit)) ⌝ }
+{
+    let shape = lay_kinds(tape, places, scatter, gather, propagate, back);
+    join_propagate(propagate);
+    shape
+}
+
+// One of the masks that lay out gives; past their end a mask without a state.
+pub fn row_of(masks: &[u64], row: usize) -> [u64; 8]
+    ensures { λ r. ⌜ RowSays (now (masks .entry)) row r ⌝ }
+{
+    let mut words = [0u64; 8];
+    if row >= masks.len() / 8 {
+        return words;
+    }
+    let mut j: usize = 0;
+    while j < 8 {
+        words[j] = masks[8 * row + j];
+        j += 1;
+    }
+    words
+}

@@ -1,0 +1,88 @@
+// Classes, as four words: byte b is bit b mod 64 of word b / 64.
+use crate::put;
+use crate::write_byte;
+use crate::write_run;
+ghost use mathlib.Core.Path.{_≡_};
+ghost use Prim.Native.Nat.{_+_, _^_, _≤_, _<_};
+ghost use lib.ListN.{length};
+ghost use lib.Seq.{sets};
+ghost use Rattle.model.specs.Bits.{bit};
+ghost use Rattle.model.specs.Models.Words.{value};
+ghost use Rattle.model.specs.Writing.{classWriting, outside};
+ghost use Rattle.writing_letters.specs.Runs.{FirstIn, FirstOut};
+
+pub fn has_byte(class: [u64; 4], b: usize) -> bool
+    ensures { λ r. ⌜ r ≡ bit (value class) b ⌝ }
+{
+    if b < 256 {
+        (class[b / 64] >> (b % 64)) & 1 == 1
+    } else {
+        false
+    }
+}
+
+// The first byte of the class from b on; 256 if there is none.
+fn next_in(class: [u64; 4], b: usize) -> usize
+    requires { ⌜ b ≤ 256 ⌝ }
+    ensures { λ r. ⌜ FirstIn (value class) b r ⌝ }
+{
+    let mut i = b;
+    while i < 256 && !has_byte(class, i) {
+        i += 1;
+    }
+    i
+}
+
+// The first byte from b on that is not in the class.
+fn next_out(class: [u64; 4], b: usize) -> usize
+    requires { ⌜ b ≤ 256 ⌝ }
+    ensures { λ r. ⌜ FirstOut (value class) b r ⌝ }
+{
+    let mut i = b;
+    while i < 256 && has_byte(class, i) {
+        i += 1;
+    }
+    i
+}
+
+// "its maximal runs in rising order"
+fn write_runs(out: &mut [u8], at: usize, class: [u64; 4]) -> usize
+    requires { ⌜ at < 2 ^ 31 ⌝ }
+    ensures place { λ r. ⌜ r ≡ at + length (outside 256 (value class) 0) ⌝ }
+    ensures written { λ r. ⌜ now (out .exit) ≡ sets (now (out .entry)) at (outside 256 (value class) 0) ⌝ }
+{
+    let mut p = at;
+    let mut lo = next_in(class, 0);
+    while lo < 256 {
+        let end = next_out(class, lo);
+        let q = write_run(out, p, lo as u8, (end - 1) as u8);
+        p = q;
+        let next = next_in(class, end);
+        lo = next;
+    }
+    p
+}
+
+// "A class of one byte is that byte. All 256 bytes are `.`. Any other class is its maximal runs in rising order in `[ ]`"
+pub fn write_class(out: &mut [u8], at: usize, class: [u64; 4]) -> usize
+    ensures place { λ r. ⌜ (at < 2 ^ 30 → r ≡ at + length (classWriting (value class))) ⌝ }
+    ensures written { λ r. ⌜ (at < 2 ^ 30 → now (out .exit) ≡ sets (now (out .entry)) at (classWriting (value class))) ⌝ }
+{
+    if at >= 1073741824 {
+        return at;
+    }
+    let first = next_in(class, 0);
+    if first < 256 {
+        if next_in(class, first + 1) == 256 {
+            return write_byte(out, at, first as u8);
+        }
+    }
+    if next_out(class, 0) == 256 {
+        put(out, at, b'.');
+        return at + 1;
+    }
+    put(out, at, b'[');
+    let p = write_runs(out, at + 1, class);
+    put(out, p, b']');
+    p + 1
+}

@@ -5,7 +5,7 @@ mod escapes;
 mod letters;
 
 pub use classes::none;
-pub use rule_letters::read_letter;
+pub use letters::read_letter;
 
 // One byte that was read.
 enum Byte {

@@ -38,7 +38,7 @@ fn extension(name: &str) -> &str {
     name.rsplit_once('.').map_or("", |(_, end)| end)
 }
 
-/// The files below a folder but for what is made, git's own and this program.
+/// The files below a folder but for what is made and git's own.
 fn files(folder: &Path, out: &mut Vec<File>) {
     for entry in fs::read_dir(folder).expect("a folder").map(|entry| entry.expect("an entry").path()) {
         let path = entry.to_str().expect("a name").trim_start_matches("./").to_string();
@@ -46,8 +46,8 @@ fn files(folder: &Path, out: &mut Vec<File>) {
             if !["target", ".git", "tests/target"].contains(&path.as_str()) {
                 files(&entry, out);
             }
-        } else if path != ITSELF {
-            let source = SOURCES.contains(&extension(&path));
+        } else {
+            let source = SOURCES.contains(&extension(&path)) && path != ITSELF;
             let words = if source { words_of(&fs::read_to_string(&entry).expect("a text")) } else { HashSet::new() };
             out.push(File { path, words });
         }

@@ -54,6 +54,13 @@ fn files(folder: &Path, out: &mut Vec<File>) {
     }
 }
 
+/// What is left of a file's path after a cited one, in which `*` stands for any letters of one name.
+fn rest_of<'a>(file: &'a str, cited: &str) -> Option<&'a str> {
+    let Some((before, after)) = cited.split_once('*') else { return file.strip_prefix(cited) };
+    let (name, rest) = file.strip_prefix(before)?.split_once(after)?;
+    (!name.contains('/')).then_some(rest)
+}
+
 /// The repository, and what was found of the documents.
 struct Citations {
     files: Vec<File>,
@@ -87,27 +94,10 @@ impl Citations {
         }
     }
 
-    /// The files that a path means: the file, with or without its ending, and those below it; `*` stands for any letters of the last name.
+    /// The files that a path means: the file, with or without its ending, and those below it.
     fn meant(&self, path: &str) -> Vec<&File> {
-        let path = path.trim_end_matches('/');
-        let is = |file: &&File| {
-            let rest = match path.split_once('*') {
-                Some((before, after)) => {
-                    let Some(rest) = file.path.strip_prefix(before) else { return false };
-                    let Some((name, rest)) = rest.split_once(after) else { return false };
-                    if name.contains('/') {
-                        return false;
-                    }
-                    rest
-                }
-                None => match file.path.strip_prefix(path) {
-                    Some(rest) => rest,
-                    None => return false,
-                },
-            };
-            rest.is_empty() || rest.starts_with('/') || [".antt", ".rt", ".rs"].contains(&rest)
-        };
-        self.files.iter().filter(is).collect()
+        let is = |rest: &str| rest.is_empty() || rest.starts_with('/') || [".antt", ".rt", ".rs"].contains(&rest);
+        self.files.iter().filter(|file| rest_of(&file.path, path.trim_end_matches('/')).is_some_and(is)).collect()
     }
 
     fn path(&mut self, place: &str, path: &str) {

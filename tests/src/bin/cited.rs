@@ -1,5 +1,6 @@
 //! What the documents cite, against the repository: paths, our own names in backticks, must-fail edits, links with their anchors, and the lines of the
-//! files that are believed. docs/landings/ is left out: those notes say how things stood. Usage: cited, from the repository's root
+//! files that are believed; and that README's map has every crate. docs/landings/ is left out: those notes say how things stood. Usage: cited, from the
+//! repository's root
 
 use std::collections::HashSet;
 use std::fs;
@@ -348,8 +349,18 @@ fn check(all: &mut Citations, document: &str, named: bool) {
     check_tables(all, document, &text);
 }
 
+/// The map of README.md has every crate.
+fn check_map(all: &mut Citations) {
+    let map = fs::read_to_string("README.md").expect("README.md");
+    for entry in fs::read_dir("crates").expect("crates").map(|entry| entry.expect("an entry").path()) {
+        let row = format!("| `{}` |", entry.to_str().expect("a name"));
+        all.note(PATHS, map.contains(&row), "README.md", &format!("no row of the map that begins {row}"));
+    }
+}
+
 fn main() {
     let mut all = Citations::new();
+    check_map(&mut all);
     let mut documents: Vec<String> = ["README.md", "tests/README.md", "vectors/README.md", "include/lavumbishe.h"].map(String::from).to_vec();
     let docs = fs::read_dir("docs").expect("docs").map(|entry| entry.expect("an entry").path());
     documents.extend(docs.filter(|path| path.is_file()).map(|path| path.to_str().expect("a name").to_string()));

@@ -1,7 +1,8 @@
 /* Lavumbishe for C and C++: build, read back and match; the watch: begin and step; spellings: check and propose.
  *
- * A rule becomes an image, tables of bit masks in 64-bit words. The image is what the panel stores and runs; the rule is not needed again. What
- * each function does is proved for every input, whatever the words and bytes are (docs/PROMISES.md); the rules' grammar is that of documents 01 and 02.
+ * A rule becomes an image, tables of bit masks in 64-bit words. The image is what the panel stores and runs; the rule is not needed again. What each
+ * function does is proved for every input, whatever the words and bytes are (docs/PROMISES.md says what that rests on); docs/RULES.md says how to
+ * write a rule.
  *
  *     uint64_t image[LAVUMBISHE_IMAGE_WORDS];
  *     uint64_t built = lavumbishe_build(rule, rule_len, image, LAVUMBISHE_IMAGE_WORDS);
@@ -9,22 +10,36 @@
  *         ...                                               refused: image is as it was
  *     size_t image_len = lavumbishe_count(built);           lend exactly these words to the others
  *
- * examples/watch.c is a whole program. 'rt staticlib panel' makes the library, target/staticlib/libpanel.a, for x86-64 and the calls of C on Linux.
+ * examples/watch.c is a whole program. 'rt staticlib panel' makes the library, target/staticlib/libpanel.a.
+ *
+ * Processor: the library is for x86-64 and the calls of C on Linux, and for nothing else at this time. On another processor that runs Linux a program
+ * linked with it runs under an emulator such as qemu-user, as our own tests do there (tests/link); what is promised then rests on the emulator too.
+ * Where there is no emulator it can't be run yet.
  *
  * The result holds two numbers: the number of the table below times 2^32, and a count below 2^32. Take them apart with lavumbishe_number and
  * lavumbishe_count. The checks run in the table's order, and the first that fails gives its number. A refusal has count 0 and changes nothing that
  * was lent. After 'done' the count is how much there is of the result, and what lies past it in the lent area is as it was.
  *
  * What a caller provides:
- *  - Areas. Each is a pointer and a length in elements, not in bytes. The area to be written must not overlap one to be read. A
- *    pointer must be aligned for its type and must not be null, also where the length is 0.
- *  - Stack: 1 MiB for build, since the readers nest as deep as the rule's brackets may; 16 KiB for read back, 64 KiB for match, begin, step and check,
- *    128 KiB for propose. The tests measure some 738,000 bytes on x86-64 for build, 13,300 for read back, 17,900 for match, 18,000 for check and 106,700
- *    for propose. Build may be left to the desk: a panel that gets images needs match alone, or begin and step.
+ *  - Areas. Each is a pointer and a length in elements, not in bytes: a word of an image or of a mask has 8 bytes, an end or a state 4, a place 8, a
+ *    byte of a rule, text or writing 1. An area to be written must not overlap any other. A pointer must be aligned for its type and must not be
+ *    null, also where the length is 0. Nothing may change an area during a call.
+ *  - Stack, in bytes, and in brackets the most that the tests have measured on x86-64 (docs/SPEED.md, "Stack"): build 1,048,576 (738,000), since the
+ *    readers nest as deep as the rule's brackets may; read back 16,384 (13,300); match, begin and step 65,536 (17,900); check 65,536 (18,000);
+ *    propose 131,072 (106,700). Build may be left to the desk: a panel that gets images needs match alone, or begin and step.
  *  - memcpy, memmove and memset, which the compiler may call. Nothing else is called.
  *
  * No heap and no variable data outside the stack is used, so calls from several threads or from an interrupt are safe as long as none writes an
  * area that another reads or writes. Every call ends: the work is bounded by the lengths that are given.
+ *
+ * What a call costs, in instructions on x86-64. These are counts of calls that were made, and no promise: docs/SPEED.md has them with the rules and
+ * texts, and says how they were counted (callgrind, or the instructions that the emulator ran).
+ *  - Every call but build checks its image: 7,400 to 19,400 for 525 words (4,200 bytes), at most 168,200 for 4,834 (38,672 bytes), the dearest images
+ *    that were found ("The check alone").
+ *  - Match and step, for each byte besides: 22 for the smallest rules to 2,526 for 500 states eight deep; with repeated groups, where cycles go round
+ *    at every byte, up to 5,922 ("Match and step", "Cycles").
+ *  - Build of a rule of 1,024 bytes: at most 1,032,800. Read back: 21,800 for the rule `a`, at most 20,094,300 ("Build, read back ..").
+ *  - Check and propose: by the bytes from start to end; for 65,535 bytes and 512 states up to some 1,500 million each ("Spellings").
  */
 #ifndef LAVUMBISHE_H
 #define LAVUMBISHE_H
@@ -57,19 +72,20 @@ enum {
 enum {
     LAVUMBISHE_RULE_BYTES = 1024,
     LAVUMBISHE_TEXT_BYTES = 65535,
-    LAVUMBISHE_IMAGE_WORDS = 4834,
-    LAVUMBISHE_MASK_WORDS = 8,
-    LAVUMBISHE_ENDS = 65536
+    LAVUMBISHE_IMAGE_WORDS = 4834, /* 38,672 bytes */
+    LAVUMBISHE_MASK_WORDS = 8,     /* 64 bytes */
+    LAVUMBISHE_ENDS = 65536        /* 262,144 bytes */
 };
 
 /* Build: from a rule to its image. Numbers 0 to 5. The count is the image's length in words, which are the first ones of those lent. Store it with
- * the words: read back and match take exactly so many. An image that was made before groups could take '*' has a section less and gets 6: build it anew
+ * the words: all other calls take exactly so many. The image of m states and depth d has 10 + W(515 + 11d) words, where W is m/64 rounded up: from
+ * 525 words (4,200 bytes) to 4,834 (38,672 bytes). An image that was made before groups could take '*' has a section less and gets 6: build it anew
  * from its rule, or from its plain writing, which means what it meant. */
 uint64_t lavumbishe_build(const uint8_t *rule, size_t rule_len, uint64_t *image, size_t image_len);
 
 /* Read back: from an image to the rule's plain writing, which is again a rule, of the same image. Numbers 0, 6, 8. The count is the writing's length
  * in bytes; no byte 0 closes it. The writing of a short rule may be long: [..]{511} writes its class 511 times. The longest of any image has
- * 1,178,877 bytes. */
+ * 1,178,877 bytes; a panel that only runs images need not read back. */
 uint64_t lavumbishe_read_back(const uint64_t *image, size_t image_len, uint8_t *writing, size_t writing_len);
 
 /* Match: from an image and a text to the places at which the rule has just happened. A place is a number of bytes read, from 0 to text_len. It is an
@@ -88,15 +104,16 @@ uint64_t lavumbishe_match(const uint64_t *image, size_t image_len, const uint8_t
  *     uint64_t found = lavumbishe_begin(image, image_len, mask, mask_len, &place, ends, ends_len);       once
  *     found = lavumbishe_step(image, image_len, mask, mask_len, &place, stretch, stretch_len, ends, ends_len);   for each stretch
  *
- * What to keep between the calls: the words of the mask, and the place, nothing else. They may lie anywhere, go through a restart or move to another
- * panel. However the journal was cut, the ends of all calls joined are those that match would find in the whole of it, as long as each call had room
- * for its own and all calls had one image. A refusal leaves mask, place and ends as they were: the stretch was not read and can be given again.
+ * What to keep between the calls: the words of the mask, 8 to 64 bytes, and the place, 8 bytes, nothing else. They may lie anywhere, go through a
+ * restart or move to another panel. However the journal was cut, the ends of all calls joined are those that match would find in the whole of it, as
+ * long as each call had room for its own and all calls had one image. A refusal leaves mask, place and ends as they were: the stretch was not read
+ * and can be given again.
  *
- * Begin puts the live states before any byte into the mask and 0 into the place. Numbers 0, 6, 9. The count is 1 if place 0 is an end (the rule can be
- * empty), which is then written if there is room, and else 0; no step reports it again.
+ * Begin puts the live states before any byte into the mask and 0 into the place. Numbers 0, 6, 9. The count is 1 if place 0 is an end (the rule can
+ * be empty), which is then written if there is room, and else 0; no step reports it again.
  *
- * Step reads one stretch. Numbers 0, 6, 7, 9, 10. Mask and place go on; the count is the total of ends in this stretch, and written are the first that
- * fit, as places of the whole journal, from *place + 1 on. With room for stretch_len ends none is lost.
+ * Step reads one stretch. Numbers 0, 6, 7, 9, 10. Mask and place go on; the count is the total of ends in this stretch, and written are the first
+ * that fit, as places of the whole journal, from *place + 1 on. With room for stretch_len ends none is lost.
  *
  * The image is checked in every call, which costs as much as reading 50 to 800 bytes, the most for a rule of 64 states without unions: longer
  * stretches are cheaper. The mask is only checked for having no bit past the image's states; a step goes on from whatever states it has, so keep it
@@ -109,30 +126,32 @@ uint64_t lavumbishe_begin(const uint64_t *image, size_t image_len, uint64_t *mas
 uint64_t lavumbishe_step(const uint64_t *image, size_t image_len, uint64_t *mask, size_t mask_len, uint64_t *place, const uint8_t *stretch,
                          size_t stretch_len, uint32_t *ends, size_t ends_len);
 
-/* How many words a mask of this image has, 1 to 8: lend begin and step exactly so many. Words that are no image give some number up to 8. */
+/* How many words a mask of this image has, 1 to 8 (8 to 64 bytes): lend begin and step exactly so many. Words that are no image give some number up
+ * to 8. */
 static inline size_t lavumbishe_mask_len(const uint64_t *image, size_t image_len) {
     return image_len > 2 && image[2] <= LAVUMBISHE_MASK_WORDS ? (size_t)image[2] : 0;
 }
 
-/* A spelling: which bytes of a text did it, and how. A proposal is a start, an end and a list of states. Start and end are places of the text, and the
- * list has one state for each byte from start to end: the one that the byte enters, by a letter's edge or its loop.
+/* A spelling: which bytes of a text did it, and how. A proposal is a start, an end and a list of states. Start and end are places of the text, and
+ * the list has one state for each byte from start to end: the one that the byte enters, by a letter's edge or its loop.
  *
  *     uint64_t found = lavumbishe_propose_spelling(image, image_len, text, text_len, end, states, states_len);
  *     size_t states_count = lavumbishe_count(found);        the start is end less so many
  *
- * Check says whether a proposal is right, whoever made it. Numbers 0, 6, 7; the count is 1 for yes and 0 for no. It is yes exactly if start is at most
- * end and end at most text_len, states_len is end less start, the first state is entered by its byte from one that state 0 reaches without a letter,
- * each next one from one that the state before reaches so, and the last (state 0, where there are no bytes) so reaches the accepting state. Whatever
- * else the places and states are is a no, also where a place is past the text or a state past the image's.
+ * Check says whether a proposal is right, whoever made it. Numbers 0, 6, 7; the count is 1 for yes and 0 for no. It is yes exactly if start is at
+ * most end and end at most text_len, states_len is end less start, the first state is entered by its byte from one that state 0 reaches without a
+ * letter, each next one from one that the state before reaches so, and the last (state 0, where there are no bytes) so reaches the accepting state.
+ * Whatever else the places and states are is a no, also where a place is past the text or a state past the image's.
  *
- * Propose writes a proposal that gets yes, of all for this end one with the latest start: no stretch that is spelled and stops there is shorter. Numbers
- * 0, 6, 7, 16, 17. The count is the number of states, which are the first ones of those lent; of a rule that can be empty it is 0, and the start is the
- * end itself. There is a proposal exactly for the ends that match finds; any other place, also one past the text, gives 16. Where the states of that
- * start don't fit it gives 17; text_len of them always do. Which states are chosen, where there is a choice, may change with the library.
+ * Propose writes a proposal that gets yes, of all for this end one with the latest start: no stretch that is spelled and stops there is shorter.
+ * Numbers 0, 6, 7, 16, 17. The count is the number of states, which are the first ones of those lent; of a rule that can be empty it is 0, and the
+ * start is the end itself. There is a proposal exactly for the ends that match finds; any other place, also one past the text, gives 16. Where the
+ * states of that start don't fit it gives 17; text_len of them, 4 bytes each, always do. Which states are chosen, where there is a choice, may change
+ * with the library.
  *
  * Both check the image in the same call, as match does; beyond what the image costs the work grows with the stretch from start to end, and not with
- * what lies before or after it. Propose leaves a place that is no end as soon as no state leads there, mostly after a few bytes; where the rule can go on
- * for ever (`A.*B`, and no A comes) that is the whole text before it. */
+ * what lies before or after it. Propose leaves a place that is no end as soon as no state leads there, mostly after a few bytes; where the rule can
+ * go on for ever (`A.*B`, and no A comes) that is the whole text before it. */
 uint64_t lavumbishe_check_spelling(const uint64_t *image, size_t image_len, const uint8_t *text, size_t text_len, uint64_t start, uint64_t end,
                                    const uint32_t *states, size_t states_len);
 

@@ -26,7 +26,7 @@ fn put_place(text: &mut [u8], at: usize, place: usize) -> usize
     put(text, at, &digits[..length])
 }
 
-// "13 O state 2"
+// `13 O state 2`
 fn put_step(text: &mut [u8], at: usize, place: usize, byte: u8, state: u32) -> usize
     requires { ⌜ (at < 2 ^ 31) × (place < 2 ^ 32) ⌝ }
     ensures { λ r. ⌜ r ≤ at + 33 ⌝ }

@@ -26,7 +26,7 @@ accepting t = seqEnd t 0
 abbrev pub states : Tree → ℕ
 states t = suc (accepting t)
 
--- "The depth of the rule's own sequence is 0; alternatives of a union at depth k lie at k+1. d is the largest depth."
+-- "The depth of the rule's own sequence is 0; alternatives of a union at depth k lie at k+1 .. d is the largest depth."
 abbrev mutual
   pub depth : Tree → ℕ
   depth end = 0

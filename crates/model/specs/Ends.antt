@@ -38,7 +38,7 @@ abbrev mutual
   AltsSpell (last s) v = Spells s v
   AltsSpell (more s a) v = Spells s v ⊎ AltsSpell a v
 
--- "Place p (p bytes read, from 0 to the text's length) is an end exactly if some stretch of the text stopping at p, perhaps empty, is spelled by the rule."
+-- "Place p (p bytes read, from 0 to the text's length) is an end exactly if .. some stretch of the text stopping at p .. is spelled by the rule."
 pub record End (t : Tree) (text : List ℕ) (p : ℕ) : Type 0 where
   pub before : List ℕ
   pub stretch : List ℕ

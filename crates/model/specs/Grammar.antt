@@ -61,7 +61,7 @@ pub data Sign : Type 0 where
   plainly : Repeat → Sign
   times : ℕ → ℕ → Sign
 
--- "at most one repeat sign": "`?`, `*`, `+`, `{x}`, `{x,y}`, `{,y}`. x is at most y, and y at least 1."
+-- "at most one repeat sign": "`?`, `*`, `+`, `{x}`, `{x,y}`, `{,y}` .. x is at most y, and y at least 1."
 pub data IsSign : List ℕ → Sign → Type 0 where
   absent : {w : List ℕ} {q : Sign} → w ≡ [] → q ≡ plainly once → IsSign w q
   question : {w : List ℕ} {q : Sign} → w ≡ byte "?" ∷ [] → q ≡ plainly option → IsSign w q
@@ -92,12 +92,12 @@ pub data IsMark : List ℕ → Repeat → Type 0 where
   any-number : {w : List ℕ} {r : Repeat} → w ≡ byte "*" ∷ [] → r ≡ star → IsMark w r
   some-number : {w : List ℕ} {r : Repeat} → w ≡ byte "+" ∷ [] → r ≡ plus → IsMark w r
 
--- a group with `*`: "a union's start and end around the one body. A group that was a union becomes that body's sole item"
+-- a group with `*`: "a union's start and end around the one body .. A group that was a union becomes that body's sole item"
 abbrev pub cycle : Alts → Seq
 cycle a = union starred (last (bracket a)) end
 
--- with `?`: "The tree keeps it as a union .., also when it has one alternative. But a `?` on a group that can already be empty is dropped before the
--- tree is made, and the group is then read without it." "`+` on a group is the group and then its `*`."
+-- with `?`: "The tree keeps it as a union .. also when it has one alternative .. But a `?` on a group that can already be empty is dropped before the
+-- tree is made, and the group is then read without it". "`+` on a group is the group and then its `*`."
 abbrev pub grouped : Alts → Repeat → Seq
 grouped a once = bracket a
 grouped a option = cond (altsEmpty a) (bracket a) (union optional a end)

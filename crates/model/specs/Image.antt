@@ -10,7 +10,7 @@ use Rattle.model.specs.Tree.{Tree}
 use Rattle.model.specs.Edges.{byLetter, byLoop, depth, edges, endsOf, isBack, isPropagate, letterAt, Part, parts, returnAt, startsOf, states, unionAt, Way}
 
 -- ---- the sets of states that the masks hold
--- "letters: bit i+1 where a letter edge i to i+1 takes the byte"; "repeats: likewise, the bit of each loop"
+-- "letters: .. bit i+1 where a letter edge i to i+1 takes the byte"; "repeats: likewise, the bit of each loop"
 abbrev pub letters : Tree → ℕ → ℕ → Bool
 letters t b x = any (λ e. byLetter b (e .kind) && eqb x (e .to)) (edges t)
 
@@ -90,7 +90,7 @@ words (suc w) n = n % 2 ^ 64 ∷ words w (n / 2 ^ 64)
 abbrev pub width : ℕ → ℕ
 width m = (m + 63) / 64
 
--- a mask "in the image: its first W words. Unused bits are 0."
+-- a mask "in the image its first W words"; "Unused bits are 0."
 abbrev pub row : ℕ → (ℕ → Bool) → List ℕ
 row m f = words (width m) (mask m f)
 
@@ -103,7 +103,7 @@ abbrev pub join : ℕ → ℕ → (ℕ → List ℕ) → List ℕ
 join zero a f = []
 join (suc n) a f = f a ++ join n (suc a) f
 
--- "Six sections in this order", and "a seventh section holds for k from 0 to d-1 the back edges"
+-- "Six sections in this order", and "A seventh section .. holds for k from 0 to d-1 the back edges"
 abbrev pub image : Tree → List ℕ
 image t =
     let m = states t in

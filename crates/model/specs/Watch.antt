@@ -26,7 +26,7 @@ pub record IsMask (m : ℕ) (mask : List ℕ) : Type 0 where
   pub long : length mask ≡ width m
   pub none-past : (q : ℕ) → m ≤ q → In mask q → ⊥
 
--- the words of the mask whose states are those of D below m: "its first W words. Unused bits are 0."
+-- the words of the mask whose states are those of D below m: "its first W words", "Unused bits are 0."
 pub record MaskOf (m : ℕ) (D : ℕ → Type 0) (mask : List ℕ) : Type 0 where
   pub set : ℕ → Bool
   pub is : (q : ℕ) → q < m → T (set q) ↔ D q

@@ -38,7 +38,7 @@ abbrev pub sole : ℕ → ℕ → ℕ → ℕ
 sole zero c b = 256
 sole (suc n) c b = cond (eqb c (2 ^ b)) b (sole n c (suc b))
 
--- "A class of one byte is that byte. All 256 bytes are `.`. Any other class is its maximal runs in rising order in `[ ]`"
+-- "A class of one byte is that byte .. All 256 bytes are `.`. Any other class is its maximal runs in rising order in `[ ]`"
 abbrev pub classWriting : ℕ → List ℕ
 classWriting c =
     let b = sole 256 c 0 in

@@ -36,7 +36,7 @@ pub fn put_number(text: &mut [u8], at: usize, number: u64) -> usize
     put_line(text, at, &digits[..length])
 }
 
-// "total T"
+// `total T`
 pub fn put_total(text: &mut [u8], at: usize, total: u64) -> usize
     ensures { λ r. ⌜ Puts (totalText total) (now (text .entry)) at r (now (text .exit)) ⌝ }
 {
@@ -44,7 +44,7 @@ pub fn put_total(text: &mut [u8], at: usize, total: u64) -> usize
     put_number(text, after, total)
 }
 
-// "refused N"
+// `refused N`
 pub fn refuse(text: &mut [u8], number: u64) -> usize
     ensures { λ r. ⌜ PutAt (refusedText number) (now (text .entry)) 0 r (now (text .exit)) ⌝ }
 {

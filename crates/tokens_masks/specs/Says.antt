@@ -37,11 +37,11 @@ pub record RowsAre (s : tree.Tree) (table : Table) (rows : ℕ) (sets : ℕ → 
   pub row : (k : ℕ) → k < rows → getD table k [] ≡ words 8 (mask (states s) (sets k))
   pub past : (k : ℕ) → rows ≤ k → k < 9 → getD table k [] ≡ replicate 8 0
 
--- "For each union depth 0 to d-1": scatter and gather, and back edges "for k from 0 to d-1"
+-- "for k from 0 to d-1": scatter, "for the same k" gather, and the back edges likewise
 abbrev pub UnionsSay : (tree.Tree → ℕ → ℕ → Bool) → Tape → Table → Type 0
 UnionsSay sets t table = (s : tree.Tree) → TreeOnTape s t → RowsAre s table (depth s) (sets s)
 
--- "For each depth 0 to d": propagate
+-- "propagate, for k from 0 to d"
 abbrev pub PropagateSays : (tree.Tree → ℕ → ℕ → Bool) → Tape → Table → Type 0
 PropagateSays sets t table = (s : tree.Tree) → TreeOnTape s t → RowsAre s table (suc (depth s)) (sets s)
 

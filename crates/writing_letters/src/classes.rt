@@ -63,7 +63,7 @@ fn write_runs(out: &mut [u8], at: usize, class: [u64; 4]) -> usize
     p
 }
 
-// "A class of one byte is that byte. All 256 bytes are `.`. Any other class is its maximal runs in rising order in `[ ]`"
+// "A class of one byte is that byte .. All 256 bytes are `.`. Any other class is its maximal runs in rising order in `[ ]`"
 pub fn write_class(out: &mut [u8], at: usize, class: [u64; 4]) -> usize
     ensures place { λ r. ⌜ (at < 2 ^ 30 → r ≡ at + length (classWriting (value class))) ⌝ }
     ensures written { λ r. ⌜ (at < 2 ^ 30 → now (out .exit) ≡ sets (now (out .entry)) at (classWriting (value class))) ⌝ }

@@ -142,11 +142,11 @@ impl Theorems {
         Theorems { text: [HEAD, imports, EXPAND, is].concat(), count: 0, left_out: 0 }
     }
 
-    /// The claim that a call `is` this answer.
-    fn add(&mut self, call: String, answer: String) {
+    /// The claim that a call `is` this answer, after the place where its vector stands (tests/definitions shows both where the proof fails).
+    fn add(&mut self, place: &str, call: String, answer: String) {
         self.count += 1;
         let n = self.count;
-        writeln!(self.text, "\nvector-{n} : is ({call}) {answer} ≡ true\nvector-{n} = refl").unwrap();
+        writeln!(self.text, "\n-- {place}\nvector-{n} : is ({call}) {answer} ≡ true\nvector-{n} = refl").unwrap();
     }
 }
 
@@ -188,14 +188,14 @@ fn build_left_out(rule: &[u8], number: &str) -> bool {
 fn answers(folder: &Path) -> Theorems {
     let mut t = Theorems::of(ANSWERS);
     let answer = |number: &str, count: &str, after: &Runs| format!("{number} {count} {}", list(after));
-    for (_, v) in vectors(folder, "build") {
+    for (place, v) in vectors(folder, "build") {
         let (rule, room, number) = (bytes(&v[0]), v[1].parse::<usize>().unwrap(), v[2].as_str());
         if build_left_out(&rule, number) {
             t.left_out += 1;
             continue;
         }
         let call = format!("buildAnswer {} {}", numbers(rule.iter().map(|b| u64::from(*b))), before(room));
-        t.add(call, answer(number, &v[3], &lent(runs(&v[4]), room)));
+        t.add(&place, call, answer(number, &v[3], &lent(runs(&v[4]), room)));
     }
     for (place, v) in vectors(folder, "readback") {
         let (image, room) = (runs(&v[0]), v[1].parse::<usize>().unwrap());
@@ -204,11 +204,11 @@ fn answers(folder: &Path) -> Theorems {
             continue;
         }
         let call = format!("readBackAnswer (expand {}) {}", list(&image), before(room));
-        t.add(call, answer(&v[2], &v[3], &lent(singles(bytes(&v[4]).into_iter().map(u64::from)), room)));
+        t.add(&place, call, answer(&v[2], &v[3], &lent(singles(bytes(&v[4]).into_iter().map(u64::from)), room)));
     }
     let small = old_images(folder).into_iter().filter(|(_, image)| word(image, 1) <= IMAGE_STATES);
-    for (_, image) in small.take(SIX_SECTIONS) {
-        t.add(format!("readBackAnswer (expand {}) {}", list(&image), before(9)), answer("6", "0", &lent(Runs::new(), 9)));
+    for (place, image) in small.take(SIX_SECTIONS) {
+        t.add(&place, format!("readBackAnswer (expand {}) {}", list(&image), before(9)), answer("6", "0", &lent(Runs::new(), 9)));
     }
     for (place, v) in vectors(folder, "match") {
         let (image, text, room) = (runs(&v[0]), bytes(&v[1]), v[2].parse::<usize>().unwrap());
@@ -217,7 +217,7 @@ fn answers(folder: &Path) -> Theorems {
             continue;
         }
         let call = format!("matchAnswer (expand {}) {} {}", list(&image), numbers(text.iter().map(|b| u64::from(*b))), before(room));
-        t.add(call, answer(&v[3], &v[4], &lent(singles(places(&v[5]).into_iter()), room)));
+        t.add(&place, call, answer(&v[3], &v[4], &lent(singles(places(&v[5]).into_iter()), room)));
     }
     t
 }
@@ -246,7 +246,7 @@ fn watched(folder: &Path) -> Theorems {
                 }
             };
             let (mask, ends) = (list(&singles(after.mask.into_iter())), list(&lent(singles(ends.into_iter().map(u64::from)), room)));
-            t.add(call, format!("{number} {total} {mask} {} {ends}", after.place));
+            t.add(&place, call, format!("{number} {total} {mask} {} {ends}", after.place));
         }
     }
     t
@@ -265,7 +265,7 @@ fn spelled(folder: &Path) -> Theorems {
         }
         *alike += 1;
         let text = numbers(text.into_iter().map(u64::from));
-        t.add(format!("{kind} ({kind}Answer (expand {}) {text} {given})", list(&image)), format!("{number} {count}"));
+        t.add(place, format!("{kind} ({kind}Answer (expand {}) {text} {given})", list(&image)), format!("{number} {count}"));
     };
     for c in checks(folder) {
         let given = format!("{} {} {}", c.proposal.start, c.proposal.end, numbers(c.proposal.states.into_iter().map(u64::from)));

@@ -53,22 +53,22 @@ fn other_marks() {
     println!("itself: {trees} trees with another mark, {of_rules} of them a rule's, judged alike by writing and by image");
 }
 
-/// Every bit of the seventh section, its count's too, turned alone; then those of two states in both masks of a depth, which moves, adds or takes away a
-/// whole back edge.
-fn back_sections() {
+/// Every bit of the sections after the repeats, their counts' too, turned alone, and fewer of them where masks have several words; then those of two
+/// states in both masks of back edges of a depth, which moves, adds or takes away a whole back edge.
+fn edge_sections() {
     let (mut single, mut whole, mut images) = (0, 0, 0);
     for (mut r, tree) in (0..2000).step_by(31).filter_map(seeded) {
         let (words, m) = (image(&tree), states(&tree));
         let (width, d) = (m.div_ceil(64), depth(&tree));
-        let first = words.len() - 2 * width * d;
-        for (place, bit) in (first - 1..words.len()).flat_map(|place| (0..64).map(move |bit| (place, bit))) {
+        let (scatter, back) = (7 + 512 * width, words.len() - 2 * width * d);
+        for (place, bit) in (scatter - 1..words.len()).flat_map(|place| (0..64).map(move |bit| (place, bit))).step_by(width * width) {
             let mut turned = words.clone();
             turned[place] ^= 1 << bit;
             assert!(!judged(&turned, &tree), "{}, bit {bit} of word {place}", writing(&tree).escape_ascii());
             single += 1;
         }
         for _ in 0..if d > 0 { 200 } else { 0 } {
-            let (mut turned, at, from) = (words.clone(), first + 2 * width * r.below(d), r.between(1, m - 1));
+            let (mut turned, at, from) = (words.clone(), back + 2 * width * r.below(d), r.between(1, m - 1));
             let to = r.between(from.saturating_sub(6).max(1), from);
             turned[at + from / 64] ^= 1 << (from % 64);
             turned[at + width + to / 64] ^= 1 << (to % 64);
@@ -76,7 +76,7 @@ fn back_sections() {
             whole += 1;
         }
     }
-    println!("itself: {single} bits of seventh sections turned, no image; {whole} back edges changed, {images} images of another tree");
+    println!("itself: {single} bits of sections of edges turned, no image; {whole} back edges changed, {images} images of another tree");
 }
 
 /// Whether a sequence spells a text, by every cut of it between the first item and the others.
@@ -143,7 +143,7 @@ fn nested_plus() {
 fn main() {
     round_trips();
     other_marks();
-    back_sections();
+    edge_sections();
     short_texts();
     nested_plus();
 }

@@ -1,7 +1,7 @@
-//! The image of a tree, and the tree whose image words are.
+//! The image of a tree.
 
-use super::states::{can_be_empty, depth, states, Letter, Parts, Union};
-use super::{Class, Item, Mark, Repeat, Sequence, MOST_DEPTH, MOST_STATES};
+use super::states::{depth, states, Letter, Parts, Union};
+use super::Item;
 
 /// The sets that the masks hold, as lists of states: for each byte; block, source and target for each depth; of back edges source and target alone.
 struct Sets {
@@ -95,62 +95,4 @@ fn chains(edges: &[(usize, usize)]) -> [Vec<usize>; 3] {
         out[2].push(last);
     }
     out
-}
-
-/// The tree, found from the masks' bits and then laid out again and compared.
-pub fn tree_of(words: &[u64]) -> Option<Sequence> {
-    let (m, width, d) = (*words.get(1)? as usize, *words.get(2)? as usize, *words.get(3)? as usize);
-    if !(2..=MOST_STATES).contains(&m) || width != m.div_ceil(64) || d > MOST_DEPTH || words.len() != 10 + width * (515 + 11 * d) {
-        return None;
-    }
-    let bit = |at: usize, state: usize| words[at + state / 64] >> (state % 64) & 1 == 1;
-    let (letters, repeats) = (5, 6 + 256 * width);
-    let scatter = 7 + 512 * width;
-    let gather = scatter + 1 + 3 * width * d;
-    let propagate = gather + 1 + 3 * width * d;
-    let back = propagate + 1 + 3 * width * (d + 1);
-    // A propagate edge comes into each state of a chain but the first.
-    let skipped = |state: usize| (0..=d).any(|k| bit(propagate + 3 * k * width, state) && !bit(propagate + (3 * k + 1) * width, state));
-    let mut open: Vec<(Vec<Sequence>, Sequence)> = Vec::new();
-    let mut here = Sequence::new();
-    for state in 1..m {
-        let class: Vec<bool> = (0..256).map(|b| bit(letters + b * width, state)).collect();
-        if class.contains(&true) {
-            let loops = (0..256).any(|b| bit(repeats + b * width, state));
-            here.push(Item::Letter(Class(class.try_into().unwrap()), Repeat::of(skipped(state), loops)));
-        } else if (0..d).any(|k| bit(gather + (3 * k + 2) * width, state)) {
-            let (mut alternatives, outside) = open.pop()?;
-            alternatives.push(std::mem::replace(&mut here, outside));
-            let mark = if (0..d).any(|k| bit(back + 2 * k * width, state - 1)) {
-                Mark::Repeated
-            } else if skipped(state) && !alternatives.iter().any(|a| can_be_empty(a)) {
-                Mark::Optional
-            } else {
-                Mark::Unmarked
-            };
-            here.push(Item::Union(mark, alternatives));
-        } else if (0..d).any(|k| bit(scatter + (3 * k + 1) * width, state - 1)) {
-            open.push((Vec::new(), std::mem::take(&mut here)));
-        } else {
-            open.last_mut()?.0.push(std::mem::take(&mut here));
-        }
-    }
-    (open.is_empty() && good(&here) && image(&here) == words).then_some(here)
-}
-
-/// Whether a rule can have this tree, in which no optional union can be empty without its mark: brackets round one alternative stay only with a mark,
-/// and a repeated group has one body.
-fn good(sequence: &[Item]) -> bool {
-    let fine = |item: &Item| match item {
-        Item::Letter(..) => true,
-        Item::Union(mark, alternatives) => {
-            let count = match mark {
-                Mark::Unmarked => alternatives.len() > 1,
-                Mark::Optional => true,
-                Mark::Repeated => alternatives.len() == 1,
-            };
-            count && alternatives.iter().all(|a| good(a))
-        }
-    };
-    !sequence.is_empty() && sequence.iter().all(fine)
 }

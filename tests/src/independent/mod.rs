@@ -1,6 +1,6 @@
 //! Document 01 and the wishes of document 02 that have landed once more, written independently of the proofs and of the proved code: a parser, the
-//! plain writing, the image, reading an image back, ends by backtracking, a watch and spellings by its edges, and the answers. Plain and slow; it
-//! shares nothing with the crates.
+//! plain writing, the image, an image's tree by the edges that it shows, ends by backtracking, a watch and spellings by the tree's edges, and the
+//! answers. Plain and slow; it shares nothing with the crates.
 
 mod answers;
 mod edges;
@@ -9,16 +9,18 @@ mod image;
 mod rules;
 mod spelling;
 mod states;
+mod tree;
 mod watch;
 mod writing;
 
 pub use answers::{build, desk, match_ends, read_back};
 pub use edges::Edges;
 pub use ends::ends;
-pub use image::{image, tree_of};
+pub use image::image;
 pub use rules::parse;
 pub use spelling::{check, latest_starts, propose, proposed, Checker, Proposal, Starts};
 pub use states::{can_be_empty, depth, marked, states};
+pub use tree::tree_of;
 pub use watch::{begin, step, Watch, LAST_PLACE};
 pub use writing::writing;
 

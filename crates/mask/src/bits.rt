@@ -1,12 +1,10 @@
-// One bit, a run of bits, and whether two are the same: first of plain rows of eight words, as tables of masks hold them, then of masks.
+// One bit, and whether two rows are the same: of plain rows of eight words, as tables of masks hold them, and of masks.
 // A place at or past 512 is in no row: to set it changes nothing, and its bit is clear.
 use crate::Mask;
 ghost use mathlib.Core.Path.{_≡_};
-ghost use Prim.Native.Nat.{_-_};
 ghost use Rattle.model.specs.Bits.{bit};
 ghost use Rattle.model.specs.Models.Verdict.{sameWords};
 ghost use Rattle.model.specs.Models.Words.{putBit, value};
-ghost use Rattle.mask.specs.Rows.{putRun};
 
 // The row with bit i set.
 pub fn row_with_bit(row: [u64; 8], i: usize) -> [u64; 8]
@@ -15,19 +13,6 @@ pub fn row_with_bit(row: [u64; 8], i: usize) -> [u64; 8]
     let mut r = row;
     if i < 512 {
         r[i / 64] = r[i / 64] | (1 << (i % 64));
-    }
-    r
-}
-
-// The row with the bits lo to hi - 1 set.
-pub fn row_with_run(row: [u64; 8], lo: usize, hi: usize) -> [u64; 8]
-    ensures { λ r. ⌜ r ≡ putRun row lo (hi - lo) ⌝ }
-{
-    let mut r = row;
-    let mut i = lo;
-    while i < hi && i < 512 {
-        r[i / 64] = r[i / 64] | (1 << (i % 64));
-        i += 1;
     }
     r
 }
@@ -65,25 +50,9 @@ pub fn with_bit(a: Mask, i: usize) -> Mask
     Mask { words }
 }
 
-pub fn with_run(a: Mask, lo: usize, hi: usize) -> Mask
-    ensures { λ r. ⌜ r .words ≡ putRun (a .words) lo (hi - lo) ⌝ }
-{
-    let row = a.words;
-    let words = row_with_run(row, lo, hi);
-    Mask { words }
-}
-
 pub fn has_bit(a: Mask, i: usize) -> bool
     ensures { λ r. ⌜ r ≡ bit (value (a .words)) i ⌝ }
 {
     let row = a.words;
     row_has_bit(row, i)
-}
-
-pub fn same(a: Mask, b: Mask) -> bool
-    ensures { λ r. ⌜ r ≡ sameWords (a .words) (b .words) ⌝ }
-{
-    let row = a.words;
-    let other = b.words;
-    same_rows(row, other)
 }

@@ -295,7 +295,7 @@ const KINDS: [u8; 256] = [
     OTHER,
 ];
 
-pub fn kind(b: u8) -> u8
+fn kind(b: u8) -> u8
     ensures { λ r. ⌜ r ≡ number (kindOf b) ⌝ }
 {
     let i = b as usize;
@@ -320,7 +320,7 @@ pub fn is_plain(b: u8) -> bool
     kind(b) <= PLAIN
 }
 
-pub fn is_sign(b: u8) -> bool
+fn is_sign(b: u8) -> bool
     ensures { λ r. ⌜ r ≡ within b signs ⌝ }
 {
     kind(b) == SIGN

@@ -11,7 +11,7 @@ ghost use Rattle.model.specs.Models.Words.{value};
 ghost use Rattle.model.specs.Writing.{classWriting, outside};
 ghost use Rattle.writing_letters.specs.Runs.{FirstIn, FirstOut};
 
-pub fn has_byte(class: [u64; 4], b: usize) -> bool
+fn has_byte(class: [u64; 4], b: usize) -> bool
     ensures { λ r. ⌜ r ≡ bit (value class) b ⌝ }
 {
     if b < 256 {

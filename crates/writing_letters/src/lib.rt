@@ -50,7 +50,7 @@ pub fn write_byte(out: &mut [u8], at: usize, byte: u8) -> usize
 }
 
 // "a run of one as the byte, a longer run as `lo-hi`"
-pub fn write_run(out: &mut [u8], at: usize, lo: u8, hi: u8) -> usize
+fn write_run(out: &mut [u8], at: usize, lo: u8, hi: u8) -> usize
     ensures place { λ r. ⌜ (at < 2 ^ 32 → r ≡ at + length (runWriting lo hi)) ⌝ }
     ensures written { λ r. ⌜ (at < 2 ^ 32 → now (out .exit) ≡ sets (now (out .entry)) at (runWriting lo hi)) ⌝ }
 {

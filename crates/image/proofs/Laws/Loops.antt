@@ -7,7 +7,7 @@ use native.Mathlib.Omega.{arith}
 use lib.Bits.{bitAnd}
 use lib.ListN.{drop, getD, length, length-drop, set, take}
 use lib.Seq.{drop-append-add, getD-drop, getD-set-other, getD-take, length-take-le, sets, take-set-le}
-use Rattle.model.specs.Image.{join, section}
+use Rattle.model.specs.Image.{section}
 use Rattle.model.specs.Models.Words.{andWords}
 use Rattle.model.proofs.Image.Address.{part-of-part}
 use Rattle.model.proofs.Image.Rows.{chunk-join, join-same}
@@ -59,9 +59,6 @@ and-take (suc n) (x ∷ xs) [] = refl
 and-take (suc n) (x ∷ xs) (y ∷ ys) = ap (λ (ws : List ℕ). bitAnd x y ∷ ws) (and-take n xs ys)
 
 module _ (W : ℕ) (row : List ℕ) (n : ℕ) (narrow : W ≤ 8) (l : List ℕ) (i : ℕ) (fits : i + 1 + 256 * W ≤ length l) where
-  abbrev rows : List ℕ
-  rows = join 256 0 (λ b. take W (letterRow row n b))
-
   letters-read : (b : ℕ) → b < 256 → take W (drop (i + 1 + W * b) (sets l i (lettersPart W row n))) ≡ take W (letterRow row n b)
   letters-read b h =
       let long = length-section W 256 (λ b. take W (letterRow row n b)) (letters-long row n narrow) in

@@ -1,26 +1,19 @@
--- For any words it is decided whether they are the image of a rule's tree, and of which; the image determines the tree; and the run on words
--- that are an image gives the ends of that tree. All of it follows from the verdict's theorem, `is-image`.
-use mathlib.Core.Path.{_≡_, refl, sym, ap, _∙_, subst}
+-- For any words it is decided whether they are the image of a rule's tree, and of which; the image determines the tree. All of it
+-- follows from the verdict's theorem, `is-image`.
+use mathlib.Core.Path.{_≡_, refl, sym, ap, _∙_}
 use mathlib.Core.Logic.{_↔_}
 use mathlib.Core.List.{List, []}
 use mathlib.Core.Option.{Option, none, some}
 use Prim.Native.Nat.{ℕ}
 use native.Mathlib.Omega.{arith}
-use lib.Dec.{T}
-use lib.ListN.{take}
-use Rattle.model.specs.Bits.{bit}
 use Rattle.model.specs.Tree.{Seq}
 use Rattle.model.specs.Grammar.{IsRule}
 use Rattle.model.specs.Writing.{writing}
-use Rattle.model.specs.Edges.{seqEnd}
 use Rattle.model.specs.Image.{image}
 use Rattle.model.specs.Answers.{ImageOf, NoImage}
-use Rattle.model.specs.Models.Apart.{depthWord, tape}
-use Rattle.model.specs.Models.Run.{runWords}
+use Rattle.model.specs.Models.Apart.{tape}
 use Rattle.model.specs.Models.Tokens.{tokens}
 use Rattle.model.specs.Models.Verdict.{verdict}
-use Rattle.model.specs.Models.Words.{value}
-use Rattle.model.proofs.Ends.Stops.{StopsAt}
 use Rattle.model.proofs.Image.Classes.{AllFine}
 use Rattle.model.proofs.Image.OfEdges.{image-is}
 use Rattle.model.proofs.Image.Tape.{tape-is}
@@ -28,12 +21,9 @@ use Rattle.model.proofs.Image.Tokens.{tokens-inj}
 use Rattle.model.proofs.Image.Unions.{good-full}
 use Rattle.model.proofs.Image.Verdict.{is-image, IsImage}
 use Rattle.model.proofs.Image.WellFormed.{well-fine, well-formed}
-use Rattle.model.proofs.Language.Languages.{feed}
 use Rattle.model.proofs.Reading.WellFormed.{rule-well, WellFormed}
 use Rattle.model.proofs.Reading.Written.{written}
 use Rattle.model.proofs.Words.Full.{Full}
-use Rattle.model.proofs.Words.ImageRun.{image-ends, imageMasks}
-use Rattle.model.proofs.Words.Run.{Bytes}
 
 -- ---- TREES WITH EQUAL IMAGES ARE EQUAL
 pub tape-of : (s : Seq) → AllFine (tokens s []) → tape (image s) ≡ tokens s []
@@ -72,12 +62,3 @@ one-image ws s s′ I J = let p = verdict-some ws s .1 I in let q = verdict-some
 -- and no alternative of that tree is empty
 pub rule-full : {rule : List ℕ} (s : Seq) → IsRule rule s → Full s
 rule-full s d = good-full s (well-formed s .0 (rule-well d) .1)
-
--- ---- THE RUN ON WORDS THAT ARE AN IMAGE GIVES THE ENDS OF THE TREE
-pub words-ends : (ws : List ℕ) (s : Seq) → verdict ws ≡ some s → (text : List ℕ) (p : ℕ) → Bytes (feed [] (take p text))
-    → T (bit (value (runWords (imageMasks ws) (depthWord ws) (feed [] (take p text)))) (seqEnd s 0)) ↔ StopsAt s text p
-words-ends ws s e text p h =
-    let I = is-image ws s .0 e in
-    subst (λ (z : List ℕ). T (bit (value (runWords (imageMasks z) (depthWord z) (feed [] (take p text)))) (seqEnd s 0)) ↔ StopsAt s text p)
-    (sym (I .words ∙ image-is s))
-    (image-ends s (rule-full s (verdict-some ws s .0 e .is-rule)) text p h)

@@ -91,9 +91,6 @@ loop-marks (aClose m) q x = go (q .stack)
     go [] = refl
     go (f ∷ st) = ap₂ _||_ (and-false (canOmit m)) (and-false (canReturn m))
 
-pub lay-loops : (l : List Token) (q : Scan) (i : ℕ) → i < length l → layOut l q loop-place 0 (suc (q .position + i)) ≡ isLooping (getD l i aBar)
-lay-loops = at-token loop-place isLooping loop-marks
-
 loop-class : (y : Token) (b : ℕ) → (bit (classOf y) b && isLooping y) ≡ bit (loopClassOf y) b
 loop-class (aLetter c once) b = and-false (bit c b) ∙ sym (bit-zero b)
 loop-class (aLetter c option) b = and-false (bit c b) ∙ sym (bit-zero b)
@@ -123,9 +120,6 @@ letter-marks (aClose m) q x = go (q .stack)
     go : (st : List Frame) → closeMarksIn m (q .position) st letter-place 0 x ≡ false
     go [] = refl
     go (f ∷ st) = ap₂ _||_ (and-false (canOmit m)) (and-false (canReturn m))
-
-pub lay-letters : (l : List Token) (q : Scan) (i : ℕ) → i < length l → layOut l q letter-place 0 (suc (q .position + i)) ≡ isLetter (getD l i aBar)
-lay-letters = at-token letter-place isLetter letter-marks
 
 pub no-letter-at-zero : (l : List Token) → layOut l begin letter-place 0 0 ≡ false
 no-letter-at-zero l = none-before letter-place isLetter letter-marks l begin 0 (le-refl 0)

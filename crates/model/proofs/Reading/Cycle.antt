@@ -11,7 +11,7 @@ use Rattle.model.specs.Tree.{Alts, glue, last, more, Seq}
 use Rattle.model.specs.Grammar.{grouped, IsItem, IsSeq}
 use Rattle.model.specs.Models.Reader.{bind, case, got, over, past, Read, readAlts, readItem, readMark, readPiece, readSeq}
 use Rattle.model.proofs.Reading.Answers.{Holds, opens-long, past-cases, Sound, sound-holds, stopped, took}
-use Rattle.model.proofs.Reading.Decides.{item-opens, seq-opens, sound-alts, sound-item, sound-seq}
+use Rattle.model.proofs.Reading.Decides.{item-opens, seq-opens, sound-item, sound-seq}
 
 abbrev pub alts : List ℕ → Read Alts
 alts l = readAlts (3 * length l + 3) l
@@ -92,9 +92,6 @@ enough-alts n l h = settled (λ k. readAlts k l) (3 * length l + 3) (λ k. more-
 pub enough-seq : (n : ℕ) (l : List ℕ) → 3 * length l + 2 ≤ n → readSeq n l ≡ seq l
 enough-seq n l h = settled (λ k. readSeq k l) (3 * length l + 2) (λ k. more-seq k l) (n - (3 * length l + 2)) n (omega arith)
 
-pub enough-item : (n : ℕ) (l : List ℕ) → 3 * length l + 1 ≤ n → readItem n l ≡ item l
-enough-item n l h = settled (λ k. readItem k l) (3 * length l + 1) (λ k. more-item k l) (n - (3 * length l + 1)) n (omega arith)
-
 -- THE THREE READERS, EACH BY ITS BODY
 pub alts-is : (l : List ℕ) → alts l ≡ altsBody seq alts l
 alts-is l =
@@ -115,9 +112,6 @@ item-is l =
     ap (λ (k : ℕ). readItem k l) e ∙ item-same (readAlts n) alts l (λ r k. enough-alts n r (omega arith))
 
 -- WHAT EACH LEAVES IS SHORTER
-pub alts-fall : (l : List ℕ) → Holds (λ a r. length r ≤ length l) (alts l)
-alts-fall l = sound-holds (λ a r. length r ≤ length l) (sound-alts (3 * length l + 3) l) (λ u a r e d. omega (arith, ap length e, length-append u r))
-
 pub seq-falls : (l : List ℕ) → Holds (λ s r. length r < length l) (seq l)
 seq-falls l = sound-holds (λ s r. length r < length l) (sound-seq (3 * length l + 2) l) (λ u s r e d. seq-short l u r e d)
 

@@ -1,32 +1,24 @@
--- THE RUN ON AN IMAGE'S OWN WORDS: the masks of a tree hold its sets, both as they are made and as they stand in the words of its image, so the run on
--- those words gives the ends of a text.
+-- THE MASKS OF AN IMAGE'S OWN WORDS: the masks of a tree hold its sets, both as they are made and as they stand in the words of its image.
 use mathlib.Core.Path.{_≡_, sym, ap, _∙_, subst}
-use mathlib.Core.Logic.{_↔_}
 use mathlib.Core.Bool.{Bool}
-use mathlib.Core.List.{List, []}
+use mathlib.Core.List.{List}
 use Prim.Native.Nat.{ℕ, zero, suc, _*_, _≤_, _<_}
 use native.Mathlib.Nat.{le-refl}
 use native.Mathlib.Omega.{arith}
-use lib.Dec.{T}
-use lib.ListN.{take, getD}
-use Rattle.model.specs.Bits.{bit}
+use lib.ListN.{getD}
 use Rattle.model.specs.Tree.{Seq}
 use Rattle.model.specs.Edges.{depth, seqEnd}
 use Rattle.model.specs.Image.{width}
 use Rattle.model.specs.Models.Apart.{backIn, chunk, gatherIn, lettersIn, propagateIn, repeatsIn, scatterIn, widthWord}
 use Rattle.model.specs.Models.LayOut.{back-source, back-target, blockOf, gather-block, gather-source, gather-target, scatter-block, scatter-source, scatter-target, set, sourceOf, targetOf, three, two}
-use Rattle.model.specs.Models.Run.{Masks, runWords}
-use Rattle.model.specs.Models.Words.{value}
+use Rattle.model.specs.Models.Run.{Masks}
 use Rattle.model.proofs.Ends.Run.{letterSet, loopSet, startSet}
-use Rattle.model.proofs.Ends.Stops.{StopsAt}
 use Rattle.model.proofs.Image.Rows.{room, three-0, three-1, three-2, two-0, two-1, wide}
 use Rattle.model.proofs.Image.Sections.{part-back, part-gather, part-letters, part-propagate, part-repeats, part-scatter}
 use Rattle.model.proofs.Image.Sets.{arcImage, treeSet}
 use Rattle.model.proofs.Language.Arcs.{arcs}
-use Rattle.model.proofs.Language.Languages.{feed}
-use Rattle.model.proofs.Words.Full.{Full}
 use Rattle.model.proofs.Words.Holds.{Holds, set-holds}
-use Rattle.model.proofs.Words.Run.{Bytes, Carry, end-words}
+use Rattle.model.proofs.Words.Run.{Carry}
 
 -- ---- a tree's three sets of a depth for scatter, gather and propagate: block (0), source (1) and target (2)
 abbrev pub scatterSets : Seq → ℕ → ℕ → ℕ → Bool
@@ -161,8 +153,3 @@ module _ (s : Seq) where
     back-target = λ k l. other (backSets s k) (chunk (2 * W) k (backIn (arcImage s))) (back-part k l);
     start = set-holds m W startSet (room m);
   }
-
-  -- THE RUN ON THE IMAGE'S WORDS gives the ends of the text
-  pub image-ends : (F : Full s) (text : List ℕ) (p : ℕ) → Bytes (feed [] (take p text))
-      → T (bit (value (runWords (imageMasks (arcImage s)) (depth s) (feed [] (take p text)))) (seqEnd s 0)) ↔ StopsAt s text p
-  image-ends F text p h = end-words m W s F (imageMasks (arcImage s)) image-carry text p h

@@ -17,10 +17,19 @@ use Rattle.model.proofs.Words.Ripple.{carry, differenceBits, into, odd3
 use Rattle.model.proofs.Words.Sums.{add-fit, add-is, Adds, adds-length, difference-bits, shift-fit, shift-is, subtract-fit, subtract-is, Subtracts, sum-bits}
 
 -- ---- an operation on each word apart
+pub each-short : (op : ℕ → ℕ → ℕ) (xs ys : List ℕ) → length (eachWord op xs ys) ≤ length xs
+each-short op [] ys = omega arith
+each-short op (x ∷ xs) [] = omega arith
+each-short op (x ∷ xs) (y ∷ ys) = let l = each-short op xs ys in omega arith
+
+-- as long as the first, where the second is no shorter
+pub each-first : (op : ℕ → ℕ → ℕ) (xs ys : List ℕ) → length xs ≤ length ys → length (eachWord op xs ys) ≡ length xs
+each-first op [] ys h = refl
+each-first op (x ∷ xs) [] h = absurd (omega arith)
+each-first op (x ∷ xs) (y ∷ ys) h = ap suc (each-first op xs ys (omega arith))
+
 pub each-length : (op : ℕ → ℕ → ℕ) (xs ys : List ℕ) → length xs ≡ length ys → length (eachWord op xs ys) ≡ length xs
-each-length op [] ys e = refl
-each-length op (x ∷ xs) [] e = absurd (omega arith)
-each-length op (x ∷ xs) (y ∷ ys) e = ap suc (each-length op xs ys (omega arith))
+each-length op xs ys e = each-first op xs ys (omega arith)
 
 pub each-at : (op : ℕ → ℕ → ℕ) (xs ys : List ℕ) (k : ℕ) → length xs ≡ length ys → k < length xs → op (getD xs k 0) (getD ys k 0) ≡ getD (eachWord op xs ys) k 0
 each-at op [] ys k e h = absurd (omega arith)

@@ -12,7 +12,7 @@ use Rattle.model.specs.Answers.{ImageOf}
 use Rattle.model.specs.Bits.{bit}
 use Rattle.model.specs.Edges.{depth, states}
 use Rattle.model.specs.Image.{width}
-use Rattle.model.specs.Models.Apart.{backAt, backIn, chunk, gatherAt, gatherIn, lettersIn, propagateAt, propagateIn, repeatsIn, scatterAt, scatterIn}
+use Rattle.model.specs.Models.Apart.{backAt, backIn, chunk, gatherAt, gatherIn, lettersIn, propagateAt, propagateIn, repeatsIn, scatterAt, scatterIn, stateWord}
 use Rattle.model.specs.Models.Words.{value}
 use Rattle.model.specs.Tree.{Tree}
 use Rattle.model.proofs.Ends.Run.{letterSet, loopSet, startSet}
@@ -123,6 +123,10 @@ module _ (ws : List ℕ) (t : Tree) (I : ImageOf ws t) where
   -- they are the image by the arcs
   pub as-arcs : ws ≡ arcImage t
   as-arcs = I .laid ∙ image-is t
+
+  -- the number of states that they show is the tree's
+  pub states-is : stateWord ws ≡ states t
+  states-is = ap stateWord as-arcs
 
   pub carried : Carry (states t) 8 t (masksOf ws)
   carried = subst (λ (z : List ℕ). Carry (states t) 8 t (masksOf z)) (sym as-arcs) (arc-carry t (I .few))

@@ -8,7 +8,7 @@ use lib.Dec.{leb}
 use lib.ListN.{length}
 use lib.Seq.{sets}
 use Rattle.model.specs.Answers.{ImageOf}
-use Rattle.model.specs.Edges.{accepting, depth, states}
+use Rattle.model.specs.Edges.{accepting, depth}
 use Rattle.model.specs.Ends.{EndsAre}
 use Rattle.model.specs.Models.Apart.{depthWord, stateWord}
 use Rattle.model.specs.Models.Run.{endsWith, Masks}
@@ -23,7 +23,7 @@ use Rattle.run.specs.Says.{FindSays}
 use Rattle.run_word.specs.Ends.{Written}
 use Rattle.run_word.specs.Shape.{shaped}
 use Rattle.run.specs.Work.{endsFound, masksOf}
-use Rattle.run.proofs.Image.Carry.{as-arcs, carried, image-shaped}
+use Rattle.run.proofs.Image.Carry.{carried, image-shaped, states-is}
 use Rattle.run.proofs.Image.Live.{depth-is}
 
 -- ---- the list found, by the two tests
@@ -49,7 +49,7 @@ module _ (ws : List ℕ) (t : Tree) (I : ImageOf ws t) (text : List ℕ) (B : By
   ends-of = whole-ends t (rule-full t (I .is-rule)) 8 M (carried ws t I) (I .is-rule) text B
 
   last-is : stateWord ws - 1 ≡ accepting t
-  last-is = let e : stateWord ws ≡ states t = ap stateWord (as-arcs ws t I) in omega arith
+  last-is = omega (arith, states-is ws t I)
 
   found : length text ≤ 65535 → endsFound ws text ≡ endsWith M (depth t) (accepting t) text
   found h =

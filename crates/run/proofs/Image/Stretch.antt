@@ -38,7 +38,7 @@ use Rattle.run_word.specs.Shape.{widthOf}
 use Rattle.run_word.proofs.Laws.Shape.{shape-of}
 use Rattle.run.specs.Says.{Gone, StatesAre}
 use Rattle.run.specs.Work.{masksOf, rowAt, ruleMasks, Tabled}
-use Rattle.run.proofs.Image.Carry.{as-arcs, carried, image-shaped}
+use Rattle.run.proofs.Image.Carry.{as-arcs, carried, image-shaped, states-is}
 use Rattle.run.proofs.Image.Live.{depth-is}
 use Rattle.run.proofs.Laws.One.{mask-back, mask-cut, one as one-wide}
 use Rattle.run.proofs.Laws.Table.{back-cut, work-cut}
@@ -148,7 +148,7 @@ module _ (ws : List ℕ) (t : Tree) (I : ImageOf ws t) (fits : Fit ws) (table : 
       w = ew ∙ wide-is
 
       last-is : count - 1 ≡ accepting t
-      last-is = let q : stateWord ws ≡ states t = ap stateWord (as-arcs ws t I) in omega (arith, em, q)
+      last-is = omega (arith, em, states-is ws t I)
 
       row-is : take wide first ≡ mask
       row-is =
@@ -186,4 +186,4 @@ module _ (ws : List ℕ) (t : Tree) (I : ImageOf ws t) (few : stateWord ws ≤ 6
       (record { counted = G .counted; stored = G .stored; runs = G .runs }))
     where
       last-is : stateWord ws - 1 ≡ accepting t
-      last-is = let q : stateWord ws ≡ states t = ap stateWord (as-arcs ws t I) in omega (arith, q)
+      last-is = omega (arith, states-is ws t I)

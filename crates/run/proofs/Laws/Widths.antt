@@ -10,7 +10,8 @@ use Rattle.model.specs.Models.Run.{closeWords, Masks, moveWords, passWords, ret
 use Rattle.model.specs.Models.Verdict.{sameWords}
 use Rattle.model.specs.Models.Words.{orWords}
 use Rattle.model.proofs.Laws.Bool.{cond-cases}
-use Rattle.run_word.proofs.Laws.Back.{each-short, pass-short}
+use Rattle.model.proofs.Words.Operations.{each-short}
+use Rattle.run_word.proofs.Laws.Back.{pass-short}
 use Rattle.run_moves.specs.Less.{startWords}
 use Rattle.run.specs.Work.{rowAt}
 use Rattle.run.proofs.Laws.Rows.{row-short}

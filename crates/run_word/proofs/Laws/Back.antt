@@ -15,15 +15,11 @@ use Rattle.model.specs.Models.Words.{andWords, eachWord, orWords, shiftWords}
 use Rattle.model.proofs.Laws.Bits.{bit-zero, mask-same, no-bit}
 use Rattle.model.proofs.Laws.Bool.{same-truth}
 use Rattle.model.proofs.Words.Back.{ahead-none}
+use Rattle.model.proofs.Words.Operations.{each-short}
 use Rattle.mask.proofs.Laws.Same.{same-exactly, same-true}
 use Rattle.mask.proofs.Laws.Take.{take-each}
 
 -- ---- nothing grows longer
-pub each-short : (f : ℕ → ℕ → ℕ) (xs ys : List ℕ) → length (eachWord f xs ys) ≤ length xs
-each-short f [] ys = omega arith
-each-short f (x ∷ xs) [] = omega arith
-each-short f (x ∷ xs) (y ∷ ys) = let l = each-short f xs ys in omega arith
-
 each-under : (f : ℕ → ℕ → ℕ) (xs ys : List ℕ) → length (eachWord f xs ys) ≤ length ys
 each-under f [] ys = omega arith
 each-under f (x ∷ xs) [] = omega arith

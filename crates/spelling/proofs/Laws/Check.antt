@@ -1,21 +1,15 @@
 -- WHETHER A PROPOSAL IS RIGHT: by the tests of places and length, and by what `follow` says.
-use mathlib.Core.Path.{_≡_, sym, ap, _∙_, subst}
+use mathlib.Core.Path.{_≡_, sym, _∙_, subst}
 use mathlib.Core.Bool.{Bool, false}
 use mathlib.Core.List.{List}
 use Prim.Native.Nat.{ℕ, _-_, _≤_, _<_}
 use native.Mathlib.Omega.{arith}
 use lib.ListN.{drop, length, take}
-use Rattle.model.specs.Answers.{ImageOf}
 use Rattle.model.specs.Edges.{states}
 use Rattle.model.specs.Models.Apart.{stateWord}
-use Rattle.model.specs.Tree.{Tree}
 use Rattle.model.specs.Spelling.{Follow}
-use Rattle.run.proofs.Image.Carry.{as-arcs}
+use Rattle.run.proofs.Image.Carry.{states-is}
 use Rattle.spelling.specs.Work.{FollowSays, RightSays}
-
--- the number of states that an image shows is its tree's
-pub states-is : (ws : List ℕ) (t : Tree) → ImageOf ws t → stateWord ws ≡ states t
-states-is ws t I = ap stateWord (as-arcs ws t I)
 
 module _ (words text : List ℕ) (start end : ℕ) (list : List ℕ) where
   abbrev Says : Bool → Type 0

@@ -1,6 +1,7 @@
 -- `is_right`: each way out is one of the wish's conditions.
 use native.Mathlib.Omega.{arith}
-use Rattle.spelling.proofs.Laws.Check.{followed, outside, states-is, turned, uneven}
+use Rattle.run.proofs.Image.Carry.{states-is}
+use Rattle.spelling.proofs.Laws.Check.{followed, outside, turned, uneven}
 use borrow.Author.Needs.{needs}
 use Rattle.spelling.proofs.is_right.Statement.{statement}
 use Rattle.spelling.proofs.is_right.Tie as tie

@@ -24,7 +24,7 @@ use Rattle.model.proofs.Watch.Ends.{ends-zero}
 use Rattle.model.proofs.Watch.Masks.{mask-test}
 use Rattle.run.specs.Says as run
 use Rattle.run.specs.Work.{Goes}
-use Rattle.run.proofs.Image.Carry.{as-arcs, image-shaped}
+use Rattle.run.proofs.Image.Carry.{as-arcs, image-shaped, states-is}
 use Rattle.run.proofs.Image.Stretch.{states-mask}
 use Rattle.image_check.specs.Says.{CheckSays}
 use Rattle.image_check.specs.declared.Checked.{Checked}
@@ -33,9 +33,6 @@ use Rattle.image_check.proofs.Laws.Found.{Found, found, not-found}
 use Rattle.run_word.specs.Shape.{widthOf}
 use Rattle.run_word.proofs.Laws.Stretch.{noted-few}
 use Rattle.run_word.proofs.Laws.Shape.{shape-of}
-
-states-are : (ws : List ℕ) (t : Tree) → ImageOf ws t → stateWord ws ≡ states t
-states-are ws t I = ap stateWord (as-arcs ws t I)
 
 wide-is : (ws : List ℕ) (t : Tree) → ImageOf ws t → widthOf ws ≡ width (states t)
 wide-is ws t I = ap widthOf (as-arcs ws t I)
@@ -75,7 +72,7 @@ module _ (ws : List ℕ) {r : Checked} (C : CheckSays ws r) {w : ℕ} (g : r .ve
         A = B t I
 
         last-is : count - 1 ≡ accepting t
-        last-is = omega (arith, em, states-are ws t I)
+        last-is = omega (arith, em, states-is ws t I)
 
         same : hit ≡ bit (value words) (accepting t)
         same = looked ∙ ap (bit (value words)) last-is
@@ -96,7 +93,7 @@ module _ (ws : List ℕ) {r : Checked} (C : CheckSays ws r) {w : ℕ} (g : r .ve
 
     module _ (small : length stretch ≤ 65535) {count : ℕ} (em : count ≡ stateWord ws) (fits : Fit mask) {b : Bool} (test : b ≡ isMask count mask) where
       e : count ≡ states t
-      e = em ∙ states-are ws t I
+      e = em ∙ states-is ws t I
 
       is : T b ↔ IsMask (states t) mask
       is =

@@ -1,24 +1,20 @@
 -- THE REPEATS COMPARED: part b is the byte's mask of the letters at the loops' places, of which word j is made of word j of both.
 use mathlib.Core.Path.{_≡_, refl, sym, ap, _∙_, subst}
 use mathlib.Core.Bool.{true, false}
-use mathlib.Core.List.{List, [], _∷_}
-use Prim.Native.Nat.{ℕ, suc, _+_, _*_, _≤_, _<_}
-use native.Mathlib.Nat.{le-of-suc-le-suc, mul-comm, mul-le-mul-left, not-suc-le-zero}
+use mathlib.Core.List.{List}
+use Prim.Native.Nat.{ℕ, _+_, _*_, _≤_, _<_}
+use native.Mathlib.Nat.{mul-comm, mul-le-mul-left}
 use native.Mathlib.Omega.{arith}
 use lib.Bits.{bitAnd}
 use lib.ListN.{getD, length}
-use Rattle.model.specs.Models.Words.{andWords, eachWord}
+use Rattle.model.specs.Models.Words.{andWords}
 use Rattle.mask.proofs.Laws.Each.{each-word}
 use Rattle.model.proofs.Image.Address.{part-fits}
+use Rattle.model.proofs.Words.Operations.{each-first}
 use Rattle.image.proofs.Laws.Parts.{AllLong}
 use Rattle.image_apart.specs.Work.{wordsAt}
 use Rattle.image_check.specs.Work.{sameRepeats}
 use Rattle.image_check.proofs.Laws.Compare.{differ-here, length-there, same-all, same-more, same-none, SameTo, word-there}
-
-length-each : (op : ℕ → ℕ → ℕ) (xs ys : List ℕ) → length xs ≤ length ys → length (eachWord op xs ys) ≡ length xs
-length-each op [] ys h = refl
-length-each op (x ∷ xs) [] h = absurd (not-suc-le-zero h)
-length-each op (x ∷ xs) (y ∷ ys) h = ap suc (length-each op xs ys (le-of-suc-le-suc h))
 
 abbrev pub loopedRow : List ℕ → ℕ → List ℕ → ℕ → List ℕ
 loopedRow ws W loops b = andWords (wordsAt ws (5 + W * b) W) loops
@@ -30,7 +26,7 @@ module _ (ws : List ℕ) (W : ℕ) (loops : List ℕ) (fits : 6 + 512 * W ≤ le
   looped-long : W ≤ length loops → AllLong W 256 (loopedRow ws W loops)
   looped-long narrow b h =
       let e = length-letters b h in
-      length-each bitAnd (wordsAt ws (5 + W * b) W) loops (omega arith) ∙ e
+      each-first bitAnd (wordsAt ws (5 + W * b) W) loops (omega arith) ∙ e
 
   looped-word : W ≤ length loops → (b j : ℕ) → b < 256 → j < W
       → getD (loopedRow ws W loops b) j 0 ≡ bitAnd (getD ws (5 + W * b + j) 0) (getD loops j 0)

@@ -67,9 +67,6 @@ fromScatter c = scatterIs c && fromGather c
 abbrev fromRepeats : tie.Start → Bool
 fromRepeats c = repeatsAre c && fromScatter c
 
-abbrev all : tie.Start → Bool
-all c = lettersAre c && fromRepeats c
-
 -- the masks are those that are laid out for the tape
 scatter-same : (s : tie.Start)
     → let a = s .args in

@@ -2,8 +2,8 @@
 // is dropped" (document 02, Wish 3). "A bracketed group may take `*` .. `+` on a group is the group and then its `*`" (Wish 12).
 use crate::Alternatives;
 use crate::Part;
-use crate::tokens::double;
-use crate::tokens::enclose;
+use crate::rows::double;
+use crate::rows::enclose;
 use rule_bytes::byte_at;
 use tokens::token::Mark;
 use tokens::token::Repeat;

@@ -6,7 +6,7 @@ ghost use Rattle.rule.specs.Tokens.{noTokens};
 
 mod groups;
 mod readers;
-mod tokens;
+mod rows;
 
 use crate::groups::bracket;
 use crate::readers::read_alternatives;

@@ -3,9 +3,9 @@
 use crate::Alternatives;
 use crate::Part;
 use crate::groups::close_item;
-use crate::tokens::BAR;
-use crate::tokens::put_letter;
-use crate::tokens::put_union;
+use crate::rows::BAR;
+use crate::rows::put_letter;
+use crate::rows::put_union;
 use rule_bytes::byte_at;
 use rule_letters::Class;
 use rule_letters::Letter;

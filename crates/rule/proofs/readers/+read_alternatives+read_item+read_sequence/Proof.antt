@@ -33,7 +33,7 @@ use Rattle.rule.proofs.groups.close_item.Reads as close-item-reads
 use Rattle.rule.proofs.readers.is_over.Reads as is-over-reads
 use Rattle.rule.proofs.readers.read_piece.Reads as read-piece-reads
 use Rattle.rule.proofs.readers.several.Reads as several-reads
-use Rattle.rule.proofs.tokens.put_union.Reads as put-union-reads
+use Rattle.rule.proofs.rows.put_union.Reads as put-union-reads
 use Rattle.rule.proofs.readers.+read_alternatives+read_item+read_sequence.{statement}
 use Rattle.rule.proofs.readers.+read_alternatives+read_item+read_sequence.Tie.{close}
 

@@ -7,8 +7,8 @@ use borrow.Author.Needs.{needs}
 use lib.ListN.{drop, length, take}
 use lib.Seq.{sets}
 use Rattle.rule.proofs.Laws.Writes.{Moved, moved-all, moved-none, moved-one}
-use Rattle.rule.proofs.tokens.shift.Statement.{statement}
-use Rattle.rule.proofs.tokens.shift.Tie as tie
+use Rattle.rule.proofs.rows.shift.Statement.{statement}
+use Rattle.rule.proofs.rows.shift.Tie as tie
 
 abbrev Inv-loop : tie.InvT-loop
 Inv-loop tokens₀ from to by all gap i₀ stop tokens i =

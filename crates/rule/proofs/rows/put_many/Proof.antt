@@ -10,8 +10,8 @@ use Rattle.rule_letters.specs.Classes.{wordsOf}
 use Rattle.rule.specs.Tokens.{cut, timesWords}
 use Rattle.rule.proofs.Laws.Stands.{sets-alike}
 use Rattle.rule.proofs.Laws.Written.{sets-times}
-use Rattle.rule.proofs.tokens.put_many.Statement.{statement}
-use Rattle.rule.proofs.tokens.put_many.Tie as tie
+use Rattle.rule.proofs.rows.put_many.Statement.{statement}
+use Rattle.rule.proofs.rows.put_many.Tie as tie
 
 abbrev Inv-loop : tie.InvT-loop
 Inv-loop tokens₀ n count kind class next₀ i₀ tokens next i =

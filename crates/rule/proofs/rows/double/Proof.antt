@@ -1,8 +1,8 @@
 -- `double`: as many tokens more as there are, and no number past 512.
 use native.Mathlib.Omega.{arith}
 use borrow.Author.Needs.{needs}
-use Rattle.rule.proofs.tokens.double.Statement.{statement}
-use Rattle.rule.proofs.tokens.double.Tie as tie
+use Rattle.rule.proofs.rows.double.Statement.{statement}
+use Rattle.rule.proofs.rows.double.Tie as tie
 
 sub-count : tie.Need-sub-count
 sub-count c = search needs

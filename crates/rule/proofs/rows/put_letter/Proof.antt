@@ -19,8 +19,8 @@ use Rattle.rule.specs.Tokens.{cut, Stands, timesWords}
 use Rattle.rule_signs.specs.declared.Repeat.{Repeat}
 use Rattle.rule.proofs.Laws.Stands.{sets-alike}
 use Rattle.rule.proofs.Laws.Written.{copies-length, letter-words, times-length, times-row}
-use Rattle.rule.proofs.tokens.put_letter.Statement.{statement}
-use Rattle.rule.proofs.tokens.put_letter.Tie as tie
+use Rattle.rule.proofs.rows.put_letter.Statement.{statement}
+use Rattle.rule.proofs.rows.put_letter.Tie as tie
 
 class-fits : (s : tie.Start) → Fit (wordsOf (s .args .class))
 class-fits s = let g = s .good .1 .1 .0 .1 .1 in (g .0 .1, (g .1 .0 .1, (g .1 .1 .0 .1, (g .1 .1 .1 .0 .1, tt))))

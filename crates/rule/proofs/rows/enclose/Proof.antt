@@ -6,8 +6,8 @@ use native.Mathlib.Omega.{arith}
 use borrow.Author.Needs.{needs}
 use lib.Seq.{sets}
 use Rattle.model.specs.Image.{words}
-use Rattle.rule.proofs.tokens.enclose.Statement.{statement}
-use Rattle.rule.proofs.tokens.enclose.Tie as tie
+use Rattle.rule.proofs.rows.enclose.Statement.{statement}
+use Rattle.rule.proofs.rows.enclose.Tie as tie
 
 insert-open-requires : tie.Need-insert-open-requires
 insert-open-requires c κs = search needs

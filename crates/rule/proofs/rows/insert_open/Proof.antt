@@ -9,8 +9,8 @@ use lib.Seq.{sets}
 use Rattle.model.specs.Models.Tokens.{anOpen}
 use Rattle.tokens_masks.specs.Rows.{tokenWords}
 use Rattle.rule.proofs.Laws.Writes.{sets-before}
-use Rattle.rule.proofs.tokens.insert_open.Statement.{statement}
-use Rattle.rule.proofs.tokens.insert_open.Tie as tie
+use Rattle.rule.proofs.rows.insert_open.Statement.{statement}
+use Rattle.rule.proofs.rows.insert_open.Tie as tie
 
 shift-requires : tie.Need-shift-requires
 shift-requires c κs = search needs

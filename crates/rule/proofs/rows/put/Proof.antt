@@ -7,8 +7,8 @@ use native.Mathlib.Omega.{arith}
 use borrow.Author.Needs.{needs}
 use Rattle.rule_letters.specs.Classes.{wordsOf}
 use Rattle.rule.proofs.Laws.Writes.{sets-past}
-use Rattle.rule.proofs.tokens.put.Statement.{statement}
-use Rattle.rule.proofs.tokens.put.Tie as tie
+use Rattle.rule.proofs.rows.put.Statement.{statement}
+use Rattle.rule.proofs.rows.put.Tie as tie
 
 room-requires : tie.Need-room-requires
 room-requires c κs = search needs

@@ -5,8 +5,8 @@ use Prim.Native.Nat.{ℕ, _*_}
 use borrow.Author.Needs.{needs}
 use lib.Seq.{sets}
 use Rattle.rule_letters.proofs.Laws.Classes.{no-words}
-use Rattle.rule.proofs.tokens.put_union.Statement.{statement}
-use Rattle.rule.proofs.tokens.put_union.Tie as tie
+use Rattle.rule.proofs.rows.put_union.Statement.{statement}
+use Rattle.rule.proofs.rows.put_union.Tie as tie
 
 none-requires : tie.Need-none-requires
 none-requires c κs = search needs

@@ -8,7 +8,7 @@ use Rattle.model.specs.Grammar.{IsRule}
 use Rattle.model.specs.Image.{image}
 use Rattle.model.specs.Models.Tokens.{tokens}
 use Rattle.model.specs.Tree.{Tree}
-use Rattle.tokens_masks.specs.Rows.{rowWords}
+use Rattle.tokens.specs.Rows.{rowWords}
 use Rattle.image.specs.declared.Stored.{Stored}
 use Rattle.image.specs.declared.Stored.the-variants.{Done, NoRoom, NoTree}
 

@@ -2,7 +2,7 @@
 use mathlib.Core.Path.{_≡_}
 use mathlib.Core.Bool.{Bool, true, false}
 use mathlib.Core.List.{List, [], _∷_, _++_}
-use Prim.Native.Nat.{ℕ, zero, suc, _+_, _*_, _/_, _%_, _^_, _<_, min}
+use Prim.Native.Nat.{ℕ, zero, suc, _+_, _*_, _/_, _%_, _^_, _<_}
 use lib.Bits.{bitOr}
 use lib.ListN.{drop, getD, set, take}
 use Rattle.model.specs.Bits.{bit}
@@ -10,13 +10,14 @@ use Rattle.model.specs.Image.{join, section}
 use Rattle.model.specs.Models.LayOut.{back-source, back-target, gather-block, gather-source, gather-target, loop-place, scatter-block, scatter-source, scatter-target}
 use Rattle.model.specs.Models.LayOut.{set as statesIn}
 use Rattle.model.specs.Models.Words.{andWords}
+use Rattle.tokens.specs.Kinds.{kindIn}
 use Rattle.tokens_masks.specs.Tables.{Table}
 use Rattle.tokens_masks.specs.Tapes.{propagateBlockTable, propagateSourceTable, propagateTargetTable, tableOf}
 use Rattle.tokens_masks.specs.declared.Tape.{Tape}
 
--- the kinds of a tape are those of the tokens; what is past the kinds of tokens is the close of a group with `*`
+-- the kinds of a tape are those of the tokens
 abbrev pub KindsAre : List ℕ → List ℕ → Type 0
-KindsAre row kinds = (i : ℕ) → i < 511 → getD kinds i 0 ≡ min (getD row (5 * i) 0) 8
+KindsAre row kinds = (i : ℕ) → i < 511 → getD kinds i 0 ≡ kindIn (getD row (5 * i) 0)
 
 -- byte b is in the class of token i; token i leads to state i + 1
 abbrev pub inClass : List ℕ → ℕ → ℕ → Bool

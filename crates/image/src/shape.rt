@@ -1,16 +1,10 @@
 // The tape of a row of tokens, and how long an image is.
+use tokens::kind::kind_in;
 use tokens_masks::Tape;
 ghost use mathlib.Core.Path.{_≡_};
-ghost use Prim.Native.Nat.{_+_, _*_, _≤_, min};
+ghost use Prim.Native.Nat.{_+_, _*_, _≤_};
 ghost use Rattle.model.specs.Image.{width as widthOf};
 ghost use Rattle.image.specs.Work.{KindsAre};
-
-// A kind of the tape; what is past the kinds of tokens is to it the close of a group with `*`.
-fn kind_of(word: u64) -> u8
-    ensures { λ r. ⌜ r ≡ min word 8 ⌝ }
-{
-    if word < 8 { word as u8 } else { 8 }
-}
 
 // The tokens without their classes.
 pub fn tape_of(tokens: [u64; 2555], length: usize) -> Tape
@@ -20,7 +14,7 @@ pub fn tape_of(tokens: [u64; 2555], length: usize) -> Tape
     let mut kinds = [0u8; 512];
     let mut i: usize = 0;
     while i < 511 {
-        kinds[i] = kind_of(tokens[5 * i]);
+        kinds[i] = kind_in(tokens[5 * i]);
         i += 1;
     }
     Tape { kinds, length }

@@ -11,7 +11,7 @@ use Rattle.model.specs.Image.{width}
 use Rattle.model.specs.Models.Apart.{backAt, depthWord, gatherAt, markOf, propagateAt, repeatOf, scatterAt, stateWord, widthWord}
 use Rattle.model.specs.Models.Words.{eachWord, value}
 use Rattle.tokens_masks.specs.Joins.{joinWord, Only}
-use Rattle.tokens_masks.specs.Rows.{markKind, repeatKind}
+use Rattle.tokens.specs.Kinds.{barKind, markKind, openKind, repeatKind}
 use Rattle.tokens_masks.specs.declared.Tape.{Tape}
 use Rattle.image_apart.specs.declared.Header.{Header}
 use Rattle.image_apart.specs.declared.Header.the-variants.{Other, Sound}
@@ -84,7 +84,7 @@ abbrev pub kindAt : Marks → ℕ → ℕ
 kindAt marks i =
     cond (bit (value (marks .letters)) (suc i)) (repeatKind (repeatOf (bit (value (marks .entered)) (suc i)) (bit (value (marks .loops)) (suc i))))
     (cond (bit (value (marks .closes)) (suc i)) (markKind (markOf (bit (value (marks .entered)) (suc i)) (bit (value (marks .returns)) i)))
-    (cond (bit (value (marks .opens)) i) 4 5))
+    (cond (bit (value (marks .opens)) i) openKind barKind))
 
 pub record ShownBy (marks : Marks) (n : ℕ) (t : Tape) : Type 0 where
   pub long : t .length ≡ n

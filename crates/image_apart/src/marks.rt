@@ -1,11 +1,20 @@
 // What the masks show: the states that some of them have, and by these the tape. Anything odd is a bar: the comparison with what is laid out will tell.
 use mask::bits::row_has_bit;
+use tokens::kind::BAR;
+use tokens::kind::CLOSE_OPTIONAL;
+use tokens::kind::CLOSE_STARRED;
+use tokens::kind::CLOSE_UNMARKED;
+use tokens::kind::ONCE;
+use tokens::kind::OPEN;
+use tokens::kind::OPTION;
+use tokens::kind::PLUS;
+use tokens::kind::STAR;
 use tokens_masks::Tape;
 ghost use mathlib.Core.Path.{_≡_};
 ghost use Prim.Native.Nat.{_+_, _*_, _≤_, _<_};
 ghost use lib.ListN.{length as lengthOf};
 ghost use Rattle.model.specs.Models.Apart.{markOf, repeatOf};
-ghost use Rattle.tokens_masks.specs.Rows.{markKind, repeatKind};
+ghost use Rattle.tokens.specs.Kinds.{markKind, repeatKind};
 ghost use Rattle.image_apart.specs.Work.{ShownBy, enteredRow, enteredWords, kindAt, marksOf, orFirst, someRow, someWord};
 
 // The states that some mask has: of the letters, of the repeats, of those that a propagate edge enters, of the gather targets, of the scatter
@@ -105,9 +114,9 @@ fn letter_kind(skips: bool, loops: bool) -> u8
     ensures { λ r. ⌜ r ≡ repeatKind (repeatOf «skips» «loops») ⌝ }
 {
     if skips {
-        if loops { 2 } else { 1 }
+        if loops { STAR } else { OPTION }
     } else {
-        if loops { 3 } else { 0 }
+        if loops { PLUS } else { ONCE }
     }
 }
 
@@ -116,9 +125,9 @@ fn close_kind(over: bool, returns: bool) -> u8
     ensures { λ r. ⌜ r ≡ markKind (markOf over returns) ⌝ }
 {
     if returns {
-        return 8;
+        return CLOSE_STARRED;
     }
-    if over { 7 } else { 6 }
+    if over { CLOSE_OPTIONAL } else { CLOSE_UNMARKED }
 }
 
 // The token from state i to the next.
@@ -138,7 +147,7 @@ fn kind_at(marks: Marks, i: usize) -> u8
     if row_has_bit(closes, i + 1) {
         return close_kind(row_has_bit(entered, i + 1), row_has_bit(returns, i));
     }
-    if row_has_bit(opens, i) { 4 } else { 5 }
+    if row_has_bit(opens, i) { OPEN } else { BAR }
 }
 
 pub fn shown_tape(marks: Marks, length: usize) -> Tape

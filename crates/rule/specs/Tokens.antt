@@ -1,4 +1,4 @@
--- TOKENS AS THE READERS WRITE THEM, five words for each (tape, specs/Rows): the rows of alternatives, what is done to a row of words, and what it is for
+-- TOKENS AS THE READERS WRITE THEM, five words for each (crate tokens, specs/Rows): the rows of alternatives, what is done to a row of words, and what it is for
 -- a row to stand in the buffer.
 use mathlib.Core.Path.{_≡_}
 use mathlib.Core.List.{List, [], _∷_, _++_}
@@ -7,7 +7,7 @@ use lib.ListN.{drop, length, replicate, take}
 use lib.Seq.{sets}
 use Rattle.model.specs.Models.Tokens.{aBar, aClose, anOpen, Token, tokens}
 use Rattle.model.specs.Tree.{Alts, last, Mark, more}
-use Rattle.tokens_masks.specs.Rows.{rowWords, tokenWords}
+use Rattle.tokens.specs.Rows.{rowWords, tokenWords}
 
 -- n times the same words
 abbrev pub timesWords : ℕ → List ℕ → List ℕ

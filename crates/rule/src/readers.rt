@@ -3,16 +3,17 @@
 use crate::Alternatives;
 use crate::Part;
 use crate::groups::close_item;
-use crate::rows::BAR;
 use crate::rows::put_letter;
 use crate::rows::put_union;
 use rule_bytes::byte_at;
 use rule_letters::Class;
 use rule_letters::Letter;
 use rule_letters::read_letter;
-use rule_signs::Repeat;
+use rule_signs::HowOften;
 use rule_signs::Sign;
 use rule_signs::read_sign;
+use tokens::kind::BAR;
+use tokens::token::can_skip;
 ghost use mathlib.Core.Bool.{true};
 ghost use mathlib.Core.Path.{_≡_};
 ghost use Prim.Native.Nat.{ℕ};
@@ -26,15 +27,12 @@ ghost use Rattle.rule_signs.specs.Answers.{signOf};
 ghost use Rattle.rule.specs.Parts.{afterLetter, AlternativesSay, PartSays, Ready, severalOf};
 
 // Whether a letter with this sign may be left out: `{0,y}` is options alone.
-fn can_be_left_out(repeat: Repeat) -> bool
-    ensures { λ r. ⌜ ((c : ℕ) → r ≡ seqEmpty (repeated c (signOf repeat))) ⌝ }
+fn can_be_left_out(how_often: HowOften) -> bool
+    ensures { λ r. ⌜ ((c : ℕ) → r ≡ seqEmpty (repeated c (signOf «how_often»))) ⌝ }
 {
-    match repeat {
-        Repeat::Once => false,
-        Repeat::Option => true,
-        Repeat::Star => true,
-        Repeat::Plus => false,
-        Repeat::Times(x, _) => x == 0,
+    match how_often {
+        HowOften::Plainly(repeat) => can_skip(repeat),
+        HowOften::Times(x, _) => x == 0,
     }
 }
 
@@ -45,9 +43,9 @@ fn read_repeated(rule: &[u8], at: usize, class: Class, tokens: &mut [u64; 2555],
 {
     let sign = read_sign(rule, at);
     match sign {
-        Sign::Got(repeat, p) => {
-            let next = put_letter(tokens, n, class, repeat);
-            Part::Got(p, next, can_be_left_out(repeat))
+        Sign::Got(how_often, p) => {
+            let next = put_letter(tokens, n, class, how_often);
+            Part::Got(p, next, can_be_left_out(how_often))
         }
         Sign::Bad(p) => Part::Bad(p),
     }

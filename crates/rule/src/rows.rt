@@ -2,7 +2,12 @@
 // lies past them is not written, and the number of a token stops at 512: a group with `+` doubles its tokens, so there may be more than can be counted.
 use rule_letters::Class;
 use rule_letters::none;
-use rule_signs::Repeat;
+use rule_signs::HowOften;
+use tokens::kind::ONCE;
+use tokens::kind::OPEN;
+use tokens::kind::OPTION;
+use tokens::kind::mark_kind;
+use tokens::kind::repeat_kind;
 use tokens::token::Mark;
 ghost use mathlib.Core.Path.{_≡_};
 ghost use mathlib.Core.List.{[], _∷_};
@@ -16,28 +21,8 @@ ghost use Rattle.rule_signs.specs.Answers.{signOf};
 ghost use Rattle.rule_letters.specs.Classes.{bytesOf, wordsOf};
 ghost use Rattle.tokens.specs.Tokens.{markOf};
 ghost use Rattle.rule_signs.specs.Repeats.{Bounded};
-ghost use Rattle.tokens_masks.specs.Rows.{markKind, tokenWords};
+ghost use Rattle.tokens.specs.Rows.{tokenWords};
 ghost use Rattle.rule.specs.Tokens.{copied, cut, enclosed, Numbered, opened, Stands, timesWords};
-
-// The kinds of tokens: a letter taken once, `?`, `*` or `+`; a union's open, bar and close, a close with an edge over its union, and one with an edge back
-// besides.
-pub const ONCE: u64 = 0;
-
-pub const OPTION: u64 = 1;
-
-pub const STAR: u64 = 2;
-
-pub const PLUS: u64 = 3;
-
-pub const OPEN: u64 = 4;
-
-pub const BAR: u64 = 5;
-
-pub const CLOSE: u64 = 6;
-
-pub const CLOSE_OVER: u64 = 7;
-
-pub const CLOSE_BACK: u64 = 8;
 
 // How many words there is room for: behind a reference to an array only the slice of all of it tells its length.
 fn room(tokens: &[u64]) -> usize
@@ -47,7 +32,7 @@ fn room(tokens: &[u64]) -> usize
 }
 
 // Token n, and the number of the token after it.
-pub fn put(tokens: &mut [u64; 2555], n: usize, kind: u64, class: Class) -> usize
+pub fn put(tokens: &mut [u64; 2555], n: usize, kind: u8, class: Class) -> usize
     ensures count { λ r. ⌜ r ≡ cut (n + 1) ⌝ }
     ensures written { λ r. ⌜ now (tokens .exit) ≡ sets (now (tokens .entry)) (5 * n) (kind ∷ wordsOf class) ⌝ }
 {
@@ -55,7 +40,7 @@ pub fn put(tokens: &mut [u64; 2555], n: usize, kind: u64, class: Class) -> usize
         return 512;
     }
     let at = 5 * n;
-    tokens[at] = kind;
+    tokens[at] = kind as u64;
     tokens[at + 1] = class.word0;
     tokens[at + 2] = class.word1;
     tokens[at + 3] = class.word2;
@@ -64,7 +49,7 @@ pub fn put(tokens: &mut [u64; 2555], n: usize, kind: u64, class: Class) -> usize
 }
 
 // Token n, a union's open, bar or close: one that has no class.
-pub fn put_union(tokens: &mut [u64; 2555], n: usize, kind: u64) -> usize
+pub fn put_union(tokens: &mut [u64; 2555], n: usize, kind: u8) -> usize
     ensures count { λ r. ⌜ r ≡ cut (n + 1) ⌝ }
     ensures written { λ r. ⌜ now (tokens .exit) ≡ sets (now (tokens .entry)) (5 * n) (kind ∷ words 4 0) ⌝ }
 {
@@ -72,7 +57,7 @@ pub fn put_union(tokens: &mut [u64; 2555], n: usize, kind: u64) -> usize
 }
 
 // The token n and those after it up to n + count - 1, all alike, and the number of the token after them.
-fn put_many(tokens: &mut [u64; 2555], n: usize, count: usize, kind: u64, class: Class) -> usize
+fn put_many(tokens: &mut [u64; 2555], n: usize, count: usize, kind: u8, class: Class) -> usize
     requires { ⌜ (length (now tokens) ≡ 2555) × (n ≤ 512) ⌝ }
     ensures count { λ r. ⌜ r ≡ cut (n + count) ⌝ }
     ensures written { λ r. ⌜ now (tokens .exit) ≡ sets (now (tokens .entry)) (5 * n) (timesWords count (kind ∷ wordsOf class)) ⌝ }
@@ -110,17 +95,6 @@ fn insert_open(tokens: &mut [u64; 2555], from: usize, to: usize)
     put_union(tokens, from, OPEN);
 }
 
-// The kind of a close that shows this mark.
-fn close_kind(mark: Mark) -> u64
-    ensures { λ r. ⌜ r ≡ markKind (markOf mark) ⌝ }
-{
-    match mark {
-        Mark::Unmarked => CLOSE,
-        Mark::Optional => CLOSE_OVER,
-        Mark::Starred => CLOSE_BACK,
-    }
-}
-
 // A union's open before the tokens `from` to `to` less 1, and after them its close, which shows this mark; the number of the token after it.
 pub fn enclose(tokens: &mut [u64; 2555], from: usize, to: usize, mark: Mark) -> usize
     requires { ⌜ Numbered from to ⌝ }
@@ -128,7 +102,7 @@ pub fn enclose(tokens: &mut [u64; 2555], from: usize, to: usize, mark: Mark) -> 
     ensures written { λ r. ⌜ now (tokens .exit) ≡ enclosed (now (tokens .entry)) from to (markOf mark) ⌝ }
 {
     insert_open(tokens, from, to);
-    put_union(tokens, to + 1, close_kind(mark))
+    put_union(tokens, to + 1, mark_kind(mark))
 }
 
 // The tokens `from` to `to` less 1 once more, after them; the number of the token after those.
@@ -143,16 +117,13 @@ pub fn double(tokens: &mut [u64; 2555], from: usize, to: usize) -> usize
 }
 
 // A letter with its repeat sign, from token n on, and the number of the token after it.
-pub fn put_letter(tokens: &mut [u64; 2555], n: usize, class: Class, repeat: Repeat) -> usize
-    requires { ⌜ (length (now tokens) ≡ 2555) × (n ≤ 512) × Bounded (signOf repeat) ⌝ }
-    ensures { λ r. ⌜ Stands (now (tokens .entry)) (now (tokens .exit)) n r (tokensOf (repeated (bytesOf class) (signOf repeat)) []) ⌝ }
+pub fn put_letter(tokens: &mut [u64; 2555], n: usize, class: Class, how_often: HowOften) -> usize
+    requires { ⌜ (length (now tokens) ≡ 2555) × (n ≤ 512) × Bounded (signOf «how_often») ⌝ }
+    ensures { λ r. ⌜ Stands (now (tokens .entry)) (now (tokens .exit)) n r (tokensOf (repeated (bytesOf class) (signOf «how_often»)) []) ⌝ }
 {
-    match repeat {
-        Repeat::Once => put(tokens, n, ONCE, class),
-        Repeat::Option => put(tokens, n, OPTION, class),
-        Repeat::Star => put(tokens, n, STAR, class),
-        Repeat::Plus => put(tokens, n, PLUS, class),
-        Repeat::Times(x, y) => {
+    match how_often {
+        HowOften::Plainly(repeat) => put(tokens, n, repeat_kind(repeat), class),
+        HowOften::Times(x, y) => {
             let next = put_many(tokens, n, y - x, OPTION, class);
             put_many(tokens, next, x, ONCE, class)
         }

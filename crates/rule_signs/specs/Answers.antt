@@ -2,16 +2,16 @@
 -- first byte that cannot be read.
 use mathlib.Core.List.{List}
 use Prim.Native.Nat.{ℕ}
-use Rattle.model.specs.Tree.{once, option, plus, star}
 use Rattle.model.specs.Grammar.{plainly, Sign as SignRead, times}
 use Rattle.model.specs.Models.Reader.{Read}
 use Rattle.rule_bytes.specs.Places.{Stopped, Took}
+use Rattle.tokens.specs.Tokens.{repeatOf}
 use Rattle.rule_signs.specs.declared.Number.{Number}
 use Rattle.rule_signs.specs.declared.Number.the-variants.{Bad as noNumber, Got as aNumber}
 use Rattle.rule_signs.specs.declared.Bounds.{Bounds}
 use Rattle.rule_signs.specs.declared.Bounds.the-variants.{Bad as noBounds, Got as someBounds}
-use Rattle.rule_signs.specs.declared.Repeat.{Repeat}
-use Rattle.rule_signs.specs.declared.Repeat.the-variants.{Once, Option, Plus, Star, Times}
+use Rattle.rule_signs.specs.declared.HowOften.{HowOften}
+use Rattle.rule_signs.specs.declared.HowOften.the-variants.{Plainly, Times}
 use Rattle.rule_signs.specs.declared.Sign.{Sign}
 use Rattle.rule_signs.specs.declared.Sign.the-variants.{Bad as noSign, Got as aSign}
 
@@ -24,11 +24,8 @@ BoundsSays rule m (someBounds x y p) = Took rule m (x, y) p
 BoundsSays rule m (noBounds p) = Stopped rule m p
 
 -- a repeat sign as document 01 names it
-abbrev pub signOf : Repeat → SignRead
-signOf Once = plainly once
-signOf Option = plainly option
-signOf Star = plainly star
-signOf Plus = plainly plus
+abbrev pub signOf : HowOften → SignRead
+signOf (Plainly r) = plainly (repeatOf r)
 signOf (Times x y) = times x y
 
 abbrev pub SignSays : List ℕ → Read SignRead → Sign → Type 0

@@ -3,6 +3,7 @@
 // which that is out of reach.
 use rule_bytes::byte_at;
 use rule_bytes::is_digit;
+use tokens::token::Repeat;
 ghost use mathlib.Core.Bool.{true};
 ghost use mathlib.Core.Path.{_≡_};
 ghost use Prim.Native.Nat.{_-_, _≤_};
@@ -24,18 +25,15 @@ enum Bounds {
     Bad(usize),
 }
 
-// How often a letter is taken.
-pub enum Repeat {
-    Once,
-    Option,
-    Star,
-    Plus,
+// How often a letter is taken: by one sign or none, or by the numbers in braces.
+pub enum HowOften {
+    Plainly(Repeat),
     Times(usize, usize),
 }
 
 // A letter's repeat sign.
 pub enum Sign {
-    Got(Repeat, usize),
+    Got(HowOften, usize),
     Bad(usize),
 }
 
@@ -158,7 +156,7 @@ fn close(rule: &[u8], at: usize, x: usize, y: usize) -> Sign
     if byte_at(rule, at) != b'}' {
         return Sign::Bad(at);
     }
-    Sign::Got(Repeat::Times(x, y), at + 1)
+    Sign::Got(HowOften::Times(x, y), at + 1)
 }
 
 // Braces, after their `{`.
@@ -178,20 +176,20 @@ pub fn read_sign(rule: &[u8], at: usize) -> Sign
     ensures { λ r. ⌜ SignSays (now (rule .entry)) (readSign (drop at (now (rule .entry)))) r ⌝ }
 {
     if at >= rule.len() {
-        return Sign::Got(Repeat::Once, rule.len());
+        return Sign::Got(HowOften::Plainly(Repeat::Once), rule.len());
     }
     let x = rule[at];
     if x == b'?' {
-        return Sign::Got(Repeat::Option, at + 1);
+        return Sign::Got(HowOften::Plainly(Repeat::Option), at + 1);
     }
     if x == b'*' {
-        return Sign::Got(Repeat::Star, at + 1);
+        return Sign::Got(HowOften::Plainly(Repeat::Star), at + 1);
     }
     if x == b'+' {
-        return Sign::Got(Repeat::Plus, at + 1);
+        return Sign::Got(HowOften::Plainly(Repeat::Plus), at + 1);
     }
     if x == b'{' {
         return read_braces(rule, at + 1);
     }
-    Sign::Got(Repeat::Once, at)
+    Sign::Got(HowOften::Plainly(Repeat::Once), at)
 }

@@ -1,5 +1,4 @@
--- TOKENS OF A TAPE: what the code's tokens and numbers stand for in the model.
-use Prim.Native.Nat.{ℕ, zero, suc}
+-- TOKENS OF A TAPE: what the code's tokens stand for in the model.
 use Rattle.model.specs.Models.Tokens.{aBar, aClose, aLetter, anOpen}
 use Rattle.model.specs.Models.Tokens as model
 use Rattle.model.specs.Tree.{once, option, optional, plus, star, starred, unmarked}
@@ -29,15 +28,9 @@ tokenOf Open = anOpen
 tokenOf Bar = aBar
 tokenOf (Close m) = aClose (markOf m)
 
--- 0 to 3 a letter, taken once, `?`, `*` or `+`; 4 an open, 5 a bar, 6 a close, 7 one with an edge over its union; all else is a close of a group with `*`,
--- which is written 8
-abbrev pub readKind : ℕ → Token
-readKind zero = Letter Once
-readKind (suc zero) = Letter Option
-readKind (suc (suc zero)) = Letter Star
-readKind (suc (suc (suc zero))) = Letter Plus
-readKind (suc (suc (suc (suc zero)))) = Open
-readKind (suc (suc (suc (suc (suc zero))))) = Bar
-readKind (suc (suc (suc (suc (suc (suc zero)))))) = Close Unmarked
-readKind (suc (suc (suc (suc (suc (suc (suc zero))))))) = Close Optional
-readKind (suc (suc (suc (suc (suc (suc (suc (suc k)))))))) = Close Starred
+-- the token without its class
+abbrev pub bare : model.Token → model.Token
+bare (aLetter c r) = aLetter 0 r
+bare anOpen = anOpen
+bare aBar = aBar
+bare (aClose m) = aClose m

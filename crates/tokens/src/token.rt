@@ -1,7 +1,7 @@
-// Tokens, and the numbers that stand for them on a tape.
+// Tokens, and what their signs say: may be left out, may be taken again.
 ghost use mathlib.Core.Path.{_≡_};
 ghost use Rattle.model.specs.Tree.{canLoop, canOmit, canReturn, canSkip};
-ghost use Rattle.tokens.specs.Tokens.{markOf, readKind, repeatOf};
+ghost use Rattle.tokens.specs.Tokens.{markOf, repeatOf};
 
 // How often a letter is taken: once, `?`, `*`, `+`.
 pub enum Repeat {
@@ -25,23 +25,6 @@ pub enum Token {
     Open,
     Bar,
     Close(Mark),
-}
-
-// The token that a number on the tape stands for.
-pub fn read_kind(kind: u8) -> Token
-    ensures { λ r. ⌜ r ≡ readKind kind ⌝ }
-{
-    match kind {
-        0 => Token::Letter(Repeat::Once),
-        1 => Token::Letter(Repeat::Option),
-        2 => Token::Letter(Repeat::Star),
-        3 => Token::Letter(Repeat::Plus),
-        4 => Token::Open,
-        5 => Token::Bar,
-        6 => Token::Close(Mark::Unmarked),
-        7 => Token::Close(Mark::Optional),
-        _ => Token::Close(Mark::Starred),
-    }
 }
 
 // A letter that may be left out.

@@ -15,7 +15,8 @@ use Rattle.model.specs.Models.Tokens as tokens
 use Rattle.model.proofs.Image.LetterPlaces.{position-step}
 use Rattle.tokens.specs.Scans.{isEnded, Known, Ready, Sane, scanOf}
 use Rattle.tokens_masks.specs.Tapes.{isTree, readKinds, tokensOf}
-use Rattle.tokens.specs.Tokens.{readKind, tokenOf}
+use Rattle.tokens.specs.Kinds.{readKind}
+use Rattle.tokens.specs.Tokens.{tokenOf}
 use Rattle.tokens_masks.specs.declared.Tape.{Tape}
 use Rattle.tokens.specs.declared.token.Token.{Token}
 use Rattle.tokens.proofs.Sane.{sane-begin, sane-step}

@@ -6,7 +6,8 @@ use Prim.Native.Nat.{ℕ, suc, max}
 use lib.ListN.{length}
 use Rattle.model.specs.Models.LayOut.{check, emptyIn, layOut, mark, own, owns, reach, Scan, step, valid, Which}
 use Rattle.model.specs.Models.Tokens.{aBar, aClose, aLetter, anOpen, Token}
-use Rattle.tokens_masks.specs.Tapes.{bare, bares}
+use Rattle.tokens.specs.Tokens.{bare}
+use Rattle.tokens_masks.specs.Tapes.{bares}
 
 bare-step : (y : Token) (q : Scan) → step (bare y) q ≡ step y q
 bare-step (aLetter c r) q = refl

@@ -17,7 +17,8 @@ use Rattle.tokens.specs.Scans.{Innermost, isEnded, noFrame, ReadyAt, scanOf, St
 use Rattle.tokens_masks.specs.Strokes.{barStrokeIn, closeStrokeIn, noStroke, oneState, strokeOf}
 use Rattle.tokens_masks.specs.Tables.{blank, paintAll}
 use Rattle.tokens_masks.specs.Tapes.{deeperBy, isTree, Kinds, ScanLays, shapeOf, tokensOf}
-use Rattle.tokens.specs.Tokens.{readKind, tokenOf}
+use Rattle.tokens.specs.Kinds.{readKind}
+use Rattle.tokens.specs.Tokens.{tokenOf}
 use Rattle.tokens_masks.specs.declared.Shape.{Shape}
 use Rattle.tokens_masks.specs.declared.Shape.the-variants.{Other, Tree}
 use Rattle.tokens_masks.specs.declared.Tape.{Tape}

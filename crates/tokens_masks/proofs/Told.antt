@@ -18,8 +18,9 @@ use Rattle.model.proofs.Image.WellFormed as image
 use Rattle.model.proofs.Laws.Bool.{and-split}
 use Rattle.model.proofs.Reading.Written as reading
 use Rattle.tokens_masks.specs.Says.{ShapeSays, TreeOnTape}
-use Rattle.tokens_masks.specs.Tapes.{bare, bares, isTree, readKinds, shapeOf, tokensOf}
-use Rattle.tokens.specs.Tokens.{readKind, tokenOf}
+use Rattle.tokens.specs.Tokens.{bare, tokenOf}
+use Rattle.tokens_masks.specs.Tapes.{bares, isTree, readKinds, shapeOf, tokensOf}
+use Rattle.tokens.specs.Kinds.{readKind}
 use Rattle.tokens_masks.specs.declared.Shape.{Shape}
 use Rattle.tokens_masks.specs.declared.Shape.the-variants.{Other, Tree}
 use Rattle.tokens_masks.specs.declared.Tape.{Tape}

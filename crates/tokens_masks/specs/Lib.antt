@@ -5,4 +5,3 @@ pub mod Masks
 pub mod Joins
 pub mod Tapes
 pub mod Says
-pub mod Rows

@@ -12,7 +12,8 @@ use Rattle.model.specs.Models.Tokens as model
 use Rattle.tokens_masks.specs.Joins.{Either, joinTables, Only}
 use Rattle.tokens_masks.specs.Masks.{heldIn, Sized}
 use Rattle.tokens_masks.specs.Tables.{blank, paintAll, Table}
-use Rattle.tokens.specs.Tokens.{readKind, tokenOf}
+use Rattle.tokens.specs.Kinds.{readKind}
+use Rattle.tokens.specs.Tokens.{bare, tokenOf}
 use Rattle.tokens_masks.specs.declared.Shape.{Shape}
 use Rattle.tokens_masks.specs.declared.Shape.the-variants.{Other, Tree}
 use Rattle.tokens_masks.specs.declared.Tape.{Tape}
@@ -24,13 +25,7 @@ readKinds (k ∷ ks) = tokenOf (readKind k) ∷ readKinds ks
 abbrev pub tokensOf : Tape → List model.Token
 tokensOf t = readKinds (take (t .length) (t .kinds))
 
--- the token without its class
-abbrev pub bare : model.Token → model.Token
-bare (aLetter c r) = aLetter 0 r
-bare anOpen = anOpen
-bare aBar = aBar
-bare (aClose m) = aClose m
-
+-- the tokens without their classes
 abbrev pub bares : List model.Token → List model.Token
 bares [] = []
 bares (y ∷ ys) = bare y ∷ bares ys

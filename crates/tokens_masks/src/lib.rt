@@ -13,10 +13,10 @@ use tokens::begin_scan;
 use tokens::fits;
 use tokens::innermost;
 use tokens::is_ended;
+use tokens::kind::read_kind;
 use tokens::no_frame;
 use tokens::step_over;
 use tokens::token::Token;
-use tokens::token::read_kind;
 ghost use mathlib.Core.Path.{_≡_};
 ghost use Prim.Native.Nat.{_<_, max};
 ghost use Rattle.tokens_masks.specs.Masks.{Blank, RowSays, Sized};
@@ -24,8 +24,7 @@ ghost use Rattle.tokens_masks.specs.Says.{Laid, MasksSay, ShapeSays};
 ghost use Rattle.tokens_masks.specs.Tapes.{deeperBy, Kinds, ScanLays, shapeOf};
 ghost use Rattle.tokens.specs.Tokens.{tokenOf};
 
-// The first `length` of the kinds are a tree's tokens: 0 to 3 a letter, taken once, `?`, `*` or `+`; 4 an open, 5 a bar,
-// 6 a close, 7 one with an edge over its union, 8 one of a group with `*`.
+// The first `length` of the kinds are a tree's tokens (crate `tokens`, module `kind`).
 pub struct Tape {
     pub kinds: [u8; 512],
     pub length: usize,

@@ -1,17 +1,21 @@
 -- WHAT THE PARTS OF READ BACK FIND AND WRITE: each union's own mark; the text of each token, and of a row of them.
 use mathlib.Core.Path.{_≡_}
 use mathlib.Core.Bool.{cond}
-use mathlib.Core.List.{List, [], _++_}
-use Prim.Native.Nat.{ℕ, zero, suc, _+_, _*_, _≤_}
-use lib.Dec.{eqb, leb, ltb}
+use mathlib.Core.List.{List, _∷_, _++_}
+use Prim.Native.Nat.{ℕ, suc, _+_, _*_, _≤_}
+use lib.Dec.{leb}
 use lib.ListN.{getD, length}
 use lib.Seq.{sets}
 use Rattle.model.specs.Bits.{mask}
-use Rattle.model.specs.Bytes.{bytes}
+use Rattle.model.specs.Bytes.{byte, bytes}
 use Rattle.model.specs.Image.{join}
 use Rattle.model.specs.Models.Apart.{bitOf, lettersIn}
 use Rattle.model.specs.Models.LayOut.{begin, owns}
-use Rattle.model.specs.Writing.{classWriting}
+use Rattle.model.specs.Writing.{classWriting, markWriting, repeatWriting}
+use Rattle.tokens.specs.Kinds.{readKind}
+use Rattle.tokens.specs.Tokens.{markOf, repeatOf}
+use Rattle.tokens.specs.declared.token.Token.{Token}
+use Rattle.tokens.specs.declared.token.Token.the-variants.{Bar, Close, Letter, Open}
 use Rattle.tokens_masks.specs.Tapes.{tokensOf}
 use Rattle.tokens_masks.specs.declared.Tape.{Tape}
 use Rattle.writing.specs.declared.Written.{Written}
@@ -27,20 +31,16 @@ pub record OwnMarks (t r : Tape) : Type 0 where
 abbrev pub classTo : List ℕ → (W state : ℕ) → ℕ
 classTo ws W state = mask 256 (λ b. bitOf W (lettersIn ws) b state)
 
-abbrev pub signText : ℕ → List ℕ
-signText zero = []
-signText (suc zero) = bytes "?"
-signText (suc (suc zero)) = bytes "*"
-signText (suc (suc (suc k))) = bytes "+"
-
-abbrev pub tokenText : List ℕ → (W kind state : ℕ) → List ℕ
-tokenText ws W kind state =
-    cond (ltb kind 4) (classWriting (classTo ws W state) ++ signText kind)
-    (cond (eqb kind 4) (bytes "(") (cond (eqb kind 5) (bytes "|") (cond (eqb kind 6) (bytes ")") (cond (eqb kind 7) (bytes ")?") (bytes ")*")))))
+-- the text of the token before a state
+abbrev pub tokenText : List ℕ → ℕ → Token → ℕ → List ℕ
+tokenText ws W (Letter r) state = classWriting (classTo ws W state) ++ repeatWriting (repeatOf r)
+tokenText ws W Open state = bytes "("
+tokenText ws W Bar state = bytes "|"
+tokenText ws W (Close m) state = byte ")" ∷ markWriting (markOf m)
 
 -- n tokens from `from` on
 abbrev pub rangeText : List ℕ → ℕ → List ℕ → (n from : ℕ) → List ℕ
-rangeText ws W kinds n from = join n from (λ i. tokenText ws W (getD kinds i 0) (suc i))
+rangeText ws W kinds n from = join n from (λ i. tokenText ws W (readKind (getD kinds i 0)) (suc i))
 
 -- the letters' masks are there, and lead to the first 512 states
 pub record Lettered (ws : List ℕ) (W : ℕ) : Type 0 where

@@ -1,4 +1,5 @@
 // A letter: the class read off the letters' masks, and the repeat sign.
+use tokens::token::Repeat;
 use writing_letters::classes::write_class;
 use writing_letters::put;
 ghost use mathlib.Core.Path.{_≡_};
@@ -7,8 +8,9 @@ ghost use Prim.Native.Nat.{_+_, _*_, _^_, _<_};
 ghost use lib.ListN.{length};
 ghost use lib.Seq.{sets};
 ghost use Rattle.model.specs.Image.{words as wordsOf};
-ghost use Rattle.model.specs.Writing.{classWriting};
-ghost use Rattle.writing.specs.Work.{classTo, Lettered, signText};
+ghost use Rattle.model.specs.Writing.{classWriting, repeatWriting};
+ghost use Rattle.tokens.specs.Tokens.{repeatOf};
+ghost use Rattle.writing.specs.Work.{classTo, Lettered};
 
 // The bytes that lead to a state.
 fn class_to(words: &[u64], width: usize, state: usize) -> [u64; 4]
@@ -25,41 +27,43 @@ fn class_to(words: &[u64], width: usize, state: usize) -> [u64; 4]
     class
 }
 
-// The sign of a letter's kind, if it has one.
-fn write_sign(out: &mut [u8], at: usize, kind: u8) -> usize
-    requires { ⌜ (kind < 4) × (at < 2 ^ 32) ⌝ }
-    ensures place { λ r. ⌜ r ≡ at + length (signText kind) ⌝ }
-    ensures written { λ r. ⌜ now (out .exit) ≡ sets (now (out .entry)) at (signText kind) ⌝ }
+// The sign of a letter, if it has one.
+fn write_sign(out: &mut [u8], at: usize, repeat: Repeat) -> usize
+    requires { ⌜ at < 2 ^ 32 ⌝ }
+    ensures place { λ r. ⌜ r ≡ at + length (repeatWriting (repeatOf repeat)) ⌝ }
+    ensures written { λ r. ⌜ now (out .exit) ≡ sets (now (out .entry)) at (repeatWriting (repeatOf repeat)) ⌝ }
 {
-    if kind == 0 {
-        return at;
+    match repeat {
+        Repeat::Once => at,
+        Repeat::Option => {
+            put(out, at, b'?');
+            at + 1
+        }
+        Repeat::Star => {
+            put(out, at, b'*');
+            at + 1
+        }
+        Repeat::Plus => {
+            put(out, at, b'+');
+            at + 1
+        }
     }
-    if kind == 1 {
-        put(out, at, b'?');
-        return at + 1;
-    }
-    if kind == 2 {
-        put(out, at, b'*');
-        return at + 1;
-    }
-    put(out, at, b'+');
-    at + 1
 }
 
-// A letter of the kind `kind` to a state.
+// A letter to a state.
 pub fn write_letter(
     words: &[u64],
     width: usize,
-    kind: u8,
+    repeat: Repeat,
     state: usize,
     out: &mut [u8],
     at: usize,
 ) -> usize
-    requires { ⌜ Lettered (now words) width × (state < 64 * width) × (kind < 4) × (at < 2 ^ 30) ⌝ }
-    ensures place { λ r. ⌜ r ≡ at + length (classWriting (classTo (now (words .entry)) width state) ++ signText kind) ⌝ }
-    ensures written { λ r. ⌜ now (out .exit) ≡ sets (now (out .entry)) at (classWriting (classTo (now (words .entry)) width state) ++ signText kind) ⌝ }
+    requires { ⌜ Lettered (now words) width × (state < 64 * width) × (at < 2 ^ 30) ⌝ }
+    ensures place { λ r. ⌜ r ≡ at + length (classWriting (classTo (now (words .entry)) width state) ++ repeatWriting (repeatOf repeat)) ⌝ }
+    ensures written { λ r. ⌜ now (out .exit) ≡ sets (now (out .entry)) at (classWriting (classTo (now (words .entry)) width state) ++ repeatWriting (repeatOf repeat)) ⌝ }
 {
     let class = class_to(words, width, state);
     let p = write_class(out, at, class);
-    write_sign(out, p, kind)
+    write_sign(out, p, repeat)
 }

@@ -2,14 +2,17 @@
 // (document 02, Wish 3: "a `?` on a group that can already be empty is dropped before the tree is made"). A `*` is shown by a back edge, and stays.
 use tokens::begin_scan;
 use tokens::innermost;
+use tokens::kind::CLOSE_OPTIONAL;
+use tokens::kind::CLOSE_UNMARKED;
+use tokens::kind::read_kind;
 use tokens::no_frame;
 use tokens::step_over;
-use tokens::token::read_kind;
 use tokens_masks::Tape;
 ghost use mathlib.Core.Path.{_≡_};
 ghost use lib.Dec.{T};
 ghost use Rattle.model.specs.Models.LayOut.{own};
-ghost use Rattle.tokens.specs.Tokens.{readKind, tokenOf};
+ghost use Rattle.tokens.specs.Kinds.{readKind};
+ghost use Rattle.tokens.specs.Tokens.{tokenOf};
 ghost use Rattle.tokens_masks.specs.Tapes.{isTree};
 ghost use Rattle.writing.specs.Work.{OwnMarks};
 
@@ -17,7 +20,11 @@ ghost use Rattle.writing.specs.Work.{OwnMarks};
 fn own_kind(kind: u8, empty: bool) -> u8
     ensures { λ r. ⌜ tokenOf (readKind r) ≡ own (tokenOf (readKind kind)) empty ⌝ }
 {
-    if (kind == 7) & empty { 6 } else { kind }
+    if (kind == CLOSE_OPTIONAL) & empty {
+        CLOSE_UNMARKED
+    } else {
+        kind
+    }
 }
 
 // A tree's tape, each close with its union's own mark: the scan knows at a close whether an alternative can be empty.

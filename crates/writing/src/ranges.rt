@@ -1,21 +1,30 @@
 // Ranges of states: a row of tokens, written one after another. "An alternative may itself hold unions, eight deep at most."
 use crate::letter::write_letter;
+use tokens::kind::read_kind;
+use tokens::token::Mark;
+use tokens::token::Token;
 use writing_letters::put;
 ghost use mathlib.Core.Path.{_≡_};
 ghost use Prim.Native.Nat.{_+_, _-_, _*_, _^_, _≤_, _<_};
+ghost use mathlib.Core.List.{_∷_};
 ghost use lib.ListN.{length};
 ghost use lib.Seq.{sets};
+ghost use Rattle.model.specs.Bytes.{byte};
+ghost use Rattle.model.specs.Writing.{markWriting};
+ghost use Rattle.tokens.specs.Tokens.{markOf};
 ghost use Rattle.writing.specs.Work.{Lettered, rangeText, tokenText};
 
 // How many unions are open after a token, where `unions` are before it.
-fn open_after(unions: usize, kind: u8) -> usize
+fn open_after(unions: usize, token: Token) -> usize
     requires { ⌜ (1 ≤ unions) × (unions < 1000) ⌝ }
     ensures { λ r. ⌜ r ≤ unions + 1 ⌝ }
 {
-    if kind == 4 {
-        return unions + 1;
+    match token {
+        Token::Letter(_) => unions,
+        Token::Open => unions + 1,
+        Token::Bar => unions,
+        Token::Close(_) => unions - 1,
     }
-    if kind > 5 { unions - 1 } else { unions }
 }
 
 // The close of a union whose tokens after its open begin at `from`; `to` if there is none before it.
@@ -26,7 +35,7 @@ fn close_of(kinds: &[u8; 512], from: usize, to: usize) -> usize
     let mut open: usize = 1;
     let mut i = from;
     while i < to {
-        let next = open_after(open, kinds[i]);
+        let next = open_after(open, read_kind(kinds[i]));
         if next == 0 {
             return i;
         }
@@ -36,36 +45,54 @@ fn close_of(kinds: &[u8; 512], from: usize, to: usize) -> usize
     i
 }
 
-// The token before a state that is not a union's open.
+// A union's close, and its sign, if it has one.
+fn write_close(out: &mut [u8], at: usize, mark: Mark) -> usize
+    requires { ⌜ at < 2 ^ 30 ⌝ }
+    ensures place { λ r. ⌜ r ≡ at + length (byte ")" ∷ markWriting (markOf mark)) ⌝ }
+    ensures written { λ r. ⌜ now (out .exit) ≡ sets (now (out .entry)) at (byte ")" ∷ markWriting (markOf mark)) ⌝ }
+{
+    put(out, at, b')');
+    match mark {
+        Mark::Unmarked => at + 1,
+        Mark::Optional => {
+            put(out, at + 1, b'?');
+            at + 2
+        }
+        Mark::Starred => {
+            put(out, at + 1, b'*');
+            at + 2
+        }
+    }
+}
+
+// The token before a state.
 fn write_token(
     words: &[u64],
     width: usize,
-    kind: u8,
+    token: Token,
     state: usize,
     out: &mut [u8],
     at: usize,
 ) -> usize
-    requires { ⌜ Lettered (now words) width × (state < 64 * width) × (kind ≡ 4 → ⊥) × (at < 2 ^ 30) ⌝ }
-    ensures place { λ r. ⌜ r ≡ at + length (tokenText (now (words .entry)) width kind state) ⌝ }
-    ensures written { λ r. ⌜ now (out .exit) ≡ sets (now (out .entry)) at (tokenText (now (words .entry)) width kind state) ⌝ }
+    requires { ⌜ Lettered (now words) width × (state < 64 * width) × (at < 2 ^ 30) ⌝ }
+    ensures place { λ r. ⌜ r ≡ at + length (tokenText (now (words .entry)) width token state) ⌝ }
+    ensures written { λ r. ⌜ now (out .exit) ≡ sets (now (out .entry)) at (tokenText (now (words .entry)) width token state) ⌝ }
 {
-    if kind < 4 {
-        return write_letter(words, width, kind, state, out, at);
+    match token {
+        Token::Letter(repeat) => write_letter(words, width, repeat, state, out, at),
+        Token::Open => {
+            put(out, at, b'(');
+            at + 1
+        }
+        Token::Bar => {
+            put(out, at, b'|');
+            at + 1
+        }
+        Token::Close(mark) => write_close(out, at, mark),
     }
-    if kind == 5 {
-        put(out, at, b'|');
-        return at + 1;
-    }
-    put(out, at, b')');
-    if kind == 6 {
-        return at + 1;
-    }
-    let sign = if kind == 7 { b'?' } else { b'*' };
-    put(out, at + 1, sign);
-    at + 2
 }
 
-// The tokens from `from` to `to` less 1. A union's alternatives are written by the same function on the inner range, which is shorter.
+// The tokens from `from` to `to` less 1. After a union's open its alternatives are written by the same function on the inner range, which is shorter.
 pub fn write_range(
     words: &[u64],
     width: usize,
@@ -83,16 +110,15 @@ pub fn write_range(
     let mut p = at;
     let mut i = from;
     while i < to {
-        let kind = kinds[i];
-        if kind == 4 {
+        let token = read_kind(kinds[i]);
+        let next = write_token(words, width, token, i + 1, out, p);
+        if let Token::Open = token {
             let close = close_of(kinds, i + 1, to);
-            put(out, p, b'(');
-            let q = write_range(words, width, kinds, out, p + 1, i + 1, close);
-            p = q;
+            let end = write_range(words, width, kinds, out, next, i + 1, close);
+            p = end;
             i = close;
         } else {
-            let q = write_token(words, width, kind, i + 1, out, p);
-            p = q;
+            p = next;
             i += 1;
         }
     }

@@ -28,11 +28,14 @@ fn is_word(c: char) -> bool {
     c.is_alphanumeric() || "_-'".contains(c)
 }
 
-/// The words of a text, and `fn name` for each function.
+/// The words of a text, `fn name` for each function, and `refused: name` for each wrong line of an edit that holds several.
 fn words_of(text: &str) -> HashSet<String> {
     let word = |rest: &str| rest.split(|c| !is_word(c)).next().unwrap_or("").to_string();
-    let words = text.split(|c| !is_word(c)).map(|word| word.trim_matches('-').to_string());
-    words.chain(text.split("fn ").skip(1).map(|rest| format!("fn {}", word(rest)))).collect()
+    let mut words: HashSet<String> = text.split(|c| !is_word(c)).map(|word| word.trim_matches('-').to_string()).collect();
+    for mark in ["fn ", "refused: "] {
+        words.extend(text.split(mark).skip(1).map(|rest| format!("{mark}{}", word(rest))));
+    }
+    words
 }
 
 fn extension(name: &str) -> &str {
@@ -135,11 +138,12 @@ impl Citations {
         self.note(PATHS, found, place, &format!("no file {name}"));
     }
 
-    /// A must-fail edit of one of these crates, or a wrong line of their edit of several.
+    /// A must-fail edit of one of these crates, or a wrong line of one that holds several.
     fn edit(&mut self, place: &str, of: &[&str], name: &str) {
+        let line = format!("refused: {name}");
         let is = |file: &File, of: &str| {
-            let several = file.path == format!("crates/{of}/must-fail/wrong_lines.edit") && file.words.contains(name);
-            several || file.path == format!("crates/{of}/must-fail/{name}.edit")
+            let edit = file.path.strip_prefix(&format!("crates/{of}/must-fail/")).and_then(|file| file.strip_suffix(".edit"));
+            edit.is_some_and(|edit| edit == name || file.words.contains(&line))
         };
         let found = of.iter().any(|of| self.files.iter().any(|file| is(file, of)));
         self.note(EDITS, found, place, &format!("no edit {name} of {}", of.join(" or ")));

@@ -1,38 +1,26 @@
 -- THE TAPE OF A TREE'S ROW OF TOKENS IS THE TREE'S, and the tape alone shows the tree's depth, since depth does not look at classes.
 use mathlib.Core.Path.{_≡_, refl, sym, ap, ap₂, _∙_}
 use mathlib.Core.List.{List, [], _∷_}
-use Prim.Native.Nat.{ℕ, suc, _≤_, _<_, min}
+use Prim.Native.Nat.{ℕ, suc, _≤_, _<_}
 use native.Mathlib.Nat.{le-of-suc-le-suc, not-suc-le-zero, zero-lt-suc}
 use native.Mathlib.Omega.{arith}
 use lib.ListN.{getD, length, take}
 use Rattle.model.specs.Edges.{depth, states}
 use Rattle.model.specs.Models.LayOut.{begin, reach}
-use Rattle.model.specs.Models.Tokens.{aBar, aClose, aLetter, anOpen, Token, tokens}
-use Rattle.model.specs.Tree.{once, option, optional, plus, star, starred, Tree, unmarked}
+use Rattle.model.specs.Models.Tokens.{aBar, Token, tokens}
+use Rattle.model.specs.Tree.{Tree}
 use Rattle.model.proofs.Image.Depth.{reach-is}
 use Rattle.model.proofs.Image.Tokens.{length-tokens}
-use Rattle.tokens_masks.specs.Rows.{kindOf}
+use Rattle.tokens.specs.Kinds.{kindIn, kindOf, readKind}
 use Rattle.tokens_masks.specs.Says.{TreeOnTape}
 use Rattle.tokens_masks.specs.Tapes.{bares, readKinds, TapeOf, tokensOf}
-use Rattle.tokens.specs.Tokens.{readKind, tokenOf}
+use Rattle.tokens.specs.Tokens.{tokenOf}
 use Rattle.tokens_masks.specs.declared.Tape.{Tape}
 use Rattle.tokens_masks.proofs.Bare.{bares-reach}
-use Rattle.tokens_masks.proofs.Tokens.{read-kind}
+use Rattle.tokens.proofs.Numbers.{kind-small, read-kind}
+use Rattle.tokens.proofs.Rows.{kind-at}
 use Rattle.image.specs.Says.{TokensOf}
 use Rattle.image.specs.Work.{KindsAre}
-use Rattle.image.proofs.Laws.TokenWords.{kind-at}
-
--- every kind is at most 8
-kind-small : (y : Token) → min (kindOf y) 8 ≡ kindOf y
-kind-small (aLetter c once) = refl
-kind-small (aLetter c option) = refl
-kind-small (aLetter c star) = refl
-kind-small (aLetter c plus) = refl
-kind-small anOpen = refl
-kind-small aBar = refl
-kind-small (aClose unmarked) = refl
-kind-small (aClose optional) = refl
-kind-small (aClose starred) = refl
 
 read-kinds : (ks : List ℕ) (l : List Token) → length l ≤ length ks → ((i : ℕ) → i < length l → getD ks i 0 ≡ kindOf (getD l i aBar))
     → readKinds (take (length l) ks) ≡ bares l
@@ -54,7 +42,7 @@ module _ (row : List ℕ) (tape : Tape) (kinds : KindsAre row (tape .kinds)) (ro
     tokens-are =
         ap (λ (n : ℕ). readKinds (take n (tape .kinds))) (O .long)
         ∙ read-kinds (tape .kinds) (tokens t []) (omega (arith, few-tokens, O .long)) (λ i h.
-        kinds i (omega (arith, few-tokens, O .long)) ∙ ap (λ (w : ℕ). min w 8) (kind-at (tokens t []) row (tape .length) (O .long) (O .are) i h)
+        kinds i (omega (arith, few-tokens, O .long)) ∙ ap kindIn (kind-at (tokens t []) row (tape .length) (O .long) (O .are) i h)
         ∙ kind-small (getD (tokens t []) i aBar));
   }
 

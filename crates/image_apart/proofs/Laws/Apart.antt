@@ -13,11 +13,12 @@ use Rattle.model.specs.Models.Tokens.{Token}
 use Rattle.model.specs.Models.Words.{Fit, value}
 use Rattle.model.proofs.Image.SameBits.{fit-drop, fit-take}
 use Rattle.model.proofs.Laws.Bits.{below-same}
-use Rattle.tokens_masks.specs.Rows.{kindOf, markKind, repeatKind}
-use Rattle.tokens_masks.specs.Tapes.{bare, bares, readKinds, tokensOf}
-use Rattle.tokens.specs.Tokens as kinds
+use Rattle.tokens.specs.Kinds.{barKind, kindOf, markKind, openKind, readKind, repeatKind}
+use Rattle.tokens.specs.Tokens.{bare}
+use Rattle.tokens_masks.specs.Tapes.{bares, readKinds, tokensOf}
+use Rattle.tokens.specs.Tokens as tokens
 use Rattle.tokens_masks.specs.declared.Tape.{Tape}
-use Rattle.tokens_masks.proofs.Tokens.{read-kind}
+use Rattle.tokens.proofs.Numbers.{read-kind}
 use Rattle.image_apart.specs.Work.{ShownBy, enteredWords, kindAt, marksOf, orRows, wordsAt}
 use Rattle.model.proofs.Image.Address.{back-at, gather-at, part-fits, propagate-at, scatter-at}
 use Rattle.image_apart.proofs.Laws.Address.{chunk-at, part-at, repeats-at}
@@ -25,7 +26,7 @@ use Rattle.image_apart.proofs.Laws.Rows.{entered-long, Mask, only-bit, 
 
 -- ---- a token by its kind
 kind-is : (l : Bool) (class : ℕ) (s p c o b : Bool)
-    → cond l (repeatKind (repeatOf s p)) (cond c (markKind (markOf s b)) (cond o 4 5)) ≡ kindOf (tokenOf l class s p c o b)
+    → cond l (repeatKind (repeatOf s p)) (cond c (markKind (markOf s b)) (cond o openKind barKind)) ≡ kindOf (tokenOf l class s p c o b)
 kind-is true class s p c o b = refl
 kind-is false class s p true o b = refl
 kind-is false class s p false true b = refl
@@ -37,7 +38,7 @@ read-row zero a f ks h e = refl
 read-row (suc n) a f [] h e = absurd (not-suc-le-zero h)
 read-row (suc n) a f (k ∷ ks) h e =
     ap₂ (λ (y : Token) (ys : List Token). y ∷ ys)
-    (ap (λ (i : ℕ). kinds.tokenOf (kinds.readKind i)) (e 0 (zero-lt-suc n)) ∙ read-kind (f (a + 0))
+    (ap (λ (i : ℕ). tokens.tokenOf (readKind i)) (e 0 (zero-lt-suc n)) ∙ read-kind (f (a + 0))
     ∙ (let z : a + 0 ≡ a = omega arith in ap (λ (i : ℕ). bare (f i)) z))
     (read-row n (suc a) f ks (le-of-suc-le-suc h)
     (λ i l. e (suc i) (omega arith) ∙ (let z : a + suc i ≡ suc a + i = omega arith in ap (λ (j : ℕ). kindOf (f j)) z)))
@@ -152,7 +153,7 @@ module _ (ws : List ℕ) (fit : Fit ws) where
     kind-of-token : (i : ℕ) → kindAt (marksOf ws W d) i ≡ kindOf (tokenAt ws i)
     kind-of-token i =
         (λ j. cond (letters-row ws fit W d narrow long (suc i) j) (repeatKind (repeatOf (entered-row (suc i) j) (loops-row (suc i) j)))
-        (cond (closes-row (suc i) j) (markKind (markOf (entered-row (suc i) j) (returns-row i j))) (cond (opens-row i j) 4 5)))
+        (cond (closes-row (suc i) j) (markKind (markOf (entered-row (suc i) j) (returns-row i j))) (cond (opens-row i j) openKind barKind)))
         ∙ kind-is (anyBelow 256 (λ b. bitOf W (lettersIn ws) b (suc i))) (mask 256 (λ b. bitOf W (lettersIn ws) b (suc i)))
         (anyBelow (suc d) (λ k. bitOfThree W (propagateIn ws) 0 k (suc i) && not (bitOfThree W (propagateIn ws) 1 k (suc i))))
         (anyBelow 256 (λ b. bitOf W (repeatsIn ws) b (suc i)))

@@ -18,7 +18,7 @@ use Rattle.model.proofs.Reading.Cycle.{alts, alts-is, item, item-falls, item-is
 use Rattle.rule_bytes.specs.Places.{Stopped}
 use Rattle.rule.specs.Groups.{closed}
 use Rattle.rule.specs.Parts.{AlternativesSay, PartSays, seqTokens, severalOf, Wrote}
-use Rattle.tokens_masks.specs.Rows.{tokenWords}
+use Rattle.tokens.specs.Rows.{tokenWords}
 use Rattle.rule.specs.Tokens.{between, cut}
 use Rattle.rule.specs.declared.Alternatives.{Alternatives}
 use Rattle.rule.specs.declared.Alternatives.the-variants.{Bad as noAlternatives, Got as someAlternatives}

@@ -10,10 +10,11 @@ use lib.Seq.{length-sets, sets, take-all}
 use Rattle.model.specs.Models.Tokens.{aClose, anOpen, Token}
 use Rattle.model.specs.Tree.{Mark}
 use Rattle.model.proofs.Laws.Bool.{le-or-lt}
-use Rattle.tokens_masks.specs.Rows.{rowWords, tokenWords}
+use Rattle.tokens.specs.Rows.{rowWords, tokenWords}
 use Rattle.rule.specs.Tokens.{copied, cut, enclosed, opened, Stands}
 use Rattle.rule.proofs.Laws.Writes.{sets-past, take-written}
-use Rattle.rule.proofs.Laws.Written.{opened-row, row-length, sets-row-append}
+use Rattle.tokens.proofs.Rows.{row-length}
+use Rattle.rule.proofs.Laws.Written.{opened-row, sets-row-append}
 
 -- ---- numbers of tokens that are the same as far as they are counted
 module _ (l : List ℕ) (room : length l ≡ 2555) where

@@ -1,4 +1,4 @@
--- TOKENS WRITTEN ONE AFTER ANOTHER: a token is five words, so a row of n is 5 * n words; and a class's four words are those of its number.
+-- TOKENS WRITTEN ONE AFTER ANOTHER: a row of n is 5 * n words, so the next row stands 5 * n words on; and a class's four words are those of its number.
 use mathlib.Core.Path.{_≡_, refl, sym, ap, ap₂, _∙_}
 use mathlib.Core.List.{List, [], _∷_, _++_, append-assoc, append-nil}
 use Prim.Native.Nat.{ℕ, zero, suc, _+_, _-_, _*_}
@@ -9,23 +9,17 @@ use Rattle.model.specs.Grammar.{copies, repeated, times}
 use Rattle.model.specs.Models.Tokens.{aLetter, Token, tokens}
 use Rattle.model.specs.Models.Words.{Fit}
 use Rattle.model.specs.Tree.{end, once, option, Repeat, Seq}
-use Rattle.model.proofs.Laws.Each.{each-app}
 use Rattle.model.proofs.Laws.Stores.{sets-append}
 use Rattle.rule_letters.specs.Classes.{bytesOf, wordsOf}
-use Rattle.tokens_masks.specs.Rows.{repeatKind, rowWords, tokenWords}
+use Rattle.tokens.specs.Kinds.{repeatKind}
+use Rattle.tokens.specs.Rows.{rowWords, tokenWords}
+use Rattle.tokens.proofs.Rows.{row-append, row-length}
 use Rattle.rule.specs.Tokens.{opened, timesWords}
 use Rattle.rule_letters.specs.declared.Class.{Class}
 use Rattle.rule_letters.proofs.Laws.Classes.{class-words}
 use Rattle.rule.proofs.Laws.Writes.{sets-opened}
 
 -- ---- rows of tokens
-pub row-append : (a b : List Token) → rowWords (a ++ b) ≡ rowWords a ++ rowWords b
-row-append a b = each-app tokenWords a b
-
-pub row-length : (a : List Token) → length (rowWords a) ≡ 5 * length a
-row-length [] = refl
-row-length (y ∷ a) = omega (arith, row-length a)
-
 pub sets-row-append : (l : List ℕ) (n : ℕ) (a b : List Token)
     → sets l (5 * n) (rowWords (a ++ b)) ≡ sets (sets l (5 * n) (rowWords a)) (5 * (n + length a)) (rowWords b)
 sets-row-append l n a b =
@@ -76,7 +70,7 @@ letter-words c r f = ap (λ (ws : List ℕ). repeatKind r ∷ ws) (class-words c
 
 -- y - x times the letter with `?`, then x times the letter
 pub times-row : (c : Class) (x y : ℕ) → Fit (wordsOf c)
-    → rowWords (tokens (repeated (bytesOf c) (times x y)) []) ≡ timesWords (y - x) (1 ∷ wordsOf c) ++ timesWords x (0 ∷ wordsOf c)
+    → rowWords (tokens (repeated (bytesOf c) (times x y)) []) ≡ timesWords (y - x) (repeatKind option ∷ wordsOf c) ++ timesWords x (repeatKind once ∷ wordsOf c)
 times-row c x y f =
     row-copies (y - x) (bytesOf c) option (copies x (bytesOf c) once end)
     ∙ ap₂ _++_ (ap (timesWords (y - x)) (letter-words c option f))

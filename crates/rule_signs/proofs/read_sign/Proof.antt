@@ -18,8 +18,8 @@ returns c = let a = c .before .before .args in over-leaves (a .rule .now) (a .at
 shared-slice-read-x : tie.Need-shared-slice-read-x
 shared-slice-read-x c = search needs
 
-add-t11 : tie.Need-add-t11
-add-t11 c = search needs
+add-t13 : tie.Need-add-t13
+add-t13 c = search needs
 
 returns-2 : tie.Need-returns-2
 returns-2 c =
@@ -27,8 +27,8 @@ returns-2 c =
     let a = b .before .before .args in
     takes (a .rule .now) (a .at) refl readSign (b .if1 .left) (λ xs. sign-question (getD (a .rule .now) (a .at) 0) xs (c .if2 .taken))
 
-add-t13 : tie.Need-add-t13
-add-t13 c = search needs
+add-t16 : tie.Need-add-t16
+add-t16 c = search needs
 
 returns-3 : tie.Need-returns-3
 returns-3 c =
@@ -36,8 +36,8 @@ returns-3 c =
     let a = b .before .before .args in
     takes (a .rule .now) (a .at) refl readSign (b .if1 .left) (λ xs. sign-asterisk (getD (a .rule .now) (a .at) 0) xs (c .if3 .taken))
 
-add-t15 : tie.Need-add-t15
-add-t15 c = search needs
+add-t19 : tie.Need-add-t19
+add-t19 c = search needs
 
 returns-4 : tie.Need-returns-4
 returns-4 c =
@@ -68,4 +68,4 @@ returns-6 c =
 pub read-sign-spec : {M : Type 1} → statement M
 read-sign-spec =
     tie.close
-    (tie.spec returns shared-slice-read-x add-t11 returns-2 add-t13 returns-3 add-t15 returns-4 add-read-braces read-braces-requires returns-5 returns-6)
+    (tie.spec returns shared-slice-read-x add-t13 returns-2 add-t16 returns-3 add-t19 returns-4 add-read-braces read-braces-requires returns-5 returns-6)

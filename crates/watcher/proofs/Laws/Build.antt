@@ -12,7 +12,7 @@ use Rattle.model.specs.Image.{image as imageOf}
 use Rattle.model.specs.Models.Tokens.{tokens}
 use Rattle.model.specs.Tree as tree
 use Rattle.model.proofs.Image.Tokens.{length-tokens}
-use Rattle.tokens_masks.specs.Rows.{rowWords}
+use Rattle.tokens.specs.Rows.{rowWords}
 use Rattle.rule.specs.Says as reading
 use Rattle.rule.specs.Tokens.{noTokens, roomWith}
 use Rattle.rule.specs.declared.Outcome.{Outcome}

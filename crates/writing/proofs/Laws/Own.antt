@@ -12,10 +12,12 @@ use lib.Seq.{take-suc-set}
 use Rattle.model.specs.Models.LayOut.{begin, check, emptyIn, own, owns, valid}
 use Rattle.model.specs.Models.LayOut as model
 use Rattle.model.specs.Models.Tokens.{aClose, kept}
+use Rattle.model.specs.Tree.{optional, unmarked}
 use Rattle.model.specs.Models.Tokens as tokens
 use Rattle.model.proofs.Laws.Bool.{and-split, unequal}
 use Rattle.tokens.specs.Scans.{Innermost, Ready, ReadyAt, scanOf, StepSays, stackOf, withFrames}
-use Rattle.tokens.specs.Tokens.{markOf, readKind, tokenOf}
+use Rattle.tokens.specs.Tokens.{markOf, tokenOf}
+use Rattle.tokens.specs.Kinds.{markKind, readKind}
 use Rattle.tokens.specs.declared.Frame.{Frame}
 use Rattle.tokens.specs.declared.Next.{Next}
 use Rattle.tokens.specs.declared.Scan.{Scan}
@@ -28,7 +30,7 @@ use Rattle.tokens_masks.proofs.Along.{Along, along-begin, along-misfit, along-r
 use Rattle.writing.specs.Work.{OwnMarks}
 
 -- ---- one kind
-with-own-mark : (k : ℕ) (e : Bool) → tokenOf (readKind (cond (eqb k 7 && e) 6 k)) ≡ own (tokenOf (readKind k)) e
+with-own-mark : (k : ℕ) (e : Bool) → tokenOf (readKind (cond (eqb k (markKind optional) && e) (markKind unmarked) k)) ≡ own (tokenOf (readKind k)) e
 with-own-mark zero e = refl
 with-own-mark (suc zero) e = refl
 with-own-mark (suc (suc zero)) e = refl
@@ -38,11 +40,11 @@ with-own-mark (suc (suc (suc (suc (suc zero))))) e = refl
 with-own-mark (suc (suc (suc (suc (suc (suc zero)))))) e = refl
 with-own-mark (suc (suc (suc (suc (suc (suc (suc zero))))))) true = refl
 with-own-mark (suc (suc (suc (suc (suc (suc (suc zero))))))) false = refl
-with-own-mark (suc (suc (suc (suc (suc (suc (suc (suc k)))))))) e = rw (unequal (suc (suc (suc (suc (suc (suc (suc (suc k)))))))) 7 (λ q. omega arith))
+with-own-mark (suc (suc (suc (suc (suc (suc (suc (suc k)))))))) e = rw (unequal (suc (suc (suc (suc (suc (suc (suc (suc k)))))))) (markKind optional) (λ q. omega arith))
 
 -- by the test's outcome b
-pub own-kind : (k : ℕ) (e : Bool) {b : Bool} → (eqb k 7 && e) ≡ b → tokenOf (readKind (cond b 6 k)) ≡ own (tokenOf (readKind k)) e
-own-kind k e h = subst (λ (b : Bool). tokenOf (readKind (cond b 6 k)) ≡ own (tokenOf (readKind k)) e) h (with-own-mark k e)
+pub own-kind : (k : ℕ) (e : Bool) {b : Bool} → (eqb k (markKind optional) && e) ≡ b → tokenOf (readKind (cond b (markKind unmarked) k)) ≡ own (tokenOf (readKind k)) e
+own-kind k e h = subst (λ (b : Bool). tokenOf (readKind (cond b (markKind unmarked) k)) ≡ own (tokenOf (readKind k)) e) h (with-own-mark k e)
 
 -- where a token fits, the innermost frame tells whether an alternative can be empty
 own-here : (q : Scan) (fs : List Frame) (top : Frame) (y : Token) → Innermost q top fs → Ready (withFrames q fs) y

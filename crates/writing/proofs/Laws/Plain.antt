@@ -21,12 +21,14 @@ use Rattle.model.proofs.Image.Tokens.{length-tokens}
 use Rattle.model.proofs.Image.TokenWriting.{length-owns, tokens-writing, tokensWriting, tokenWriting}
 use Rattle.model.proofs.Image.WellFormed.{well-fine, well-formed}
 use Rattle.model.proofs.Reading.WellFormed.{rule-well, WellFormed}
-use Rattle.tokens_masks.specs.Tapes.{bare, bares, readKinds, TapeOf}
-use Rattle.tokens.specs.Tokens.{readKind, tokenOf}
+use Rattle.tokens.specs.Tokens.{bare, tokenOf}
+use Rattle.tokens_masks.specs.Tapes.{bares, readKinds, TapeOf}
+use Rattle.tokens.specs.Kinds.{readKind}
+use Rattle.tokens.specs.declared.token.Token as read
+use Rattle.tokens.specs.declared.token.Token.the-variants.{Bar, Close, Letter, Open}
 use Rattle.tokens_masks.specs.declared.Tape.{Tape}
 use Rattle.tokens_masks.proofs.Bare.{bares-own}
 use Rattle.writing.specs.Work.{classTo, OwnMarks, rangeText, tokenText}
-use Rattle.writing.proofs.Laws.Tokens.{starred-text}
 
 -- ---- a token of the tape, with the class c
 abbrev classed : ℕ → Token → Token
@@ -35,16 +37,11 @@ classed c anOpen = anOpen
 classed c aBar = aBar
 classed c (aClose m) = aClose m
 
-by-kind : (ws : List ℕ) (W k state : ℕ) → tokenText ws W k state ≡ tokenWriting (classed (classTo ws W state) (tokenOf (readKind k)))
-by-kind ws W zero state = refl
-by-kind ws W (suc zero) state = refl
-by-kind ws W (suc (suc zero)) state = refl
-by-kind ws W (suc (suc (suc zero))) state = refl
-by-kind ws W (suc (suc (suc (suc zero)))) state = refl
-by-kind ws W (suc (suc (suc (suc (suc zero))))) state = refl
-by-kind ws W (suc (suc (suc (suc (suc (suc zero)))))) state = refl
-by-kind ws W (suc (suc (suc (suc (suc (suc (suc zero))))))) state = refl
-by-kind ws W (suc (suc (suc (suc (suc (suc (suc (suc k)))))))) state = starred-text ws W (suc (suc (suc (suc (suc (suc (suc (suc k)))))))) state (omega arith)
+by-token : (ws : List ℕ) (W : ℕ) (y : read.Token) (state : ℕ) → tokenText ws W y state ≡ tokenWriting (classed (classTo ws W state) (tokenOf y))
+by-token ws W (Letter r) state = refl
+by-token ws W Open state = refl
+by-token ws W Bar state = refl
+by-token ws W (Close m) state = refl
 
 -- a token that the masks show has the class that they show, also with its union's own mark
 by-masks : (isLetter : Bool) (c : ℕ) (skips loops closes opens returns e : Bool)
@@ -116,18 +113,18 @@ module _ (ws : List ℕ) (s : Tree) (I : ImageOf ws s) (t u : Tape) (A : TapeOf 
   token-of i h =
       ap (λ (y : List Token). getD y i aBar) (sym taken) ∙ getD-between (stateWord ws) i (tokenAt ws) (omega (arith, size, length-owns l begin))
 
-  each-token : (i : ℕ) → i < length o → tokenText ws W (getD (u .kinds) i 0) (suc i) ≡ tokenWriting (getD o i aBar)
+  each-token : (i : ℕ) → i < length o → tokenText ws W (readKind (getD (u .kinds) i 0)) (suc i) ≡ tokenWriting (getD o i aBar)
   each-token i h =
       let c = classTo ws W (suc i) in
       let n = getD-owns l begin i in
       let e = n .1 ∙ ap (λ (y : Token). own y (n .0)) (token-of i h) in
-      by-kind ws W (getD (u .kinds) i 0) (suc i)
+      by-token ws W (readKind (getD (u .kinds) i 0)) (suc i)
       ∙ ap tokenWriting
       (ap (classed c) (kind-of i h ∙ ap bare e) ∙ by-masks (anyBelow 256 (λ b. bitOf W (lettersIn ws) b (suc i))) c _ _ _ _ _ (n .0) ∙ sym e)
 
   pub all-written : rangeText ws W (u .kinds) (u .length) 0 ≡ writing s
   all-written =
       ap (λ (n : ℕ). rangeText ws W (u .kinds) n 0) long
-      ∙ written-by o 0 (λ i. tokenText ws W (getD (u .kinds) i 0) (suc i))
-      (λ i h. let e : 0 + i ≡ i = omega arith in subst (λ (j : ℕ). tokenText ws W (getD (u .kinds) j 0) (suc j) ≡ tokenWriting (getD o i aBar)) (sym e) (each-token i h))
+      ∙ written-by o 0 (λ i. tokenText ws W (readKind (getD (u .kinds) i 0)) (suc i))
+      (λ i h. let e : 0 + i ≡ i = omega arith in subst (λ (j : ℕ). tokenText ws W (readKind (getD (u .kinds) j 0)) (suc j) ≡ tokenWriting (getD o i aBar)) (sym e) (each-token i h))
       ∙ tokens-writing s (well-formed s .0 well .1)

@@ -6,11 +6,13 @@ use Prim.Native.Nat.{ℕ, zero, suc, _+_, _-_, _*_, _≤_}
 use native.Mathlib.Nat.{add-zero, zero-add}
 use native.Mathlib.Numerals.{add-one}
 use native.Mathlib.Omega.{arith}
-use lib.ListN.{getD, length, set}
+use lib.ListN.{getD, length}
 use Rattle.model.specs.Image.{join}
-use Rattle.writing_letters.proofs.Laws.Texts.{Writes, writes-as, writes-none, writes-one, writes-then}
+use Rattle.tokens.specs.Kinds.{readKind}
+use Rattle.tokens.specs.declared.token.Token.{Token}
+use Rattle.writing_letters.proofs.Laws.Texts.{Writes, writes-as, writes-none, writes-then}
 use Rattle.writing.specs.Work.{tokenText}
-use Rattle.writing.proofs.Laws.Tokens.{open-text, token-short}
+use Rattle.writing.proofs.Laws.Tokens.{token-short}
 
 join-split : (g : ℕ → List ℕ) (n k a : ℕ) → join (n + k) a g ≡ join n a g ++ join k (a + n) g
 join-split g zero k a = ap₂ (λ (m b : ℕ). join m b g) (zero-add k) (sym (add-zero a))
@@ -42,7 +44,7 @@ module _ (g : ℕ → List ℕ) (before : List ℕ) (at from : ℕ) where
         bound = omega (arith, w .0);
       }
 
-  wrote-then : {now after : List ℕ} {i p j q : ℕ} → Wrote g before at from i now p → Wrote g now p i j after q → Wrote g before at from j after q
+  pub wrote-then : {now after : List ℕ} {i p j q : ℕ} → Wrote g before at from i now p → Wrote g now p i j after q → Wrote g before at from j after q
   wrote-then {i = i} {j = j} f h =
       let e : (i - from) + (j - i) ≡ j - from = omega (arith, f .since, h .since) in
       let d : i ≡ from + (i - from) = omega (arith, f .since) in record {
@@ -57,22 +59,13 @@ module _ (g : ℕ → List ℕ) (before : List ℕ) (at from : ℕ) where
 
 -- ---- THE TOKENS OF A TAPE
 abbrev pub tokensOf : List ℕ → ℕ → List ℕ → ℕ → List ℕ
-tokensOf ws W kinds i = tokenText ws W (getD kinds i 0) (suc i)
+tokensOf ws W kinds i = tokenText ws W (readKind (getD kinds i 0)) (suc i)
 
-module _ (ws : List ℕ) (W : ℕ) (kinds before : List ℕ) (at from : ℕ) {i : ℕ} {now : List ℕ} {p : ℕ}
-    (w : Wrote (tokensOf ws W kinds) before at from i now p) where
-  one-more : {after : List ℕ} {q : ℕ} → Writes now p (tokensOf ws W kinds i) after q → Wrote (tokensOf ws W kinds) before at from (i + 1) after q
-  one-more t =
-      wrote-then (tokensOf ws W kinds) before at from w
-      (wrote-one (tokensOf ws W kinds) now p i (w .bound) (token-short ws W (getD kinds i 0) (suc i)) t)
-
-  pub wrote-token : {after : List ℕ} {q : ℕ} → Writes now p (tokenText ws W (getD kinds i 0) (i + 1)) after q
-      → Wrote (tokensOf ws W kinds) before at from (i + 1) after q
-  wrote-token t = one-more (writes-as now p (ap (tokenText ws W (getD kinds i 0)) (add-one i)) t)
-
-  -- a union's open, and then the tokens up to its close
-  pub wrote-union : {opened after : List ℕ} {close q : ℕ} → getD kinds i 0 ≡ 4 → opened ≡ set now p 40
-      → Wrote (tokensOf ws W kinds) opened (p + 1) (i + 1) close after q → Wrote (tokensOf ws W kinds) before at from close after q
-  wrote-union e o inner =
-      wrote-then (tokensOf ws W kinds) before at from
-      (one-more (writes-as now p (sym (open-text ws W (getD kinds i 0) (suc i) e)) (writes-one now p 40 o))) inner
+-- one token more
+pub wrote-token : (ws : List ℕ) (W : ℕ) (kinds before : List ℕ) (at from : ℕ) {i : ℕ} {now : List ℕ} {p : ℕ}
+    → Wrote (tokensOf ws W kinds) before at from i now p → (y : Token) → y ≡ readKind (getD kinds i 0) → {after : List ℕ} {q : ℕ}
+    → Writes now p (tokenText ws W y (i + 1)) after q → Wrote (tokensOf ws W kinds) before at from (i + 1) after q
+wrote-token ws W kinds before at from {i} {now} {p} w y e t =
+    let g = tokensOf ws W kinds in
+    let h = ap₂ (tokenText ws W) e (add-one i) in
+    wrote-then g before at from w (wrote-one g now p i (w .bound) (token-short ws W (readKind (getD kinds i 0)) (suc i)) (writes-as now p h t))

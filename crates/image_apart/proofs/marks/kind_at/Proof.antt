@@ -7,7 +7,7 @@ use borrow.Author.Needs.{needs}
 use Rattle.model.specs.Bits.{bit}
 use Rattle.model.specs.Models.Apart.{markOf, repeatOf}
 use Rattle.model.specs.Models.Words.{value}
-use Rattle.tokens_masks.specs.Rows.{markKind, repeatKind}
+use Rattle.tokens.specs.Kinds.{barKind, markKind, openKind, repeatKind}
 use Rattle.image_apart.specs.Work.{kindAt}
 use Rattle.image_apart.specs.declared.marks.Marks.{Marks}
 use Rattle.image_apart.proofs.marks.kind_at.Statement.{statement}
@@ -28,7 +28,7 @@ module _ (marks : Marks) (i : ℕ) where
   ifClose n = markKind (markOf (bit (value (marks .entered)) n) (bit (value (marks .returns)) i))
 
   abbrev ifNeither : ℕ
-  ifNeither = cond (bit (value (marks .opens)) i) 4 5
+  ifNeither = cond (bit (value (marks .opens)) i) openKind barKind
 
   abbrev kind : ℕ → ℕ
   kind n = cond (letter n) (ifLetter n) (cond (close n) (ifClose n) ifNeither)
@@ -108,7 +108,7 @@ row-has-bit-requires-7 c κs = search needs
 returns-3 : tie.Need-returns-3
 returns-3 c =
     let a = c .before .before .before .before .before .before .before .before .before .before .before .before .args in
-    ap (λ (b : Bool). cond b 4 5) (sym (c .if3 .taken) ∙ c .before .row-has-bit7 .ensures)
+    ap (λ (b : Bool). cond b openKind barKind) (sym (c .if3 .taken) ∙ c .before .row-has-bit7 .ensures)
     ∙ is-neither (a .marks) (a .i)
     (sym (c .before .before .before .before .before .row-has-bit .ensures) ∙ c .before .before .before .before .if1 .left)
     (sym (c .before .before .before .row-has-bit4 .ensures) ∙ c .before .before .if2 .left)
@@ -116,7 +116,7 @@ returns-3 c =
 returns-4 : tie.Need-returns-4
 returns-4 c =
     let a = c .before .before .before .before .before .before .before .before .before .before .before .before .args in
-    ap (λ (b : Bool). cond b 4 5) (sym (c .if3 .left) ∙ c .before .row-has-bit7 .ensures)
+    ap (λ (b : Bool). cond b openKind barKind) (sym (c .if3 .left) ∙ c .before .row-has-bit7 .ensures)
     ∙ is-neither (a .marks) (a .i)
     (sym (c .before .before .before .before .before .row-has-bit .ensures) ∙ c .before .before .before .before .if1 .left)
     (sym (c .before .before .before .row-has-bit4 .ensures) ∙ c .before .before .if2 .left)

@@ -15,8 +15,8 @@ insert-open-requires c κs = search needs
 add-put-union : tie.Need-add-put-union
 add-put-union c = search needs
 
-close-kind-requires : tie.Need-close-kind-requires
-close-kind-requires c κs = search needs
+mark-kind-requires : tie.Need-mark-kind-requires
+mark-kind-requires c κs = search needs
 
 put-union-requires : tie.Need-put-union-requires
 put-union-requires c κs = search needs
@@ -26,8 +26,8 @@ returns c =
     let a = c .before .before .before .before .before .args in (
       omega (arith, c .put-union .ensures .0),
       c .put-union .ensures .1
-          ∙ ap₂ (λ (l : List ℕ) (k : ℕ). sets l (5 * (a .to + 1)) (k ∷ words 4 0)) (c .before .before .before .insert-open .ensures) (c .before .close-kind .ensures),
+          ∙ ap₂ (λ (l : List ℕ) (k : ℕ). sets l (5 * (a .to + 1)) (k ∷ words 4 0)) (c .before .before .before .insert-open .ensures) (c .before .mark-kind .ensures),
     )
 
 pub enclose-spec : {M : Type 1} → statement M
-enclose-spec = tie.close (tie.spec insert-open-requires add-put-union close-kind-requires put-union-requires returns)
+enclose-spec = tie.close (tie.spec insert-open-requires add-put-union mark-kind-requires put-union-requires returns)

@@ -1,16 +1,23 @@
--- No byte or one, by the kind.
+-- No byte or one, by the sign.
 use mathlib.Core.Path.{sym, ap}
+use mathlib.Core.List.{List}
+use Prim.Native.Nat.{ℕ}
 use borrow.Author.Needs.{needs}
+use Rattle.model.specs.Writing.{repeatWriting}
+use Rattle.tokens.specs.Tokens.{repeatOf}
+use Rattle.tokens.specs.declared.token.Repeat.{Repeat}
 use Rattle.writing_letters.proofs.Laws.Texts.{writes-as, writes-none, writes-one}
-use Rattle.writing.specs.Work.{signText}
-use Rattle.writing.proofs.Laws.Tokens.{plus-sign}
 use Rattle.writing.proofs.letter.write_sign.Statement.{statement}
 use Rattle.writing.proofs.letter.write_sign.Tie as tie
 
-returns : tie.Need-returns
-returns c =
-    let a = c .before .before .args in
-    writes-as (a .out .now) (a .at) (ap signText (sym (c .if1 .taken))) (writes-none (a .out .now) (a .at))
+abbrev text : Repeat → List ℕ
+text r = repeatWriting (repeatOf r)
+
+enum-told : tie.Need-enum-told
+enum-told c = search needs
+
+enum-told-2 : tie.Need-enum-told-2
+enum-told-2 c = search needs
 
 put-requires : tie.Need-put-requires
 put-requires c κs = search needs
@@ -18,14 +25,8 @@ put-requires c κs = search needs
 add-result : tie.Need-add-result
 add-result c = search needs
 
-same-length : tie.Need-same-length
-same-length c = search needs
-
-returns-2 : tie.Need-returns-2
-returns-2 c =
-    let tests = c .before .before .before .before in
-    let a = tests .before .before .before .args in
-    writes-as (a .out .now) (a .at) (ap signText (sym (tests .if2 .taken))) (writes-one (a .out .now) (a .at) 63 (c .before .before .put .ensures))
+enum-told-3 : tie.Need-enum-told-3
+enum-told-3 c = search needs
 
 put-requires-2 : tie.Need-put-requires-2
 put-requires-2 c κs = search needs
@@ -33,14 +34,8 @@ put-requires-2 c κs = search needs
 add-result-2 : tie.Need-add-result-2
 add-result-2 c = search needs
 
-same-length-2 : tie.Need-same-length-2
-same-length-2 c = search needs
-
-returns-3 : tie.Need-returns-3
-returns-3 c =
-    let tests = c .before .before .before .before in
-    let a = tests .before .before .before .before .args in
-    writes-as (a .out .now) (a .at) (ap signText (sym (tests .if3 .taken))) (writes-one (a .out .now) (a .at) 42 (c .before .before .put2 .ensures))
+enum-told-4 : tie.Need-enum-told-4
+enum-told-4 c = search needs
 
 put-requires-3 : tie.Need-put-requires-3
 put-requires-3 c κs = search needs
@@ -48,30 +43,53 @@ put-requires-3 c κs = search needs
 add-result-3 : tie.Need-add-result-3
 add-result-3 c = search needs
 
+returns : tie.Need-returns
+returns c =
+    let a = c .before .before .before .args in
+    writes-as (a .out .now) (a .at) (sym (ap text (c .enum-told .given .1))) (writes-none (a .out .now) (a .at))
+
+same-length : tie.Need-same-length
+same-length c = search needs
+
+returns-2 : tie.Need-returns-2
+returns-2 c =
+    let a = c .before .before .before .before .before .before .before .args in
+    writes-as (a .out .now) (a .at) (sym (ap text (c .before .before .before .before .enum-told2 .given .1))) (writes-one (a .out .now) (a .at) 63 (c .before .before .put .ensures))
+
+same-length-2 : tie.Need-same-length-2
+same-length-2 c = search needs
+
+returns-3 : tie.Need-returns-3
+returns-3 c =
+    let a = c .before .before .before .before .before .before .before .args in
+    writes-as (a .out .now) (a .at) (sym (ap text (c .before .before .before .before .enum-told3 .given .1))) (writes-one (a .out .now) (a .at) 42 (c .before .before .put2 .ensures))
+
 same-length-3 : tie.Need-same-length-3
 same-length-3 c = search needs
 
 returns-4 : tie.Need-returns-4
 returns-4 c =
-    let tests = c .before .before .before .before in
-    let a = tests .before .before .before .before .args in
-    let e = plus-sign (a .kind) (tests .before .before .if1 .left) (tests .before .if2 .left) (tests .if3 .left) in
-    writes-as (a .out .now) (a .at) (sym e) (writes-one (a .out .now) (a .at) 43 (c .before .before .put3 .ensures))
+    let a = c .before .before .before .before .before .before .before .args in
+    writes-as (a .out .now) (a .at) (sym (ap text (c .before .before .before .before .enum-told4 .given .1))) (writes-one (a .out .now) (a .at) 43 (c .before .before .put3 .ensures))
 
 pub write-sign-spec : {M : Type 1} → statement M
 write-sign-spec =
     tie.close
     (tie.spec
-    returns
+    enum-told
+    enum-told-2
     put-requires
     add-result
-    same-length
-    returns-2
+    enum-told-3
     put-requires-2
     add-result-2
-    same-length-2
-    returns-3
+    enum-told-4
     put-requires-3
     add-result-3
+    returns
+    same-length
+    returns-2
+    same-length-2
+    returns-3
     same-length-3
     returns-4)

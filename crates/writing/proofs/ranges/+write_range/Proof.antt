@@ -1,17 +1,18 @@
--- Each turn writes a token, or a union's open and its inner range, where the tokens before it end; the inner range is shorter. Each token takes at
+-- Each turn writes a token where the tokens before it end, and after a union's open the inner range, which is shorter. Each token takes at
 -- most 4096 bytes, so that no place is past 4096 times the tokens before it.
 use mathlib.Core.Path.{_≡_, ap, _∙_, subst}
 use Prim.Native.Nat.{ℕ, _-_, _*_, _≤_, _<_}
 use native.Mathlib.Omega.{arith}
+use borrow.Author.Needs.{needs}
 use lib.ListN.{length}
 use lib.Seq.{length-sets}
-use Rattle.writing.proofs.Laws.Ranges.{tokensOf, Wrote, wrote-none, wrote-token, wrote-union}
+use Rattle.writing.proofs.Laws.Ranges.{tokensOf, Wrote, wrote-none, wrote-then, wrote-token}
 use borrow.Fn.Kinds.{In}
 use borrow.Fn.PlainCycle.{Measures, is, falls, and}
 use Rattle.writing.proofs.ranges.write_range.Reads as reads
 use Rattle.writing.proofs.ranges.write_range.Kinds as kinds
 use Rattle.writing.proofs.ranges.+write_range.Lts-write_range as lts
-use Rattle.writing_letters.proofs.put.Reads as put-reads
+use Rattle.tokens.proofs.kind.read_kind.Reads as read-kind-reads
 use Rattle.writing.proofs.ranges.close_of.Reads as close-of-reads
 use Rattle.writing.proofs.ranges.write_token.Reads as write-token-reads
 use Rattle.writing.proofs.ranges.+write_range.{statement}
@@ -31,14 +32,14 @@ shorter t = and 3 kinds.ps (falls 3 kinds.ps _<_ μ-write-range t) reads.Pre
 -- what is asked of each callee and learnt from it
 abbrev callees : ℕ → lts.Claims
 callees t = (
-  close-of-reads.Asked,
-  close-of-reads.Learnt,
-  put-reads.Asked,
-  put-reads.Learnt,
-  shorter t,
-  reads.Post,
+  read-kind-reads.Asked,
+  read-kind-reads.Learnt,
   write-token-reads.Asked,
   write-token-reads.Learnt,
+  close-of-reads.Asked,
+  close-of-reads.Learnt,
+  shorter t,
+  reads.Post,
 )
 
 abbrev Inv-loop : lts.InvT-loop
@@ -60,52 +61,11 @@ loop-holds t c =
     let q = c .before .before .pre .1 in
     (q .1, wrote-none (tokensOf (a .words .now) (a .width) (a .kinds .now)) (a .out .now) (a .at) (a .from) (q .3))
 
-element-copy-out-kind : (t : ℕ) → lts.Need-element-copy-out-kind (callees t) (this t) reads.Post Inv-loop μ-loop
-element-copy-out-kind t c = omega (arith, small t c)
+element-copy-out-read-kind : (t : ℕ) → lts.Need-element-copy-out-read-kind (callees t) (this t) reads.Post Inv-loop μ-loop
+element-copy-out-read-kind t c = omega (arith, small t c)
 
-add-close-of : (t : ℕ) → lts.Need-add-close-of (callees t) (this t) reads.Post Inv-loop μ-loop
-add-close-of t c = omega (arith, small t (c .before .before))
-
-close-of-requires : (t : ℕ) → lts.Need-close-of-requires (callees t) (this t) reads.Post Inv-loop μ-loop
-close-of-requires t c κs =
-    let q = c .before .before .before .before .before .before .pre .1 in
-    omega (arith, c .before .before .loop-test .taken, q .2, q .0 .narrow)
-
-put-requires : (t : ℕ) → lts.Need-put-requires (callees t) (this t) reads.Post Inv-loop μ-loop
-put-requires t c κs = tt
-
-add-write-range : (t : ℕ) → lts.Need-add-write-range (callees t) (this t) reads.Post Inv-loop μ-loop
-add-write-range t c = omega (arith, small t (c .before .before .before .before .before .before .before .before))
-
-add-write-range-2 : (t : ℕ) → lts.Need-add-write-range-2 (callees t) (this t) reads.Post Inv-loop μ-loop
-add-write-range-2 t c = omega (arith, small t (c .before .before .before .before .before .before .before .before))
-
-write-range-requires : (t : ℕ) → lts.Need-write-range-requires (callees t) (this t) reads.Post Inv-loop μ-loop
-write-range-requires t c κs =
-    let close = c .before .before .before .before .before .close-of .ensures in
-    let turn = c .before .before .before .before .before .before .before .before in
-    let w = turn .before .loop .inv .1 in
-    let q = turn .before .before .before .before .pre in (
-      omega (arith, q .0, close .0, close .1, w .since, turn .loop-test .taken),
-      (q .1 .0, close .0, omega (arith, close .1, q .1 .2), omega (arith, w .bound)),
-    )
-
-loop-less : (t : ℕ) → lts.Need-loop-less (callees t) (this t) reads.Post Inv-loop μ-loop
-loop-less t c =
-    let o = c .before .before .before .before .before .before .before .before in
-    omega (arith, o .close-of .ensures .0, o .before .before .before .loop-test .taken)
-
-loop-again : (t : ℕ) → lts.Need-loop-again (callees t) (this t) reads.Post Inv-loop μ-loop
-loop-again t c =
-    let o = c .before .before .before .before .before .before .before .before in
-    let a = o .before .before .before .before .before .before .before .args in
-    let tokens = o .before .before .before .before .loop .inv .1 in
-    let opened = c .before .before .before .before .before .before .put .ensures in
-    let w = c .before .before .write-range .ensures in (
-      o .close-of .ensures .1,
-      wrote-union (a .words .now) (a .width) (a .kinds .now) (a .out .now) (a .at) (a .from) tokens (o .before .if1 .taken) opened
-          (record { since = o .close-of .ensures .0; text = (w .0, w .1 .0); bound = w .1 .1 }),
-    )
+read-kind-requires : (t : ℕ) → lts.Need-read-kind-requires (callees t) (this t) reads.Post Inv-loop μ-loop
+read-kind-requires t c κs = tt
 
 add-write-token : (t : ℕ) → lts.Need-add-write-token (callees t) (this t) reads.Post Inv-loop μ-loop
 add-write-token t c = omega (arith, small t (c .before .before))
@@ -114,22 +74,66 @@ write-token-requires : (t : ℕ) → lts.Need-write-token-requires (callees t) (
 write-token-requires t c κs =
     let turn = c .before .before .before in
     let q = turn .before .before .before .before .pre .1 in
-    (q .0, omega (arith, turn .loop-test .taken, q .2), c .before .if1 .left, omega (arith, small t turn))
+    (q .0, omega (arith, turn .loop-test .taken, q .2), omega (arith, small t turn))
+
+enum-told : (t : ℕ) → lts.Need-enum-told (callees t) (this t) reads.Post Inv-loop μ-loop
+enum-told t c = search needs
+
+add-close-of : (t : ℕ) → lts.Need-add-close-of (callees t) (this t) reads.Post Inv-loop μ-loop
+add-close-of t c = omega (arith, small t (c .before .before .before .before .before .before .before .before))
+
+close-of-requires : (t : ℕ) → lts.Need-close-of-requires (callees t) (this t) reads.Post Inv-loop μ-loop
+close-of-requires t c κs =
+    let turn = c .before .before .before .before .before .before .before .before in
+    let q = turn .before .before .before .before .pre .1 in
+    omega (arith, turn .loop-test .taken, q .2, q .0 .narrow)
+
+add-write-range : (t : ℕ) → lts.Need-add-write-range (callees t) (this t) reads.Post Inv-loop μ-loop
+add-write-range t c = omega (arith, small t (c .before .before .before .before .before .before .before .before .before .before))
+
+write-range-requires : (t : ℕ) → lts.Need-write-range-requires (callees t) (this t) reads.Post Inv-loop μ-loop
+write-range-requires t c κs =
+    let close = c .before .close-of .ensures in
+    let write = c .before .before .before .before .before .before in
+    let read = write .before .before .read-kind in
+    let turn = write .before .before .before .before in
+    let a = turn .before .before .before .before .args in
+    let q = turn .before .before .before .before .pre in
+    let w = wrote-token (a .words .now) (a .width) (a .kinds .now) (a .out .now) (a .at) (a .from) (turn .before .loop .inv .1) (read .result) (read .ensures) (write .write-token .ensures) in (
+      omega (arith, q .0, close .0, close .1, turn .before .loop .inv .1 .since, turn .loop-test .taken),
+      (q .1 .0, close .0, omega (arith, close .1, q .1 .2), w .bound),
+    )
+
+loop-less : (t : ℕ) → lts.Need-loop-less (callees t) (this t) reads.Post Inv-loop μ-loop
+loop-less t c = omega (arith, c .before .before .before .before .close-of .ensures .0, c .before .before .before .before .before .before .before .before .before .before .before .before .before .loop-test .taken)
+
+loop-again : (t : ℕ) → lts.Need-loop-again (callees t) (this t) reads.Post Inv-loop μ-loop
+loop-again t c =
+    let close = c .before .before .before .before .close-of .ensures in
+    let write = c .before .before .before .before .before .before .before .before .before in
+    let read = write .before .before .read-kind in
+    let turn = write .before .before .before .before in
+    let a = turn .before .before .before .before .args in
+    let w = wrote-token (a .words .now) (a .width) (a .kinds .now) (a .out .now) (a .at) (a .from) (turn .before .loop .inv .1) (read .result) (read .ensures) (write .write-token .ensures) in
+    let r = c .before .before .write-range .ensures in (
+      close .1,
+      wrote-then (tokensOf (a .words .now) (a .width) (a .kinds .now)) (a .out .now) (a .at) (a .from) w
+          (record { since = close .0; text = (r .0, r .1 .0); bound = r .1 .1 }),
+    )
 
 add-i : (t : ℕ) → lts.Need-add-i (callees t) (this t) reads.Post Inv-loop μ-loop
-add-i t c = omega (arith, small t (c .before .before .before .before .before .before))
+add-i t c = omega (arith, small t (c .before .before .before .before .before .before .before))
 
 loop-less-2 : (t : ℕ) → lts.Need-loop-less-2 (callees t) (this t) reads.Post Inv-loop μ-loop
-loop-less-2 t c = omega (arith, c .before .before .before .before .before .before .loop-test .taken)
+loop-less-2 t c = omega (arith, c .before .before .before .before .before .before .before .loop-test .taken)
 
 loop-again-2 : (t : ℕ) → lts.Need-loop-again-2 (callees t) (this t) reads.Post Inv-loop μ-loop
 loop-again-2 t c =
-    let turn = c .before .before .before .before .before .before in
+    let write = c .before .before .before in
+    let read = write .before .before .read-kind in
+    let turn = write .before .before .before .before in
     let a = turn .before .before .before .before .args in
-    let tokens = turn .before .loop .inv .1 in (
-      omega (arith, turn .loop-test .taken),
-      wrote-token (a .words .now) (a .width) (a .kinds .now) (a .out .now) (a .at) (a .from) tokens (c .before .before .write-token .ensures),
-    )
+    (omega (arith, turn .loop-test .taken), wrote-token (a .words .now) (a .width) (a .kinds .now) (a .out .now) (a .at) (a .from) (turn .before .loop .inv .1) (read .result) (read .ensures) (write .write-token .ensures))
 
 same-length : (t : ℕ) → lts.Need-same-length (callees t) (this t) reads.Post Inv-loop μ-loop
 same-length t c = let l = c .before .loop in ap length (l .inv .1 .text .1) ∙ simp length-sets
@@ -146,17 +150,17 @@ returns t c =
 pub +write-range-spec : {M : Type 1} → statement M
 +write-range-spec = close μ-write-range λ t. lts.spec (callees t) (this t) reads.Post Inv-loop μ-loop
     (loop-holds t)
-    (element-copy-out-kind t)
+    (element-copy-out-read-kind t)
+    (read-kind-requires t)
+    (add-write-token t)
+    (write-token-requires t)
+    (enum-told t)
     (add-close-of t)
     (close-of-requires t)
-    (put-requires t)
     (add-write-range t)
-    (add-write-range-2 t)
     (write-range-requires t)
     (loop-less t)
     (loop-again t)
-    (add-write-token t)
-    (write-token-requires t)
     (add-i t)
     (loop-less-2 t)
     (loop-again-2 t)

@@ -13,8 +13,11 @@ abbrev μ-loop : tie.MeasureT-loop
 loop-holds : tie.Need-loop-holds Inv-loop μ-loop
 loop-holds c = omega arith
 
-element-copy-out-open-after : tie.Need-element-copy-out-open-after Inv-loop μ-loop
-element-copy-out-open-after c = omega arith
+element-copy-out-read-kind : tie.Need-element-copy-out-read-kind Inv-loop μ-loop
+element-copy-out-read-kind c = omega arith
+
+read-kind-requires : tie.Need-read-kind-requires Inv-loop μ-loop
+read-kind-requires c κs = tt
 
 open-after-requires : tie.Need-open-after-requires Inv-loop μ-loop
 open-after-requires c κs = omega arith
@@ -41,7 +44,8 @@ close-of-spec =
     Inv-loop
     μ-loop
     loop-holds
-    element-copy-out-open-after
+    element-copy-out-read-kind
+    read-kind-requires
     open-after-requires
     returns
     add-i

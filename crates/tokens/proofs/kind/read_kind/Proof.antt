@@ -1,10 +1,10 @@
--- `token::read_kind` is a table: each of the first eight numbers has its arm, and what is past them is the close of a group with `*`.
+-- `kind::read_kind` is a table: each of the first eight numbers has its arm, and what is past them is the close of a group with `*`.
 use mathlib.Core.Path.{sym, ap}
 use borrow.Author.Needs.{needs}
-use Rattle.tokens.proofs.Tokens.{read-close}
-use Rattle.tokens.proofs.token.read_kind.Statement.{statement}
-use Rattle.tokens.proofs.token.read_kind.Tie as tie
-use Rattle.tokens.specs.Tokens.{readKind}
+use Rattle.tokens.proofs.Numbers.{read-close}
+use Rattle.tokens.proofs.kind.read_kind.Statement.{statement}
+use Rattle.tokens.proofs.kind.read_kind.Tie as tie
+use Rattle.tokens.specs.Kinds.{readKind}
 
 returns : tie.Need-returns
 returns c = sym (ap readKind (c .match .keys1))

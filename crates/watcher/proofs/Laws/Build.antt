@@ -18,7 +18,7 @@ use Rattle.rule.specs.Tokens.{noTokens, roomWith}
 use Rattle.rule.specs.declared.Outcome.{Outcome}
 use Rattle.rule.specs.declared.Outcome.the-variants.{NotARule, TooLong, TooManyStates, Tree}
 use Rattle.rule.specs.declared.Reading.{Reading}
-use Rattle.rule.proofs.Laws.Written.{row-length}
+use Rattle.tokens.proofs.Rows.{row-length}
 use Rattle.image.specs.Says as image
 use Rattle.watcher.specs.Answers.{builtAnswer, builtOf, TreeBuilt}
 use Rattle.watcher.specs.declared.Built.{Built}

@@ -18,7 +18,7 @@ static int refused(const char *what, uint64_t result) {
         "the rule is longer than 1,024 bytes",
         "the rule is not in the grammar",
         "the rule needs more than 512 states",
-        "the rule nests alternatives more than eight deep",
+        "the rule nests groups more than eight deep",
         "the image does not fit",
         "these words are not the image of a rule",
         "the journal is longer than 65,535 bytes",

@@ -2,31 +2,18 @@
 -- that the masks show, in the terms of the model (model.specs.Models.Apart).
 use mathlib.Core.Path.{_≡_}
 use mathlib.Core.List.{List}
-use Prim.Native.Nat.{ℕ, suc, _+_, _-_, _*_, _≤_}
-use lib.ListN.{getD, length}
+use Prim.Native.Nat.{ℕ, _-_}
+use lib.ListN.{length}
 use Rattle.model.specs.Bits.{bit}
-use Rattle.model.specs.Image.{width}
-use Rattle.model.specs.Models.Apart.{anyBelow, bitOf, depthWord, lettersIn, stateWord, tape, widthWord}
+use Rattle.model.specs.Models.Apart.{anyBelow, tape}
+use Rattle.model.specs.Models.Sections.{bitOf, lettersIn, stateWord, widthWord}
 use Rattle.model.specs.Models.Words.{Fit, value}
 use Rattle.tokens_masks.specs.Tapes.{bares, tokensOf}
 use Rattle.tokens_masks.specs.declared.Tape.{Tape}
 use Rattle.image_apart.specs.declared.Apart.{Apart}
-use Rattle.image_apart.specs.declared.Header.the-variants.{Other, Sound}
-
--- the shape's numbers are within the limits, the length is what they ask, and each section follows its count
-pub record Headed (ws : List ℕ) : Type 0 where
-  pub shape-count : getD ws 0 0 ≡ 3
-  pub some : 2 ≤ stateWord ws
-  pub few : stateWord ws ≤ 512
-  pub width-word : widthWord ws ≡ width (stateWord ws)
-  pub shallow : depthWord ws ≤ 8
-  pub long : length ws ≡ 10 + widthWord ws * (515 + 11 * depthWord ws)
-  pub letters-count : getD ws 4 0 ≡ 256 * widthWord ws
-  pub repeats-count : getD ws (5 + 256 * widthWord ws) 0 ≡ 256 * widthWord ws
-  pub scatter-count : getD ws (6 + 512 * widthWord ws) 0 ≡ 3 * widthWord ws * depthWord ws
-  pub gather-count : getD ws (7 + 512 * widthWord ws + 3 * widthWord ws * depthWord ws) 0 ≡ 3 * widthWord ws * depthWord ws
-  pub propagate-count : getD ws (8 + 512 * widthWord ws + 6 * widthWord ws * depthWord ws) 0 ≡ 3 * widthWord ws * suc (depthWord ws)
-  pub back-count : getD ws (9 + 515 * widthWord ws + 9 * widthWord ws * depthWord ws) 0 ≡ 2 * widthWord ws * depthWord ws
+use Rattle.image_sections.specs.Header.{Headed}
+use Rattle.image_sections.specs.Sections.{sectionsIn}
+use Rattle.image_sections.specs.declared.Header.the-variants.{Other, Sound}
 
 -- the states that some byte's mask of the letters has, in eight words
 pub record LettersOf (ws row : List ℕ) : Type 0 where
@@ -40,6 +27,6 @@ pub record ShownTape (ws : List ℕ) (t : Tape) : Type 0 where
   pub tokens-are : tokensOf t ≡ bares (tape ws)
 
 pub data ApartSays (ws : List ℕ) (r : Apart) : Type 0 where
-  taken : Headed ws → r .header ≡ Sound (stateWord ws) (widthWord ws) (depthWord ws) → LettersOf ws (r .letters) → ShownTape ws (r .tape)
+  taken : Headed ws → r .header ≡ Sound (sectionsIn ws) → LettersOf ws (r .letters) → ShownTape ws (r .tape)
       → ApartSays ws r
   no-header : (Headed ws → ⊥) → r .header ≡ Other → ApartSays ws r

@@ -1,24 +1,18 @@
-// Take apart: of any words at all the numbers that an image begins with (`numbers`), and, where they have such a header, the tape that the masks show
-// (`marks`). Nothing is read at a place before the length is known to reach it.
+// Take apart: of any words at all their header, and, where they have one, the tape that the masks show (`marks`). Nothing is read at a place before the
+// length is known to reach it.
 
 mod marks;
-mod numbers;
 
 use crate::marks::marks_of;
 use crate::marks::shown_tape;
-use crate::numbers::read_header;
+use image_sections::Header;
+use image_sections::read_header;
 use tokens_masks::Tape;
 ghost use mathlib.Core.Path.{_≡_};
 ghost use Rattle.image_apart.specs.Says.{ApartSays};
-ghost use Rattle.image_apart.specs.declared.Header.the-variants.{Other};
+ghost use Rattle.image_sections.specs.declared.Header.the-variants.{Other};
 
-// The states, the words of a mask and the depth that the words say they have; or something else than an image.
-pub enum Header {
-    Sound(usize, usize, usize),
-    Other,
-}
-
-// The numbers; the states that some letter's mask has; and the tape.
+// The header; the states that some letter's mask has; and the tape.
 pub struct Apart {
     pub header: Header,
     pub letters: [u64; 8],
@@ -43,11 +37,11 @@ pub fn take_apart(words: &[u64]) -> Apart
     ensures { λ r. ⌜ ApartSays (now (words .entry)) r ⌝ }
 {
     let header = read_header(words);
-    let Header::Sound(states, width, depth) = header else {
+    let Header::Sound(sections) = header else {
         return refuse();
     };
-    let marks = marks_of(words, width, depth);
-    let tape = shown_tape(marks, states - 1);
+    let marks = marks_of(words, sections);
+    let tape = shown_tape(marks, sections.states - 1);
     let letters = marks.letters;
     Apart {
         header,

@@ -1,4 +1,5 @@
 // What the masks show: the states that some of them have, and by these the tape. Anything odd is a bar: the comparison with what is laid out will tell.
+use image_sections::Sections;
 use mask::bits::row_has_bit;
 use tokens::kind::BAR;
 use tokens::kind::CLOSE_OPTIONAL;
@@ -14,6 +15,7 @@ ghost use mathlib.Core.Path.{_≡_};
 ghost use Prim.Native.Nat.{_+_, _*_, _≤_, _<_};
 ghost use lib.ListN.{length as lengthOf};
 ghost use Rattle.model.specs.Models.Apart.{markOf, repeatOf};
+ghost use Rattle.image_sections.specs.Sections.{Within};
 ghost use Rattle.tokens.specs.Kinds.{markKind, repeatKind};
 ghost use Rattle.image_apart.specs.Work.{ShownBy, enteredRow, enteredWords, kindAt, marksOf, orFirst, someRow, someWord};
 
@@ -85,20 +87,18 @@ fn entered_row(words: &[u64], at: usize, width: usize, count: usize) -> [u64; 8]
 }
 
 // Each row once over all depths: a token then asks one bit of it, however deep the tree is.
-pub fn marks_of(words: &[u64], width: usize, depth: usize) -> Marks
-    requires { ⌜ (width ≤ 8) × (depth ≤ 8) × (lengthOf (now words) ≡ 10 + width * (515 + 11 * depth)) ⌝ }
-    ensures { λ r. ⌜ r ≡ marksOf (now (words .entry)) width depth ⌝ }
+pub fn marks_of(words: &[u64], sections: Sections) -> Marks
+    requires { ⌜ Within sections (lengthOf (now words)) ⌝ }
+    ensures { λ r. ⌜ r ≡ marksOf (now (words .entry)) sections ⌝ }
 {
-    let scatter = 7 + 512 * width;
-    let gather = scatter + 1 + 3 * width * depth;
-    let propagate = gather + 1 + 3 * width * depth;
-    let back = propagate + 1 + 3 * width * (depth + 1);
-    let letters = some_row(words, 5, width, width, 256);
-    let loops = some_row(words, 6 + 256 * width, width, width, 256);
-    let entered = entered_row(words, propagate, width, depth + 1);
-    let closes = some_row(words, gather + 2 * width, 3 * width, width, depth);
-    let opens = some_row(words, scatter + width, 3 * width, width, depth);
-    let returns = some_row(words, back, 2 * width, width, depth);
+    let width = sections.width;
+    let depth = sections.depth;
+    let letters = some_row(words, sections.letters, width, width, 256);
+    let loops = some_row(words, sections.repeats, width, width, 256);
+    let entered = entered_row(words, sections.propagate, width, depth + 1);
+    let closes = some_row(words, sections.gather + 2 * width, 3 * width, width, depth);
+    let opens = some_row(words, sections.scatter + width, 3 * width, width, depth);
+    let returns = some_row(words, sections.back, 2 * width, width, depth);
     Marks {
         letters,
         loops,

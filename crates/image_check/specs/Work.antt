@@ -4,7 +4,7 @@ use mathlib.Core.List.{List, []}
 use Prim.Native.Nat.{ℕ, suc, _+_, _*_}
 use lib.ListN.{getD, take}
 use Rattle.model.specs.Image.{join}
-use Rattle.model.specs.Models.Apart.{backAt, gatherAt, propagateAt, scatterAt}
+use Rattle.model.specs.Models.Sections.{backAt, gatherAt, propagateAt, scatterAt}
 use Rattle.model.specs.Models.LayOut.{back-source, back-target, gather-block, gather-source, gather-target, letter-place, loop-place, scatter-block, scatter-source, scatter-target}
 use Rattle.model.specs.Models.Verdict.{sameWords}
 use Rattle.model.specs.Models.Words.{andWords}

@@ -1,4 +1,5 @@
 // "The first word that differs ends the comparison, whichever section it lies in."
+use image_sections::Sections;
 use mask::bits::same_rows;
 use tokens_masks::Tape;
 use tokens_masks::row_of;
@@ -10,16 +11,19 @@ ghost use Rattle.tokens_masks.specs.Says.{Laid};
 ghost use Rattle.image_check.specs.Work.{sameAll, sameMasks, sameRepeats};
 
 // Each mask of the repeats is the byte's mask of the letters at the loops' places.
-fn repeats_differ(words: &[u64], width: usize, loops: [u64; 8]) -> bool
-    requires { ⌜ (width ≤ 8) × (6 + 512 * width ≤ lengthOf (now words)) ⌝ }
-    ensures { λ r. ⌜ r ≡ not (sameRepeats (now (words .entry)) width loops) ⌝ }
+fn repeats_differ(words: &[u64], places: Places, loops: [u64; 8]) -> bool
+    requires { ⌜ Within sections (lengthOf (now words)) ⌝ }
+    ensures { λ r. ⌜ r ≡ not (sameRepeats (now (words .entry)) sections loops) ⌝ }
 {
+    let letters = places.letters;
+    let repeats = places.repeats;
+    let width = places.width;
     let mut differ = false;
     let mut b: usize = 0;
     'search: while b < 256 {
         let mut j: usize = 0;
         while j < width {
-            if words[6 + 256 * width + width * b + j] != words[5 + width * b + j] & loops[j] {
+            if words[repeats + width * b + j] != words[letters + width * b + j] & loops[j] {
                 differ = true;
                 break 'search;
             }
@@ -69,8 +73,7 @@ fn masks_differ(
 // Whether the words are what is laid out for the tape: `letters` are the states that some letter's mask has.
 pub fn agrees(
     words: &[u64],
-    width: usize,
-    depth: usize,
+    places: Places,
     letters: [u64; 8],
     tape: Tape,
     places: &[u64; 16],
@@ -79,30 +82,28 @@ pub fn agrees(
     propagates: &[u64; 216],
     backs: &[u64; 216],
 ) -> bool
-    requires shape { ⌜ (width ≤ 8) × (depth ≤ 8) × (lengthOf (now words) ≡ 10 + width * (515 + 11 * depth)) ⌝ }
+    requires shape { ⌜ Within sections (lengthOf (now words)) ⌝ }
     requires laid { ⌜ Laid tape (now places) (now scatters) (now gathers) (now propagates) (now backs) ⌝ }
-    ensures { λ r. ⌜ r ≡ sameAll (now (words .entry)) width depth letters tape ⌝ }
+    ensures { λ r. ⌜ r ≡ sameAll (now (words .entry)) sections letters tape ⌝ }
 {
-    let scatter = 7 + 512 * width;
-    let gather = scatter + 1 + 3 * width * depth;
-    let propagate = gather + 1 + 3 * width * depth;
-    let back = propagate + 1 + 3 * width * (depth + 1);
+    let width = places.width;
+    let depth = places.depth;
     let letter_places = row_of(places, 0);
     if !same_rows(letters, letter_places) {
         return false;
     }
     let loop_places = row_of(places, 1);
-    if repeats_differ(words, width, loop_places) {
+    if repeats_differ(words, sections, loop_places) {
         return false;
     }
-    if masks_differ(words, scatter, width, depth, 0, 3, scatters) {
+    if masks_differ(words, places.scatter, width, depth, 0, 3, scatters) {
         return false;
     }
-    if masks_differ(words, gather, width, depth, 0, 3, gathers) {
+    if masks_differ(words, places.gather, width, depth, 0, 3, gathers) {
         return false;
     }
-    if masks_differ(words, propagate, width, depth + 1, 0, 3, propagates) {
+    if masks_differ(words, places.propagate, width, depth + 1, 0, 3, propagates) {
         return false;
     }
-    !masks_differ(words, back, width, depth, 1, 2, backs)
+    !masks_differ(words, places.back, width, depth, 1, 2, backs)
 }

@@ -5,8 +5,9 @@
 mod compare;
 
 use crate::compare::agrees;
-use image_apart::Header;
 use image_apart::take_apart;
+use image_sections::Header;
+use image_sections::Sections;
 use tokens_masks::Shape;
 use tokens_masks::Tape;
 use tokens_masks::lay_out;
@@ -14,9 +15,9 @@ ghost use mathlib.Core.Path.{_≡_};
 ghost use Rattle.image_check.specs.Says.{CheckSays};
 ghost use Rattle.image_check.specs.declared.Verdict.the-variants.{Other};
 
-// An image whose masks have so many words, or anything else.
+// An image, with the places of its sections, or anything else.
 pub enum Verdict {
-    Image(usize),
+    Image(Sections),
     Other,
 }
 
@@ -44,7 +45,7 @@ pub fn check(words: &[u64]) -> Checked
 {
     let parts = take_apart(words);
     let header = parts.header;
-    let Header::Sound(_, width, depth) = header else {
+    let Header::Sound(sections) = header else {
         return refuse();
     };
     let tape = parts.tape;
@@ -64,14 +65,13 @@ pub fn check(words: &[u64]) -> Checked
     let Shape::Tree(deepest) = shape else {
         return refuse();
     };
-    if deepest != depth {
+    if deepest != sections.depth {
         return refuse();
     }
     let letters = parts.letters;
     if !agrees(
         words,
-        width,
-        depth,
+        sections,
         letters,
         tape,
         &places,
@@ -83,7 +83,7 @@ pub fn check(words: &[u64]) -> Checked
         return refuse();
     }
     Checked {
-        verdict: Verdict::Image(width),
+        verdict: Verdict::Image(sections),
         tape,
     }
 }

@@ -4,6 +4,7 @@ pub mod Words
 pub mod Run
 pub mod Tokens
 pub mod LayOut
+pub mod Sections
 pub mod Apart
 pub mod Verdict
 pub mod Leads

@@ -11,7 +11,7 @@ use Rattle.model.specs.Bits.{bit}
 use Rattle.model.specs.Edges.{states}
 use Rattle.model.specs.Ends.{EndsAre}
 use Rattle.model.specs.Image.{width}
-use Rattle.model.specs.Live.{After, Before, LiveFrom}
+use Rattle.model.specs.Live.{Before, LiveFrom}
 use Rattle.model.specs.Models.Words.{value}
 use Rattle.model.specs.Tree.{Tree}
 use Rattle.model.specs.Watch.{EndsIn, In, IsMask, MaskOf}
@@ -25,15 +25,10 @@ pub record StatesAre (t : Tree) (words : List ℕ) (S : ℕ → Type 0) : Type 0
 abbrev pub BeginSays : (image words : List ℕ) → Type 0
 BeginSays image words = (t : Tree) → ImageOf image t → StatesAre t words (Before t)
 
--- "After a byte", from any mask of the tree's states
-abbrev pub StepSays : List ℕ → ℕ → (live words : List ℕ) → Type 0
-StepSays image byte live words =
-    (t : Tree) → ImageOf image t → ((q : ℕ) → states t ≤ q → bit (value live) q ≡ false) → StatesAre t words (After t byte (λ q. T (bit (value live) q)))
-
 -- the total of the ends, and the first that fit written, rising; "Words or bytes past what is written stay as they were"
 abbrev pub FindSays : (image text before : List ℕ) (total : ℕ) (after : List ℕ) → Type 0
 FindSays image text before total after =
-    (t : Tree) → ImageOf image t → length text ≤ 65535 → (ends : List ℕ) → EndsAre t text ends → (total ≡ length ends) × (after ≡ done ends before .lent)
+    (t : Tree) → ImageOf image t → (ends : List ℕ) → EndsAre t text ends → (total ≡ length ends) × (after ≡ done ends before .lent)
 
 -- a stretch from the states of a mask, as document 02 has it for a watch: the live states after it, the total of its ends, and the first that fit
 pub record Gone (t : Tree) (mask : List ℕ) (place : ℕ) (stretch before words : List ℕ) (total : ℕ) (after : List ℕ) : Type 0 where

@@ -2,35 +2,35 @@
 -- edges' masks.
 use mathlib.Core.Path.{_≡_}
 use mathlib.Core.Logic.{_≢_}
-use mathlib.Core.Bool.{true, _&&_, cond}
+use mathlib.Core.Bool.{true}
 use mathlib.Core.List.{List, [], _∷_, _++_}
 use Prim.Native.Nat.{ℕ, zero, suc, _+_, _-_, _*_, _≤_, _<_}
-use lib.Dec.{leb}
 use lib.ListN.{drop, getD, length, replicate, take}
-use Rattle.model.specs.Models.Apart.{backAt, depthWord, gatherAt, propagateAt, scatterAt, stateWord}
-use Rattle.model.specs.Models.Run.{closeWords, endsWith, Masks, moveBy, passWords, stepWords}
+use Rattle.model.specs.Models.Sections.{backAt, depthWord, gatherAt, letterPlace, propagateAt, repeatPlace, scatterAt, threePlace, twoPlace}
+use Rattle.model.specs.Models.Run.{Masks, moveBy, passWords, stepWords}
+use Rattle.image_sections.specs.Sections.{Placed, widthOf}
+use Rattle.image_sections.specs.declared.Sections.{Sections}
 use Rattle.run_moves.specs.Less.{lessOne, plusWords, startWords}
 use Rattle.run_moves.specs.Sets.{Apart}
 use Rattle.run_word.specs.Ends.{Limits}
 use Rattle.run_word.specs.One.{ofNine}
-use Rattle.run_word.specs.Shape.{shaped, widthOf}
 
 -- "A mask is one record of eight 64-bit words in work, and in the image its first W words"
 abbrev pub rowAt : List ℕ → ℕ → ℕ → List ℕ
 rowAt ws at W = take W (drop at ws) ++ replicate (8 - W) 0
 
--- THE MASKS OF WORDS WITH A SHAPE, where they lie
+-- THE MASKS OF WORDS, where they lie
 abbrev pub masksOf : List ℕ → Masks
 masksOf ws =
     let W = widthOf ws in
     let d = depthWord ws in
     record {
-      letterMask = λ b. rowAt ws (5 + W * b) W;
-      loopMask = λ b. rowAt ws (6 + W * (256 + b)) W;
-      scatterMask = λ k j. rowAt ws (scatterAt W + W * (3 * k + j)) W;
-      gatherMask = λ k j. rowAt ws (gatherAt W d + W * (3 * k + j)) W;
-      propagateMask = λ k j. rowAt ws (propagateAt W d + W * (3 * k + j)) W;
-      backMask = λ k j. rowAt ws (backAt W d + W * (2 * k + j)) W;
+      letterMask = λ b. rowAt ws (letterPlace W b) W;
+      loopMask = λ b. rowAt ws (repeatPlace W b) W;
+      scatterMask = λ k j. rowAt ws (threePlace (scatterAt W) W k j) W;
+      gatherMask = λ k j. rowAt ws (threePlace (gatherAt W d) W k j) W;
+      propagateMask = λ k j. rowAt ws (threePlace (propagateAt W d) W k j) W;
+      backMask = λ k j. rowAt ws (twoPlace (backAt W d) W k j) W;
       startMask = startWords;
     }
 
@@ -40,7 +40,7 @@ rowsFrom zero k f = []
 rowsFrom (suc n) k f = f k ∷ rowsFrom n (suc k) f
 
 abbrev pub kindAt : List ℕ → (at W n j : ℕ) → List (List ℕ)
-kindAt ws at W n j = rowsFrom n 0 (λ k. rowAt ws (at + W * (3 * k + j)) W) ++ replicate (9 - n) (replicate 8 0)
+kindAt ws at W n j = rowsFrom n 0 (λ k. rowAt ws (threePlace at W k j) W) ++ replicate (9 - n) (replicate 8 0)
 
 abbrev pub Lessened : (source below : List (List ℕ)) → Type 0
 Lessened source below = (k : ℕ) → k < 9 → getD below k [] ≡ lessOne (getD source k [])
@@ -101,8 +101,8 @@ two source target (suc j) = target
 -- letters and repeats where they lie, W words to a mask, the others in the table
 abbrev pub workMasks : List ℕ → ℕ → List (List ℕ) → Masks
 workMasks ws W table = record {
-  letterMask = λ b. rowAt ws (5 + W * b) W;
-  loopMask = λ b. rowAt ws (6 + W * (256 + b)) W;
+  letterMask = λ b. rowAt ws (letterPlace W b) W;
+  loopMask = λ b. rowAt ws (repeatPlace W b) W;
   scatterMask = λ k. three (getD table (9 * k) []) (getD table (9 * k + 1) []) (getD table (9 * k + 2) []);
   gatherMask = λ k. three (getD table (9 * k + 3) []) (getD table (9 * k + 4) []) (getD table (9 * k + 5) []);
   propagateMask = λ k. three (getD table (9 * k + 6) []) (plusWords (getD table (9 * k + 7) []) true) (getD table (9 * k + 8) []);
@@ -139,30 +139,16 @@ pub record SteppedOn (n : ℕ) (ws : List ℕ) (b d : ℕ) (table : List (List �
   pub made : take n r ≡ stepWords (ruleMasks ws n table) d b (take n live)
   pub eight : length r ≡ 8
 
--- ---- WHAT THE RUN COMPUTES on any words: no state is live and no place an end where they have no shape
+-- no state
 abbrev pub noWords : List ℕ
 noWords = replicate 8 0
 
-abbrev pub beginWords : List ℕ → List ℕ
-beginWords ws = cond (shaped ws) (closeWords (masksOf ws) (depthWord ws) startWords) noWords
-
-abbrev pub nextWords : List ℕ → ℕ → List ℕ → List ℕ
-nextWords ws b live = cond (shaped ws) (stepWords (masksOf ws) (depthWord ws) b live) noWords
-
-abbrev pub endsFound : List ℕ → List ℕ → List ℕ
-endsFound ws text = cond (shaped ws && leb (length text) 65535) (endsWith (masksOf ws) (depthWord ws) (stateWord ws - 1) text) []
-
--- ---- what is asked: of the words for their table, the width and the depth read
-pub record Tables (ws : List ℕ) (W d : ℕ) : Type 0 where
-  pub shape : shaped ws ≡ true
-  pub wide : W ≡ widthOf ws
-  pub deep : d ≡ depthWord ws
-
+-- ---- what is asked
 -- of one byte, for a rule of at least two words
 pub record Steps (ws : List ℕ) (W d : ℕ) : Type 0 where
   pub wide : 2 ≤ W
   pub narrow : W ≤ 8
-  pub long : 6 + 512 * W ≤ length ws
+  pub long : repeatPlace W 256 ≤ length ws
   pub shallow : d ≤ 8
 
 -- of one byte of a rule with back edges, of which a row has all sources
@@ -179,15 +165,14 @@ pub record Overs (ws stretch : List ℕ) (place found W d last : ℕ) (table : L
   pub whole : Whole table d
 
 -- of a whole text
-pub record Scans (ws text : List ℕ) (W d last : ℕ) (table : List (List ℕ)) : Type 0 where
-  pub steps : Steps ws W d
+pub record Scans (ws : List ℕ) (p : Sections) (text : List ℕ) (table : List (List ℕ)) : Type 0 where
+  pub placed : Placed ws p
+  pub many : 64 < p .states
   pub small : length text ≤ 65535
-  pub within : last < 64 * W
-  pub tables : Tables ws W d
-  pub tabled : Tabled ws W d table
+  pub tabled : Tabled ws (p .width) (p .depth) table
 
--- of a stretch from the words of a mask: words with a shape, and as many words of the mask as it says
-pub record Goes (ws mask : List ℕ) (place : ℕ) (stretch : List ℕ) : Type 0 where
-  pub shape : shaped ws ≡ true
-  pub long : length mask ≡ widthOf ws
+-- of a stretch from the words of a mask: as many of them as the image's masks have
+pub record Goes (ws : List ℕ) (p : Sections) (mask : List ℕ) (place : ℕ) (stretch : List ℕ) : Type 0 where
+  pub placed : Placed ws p
+  pub long : length mask ≡ p .width
   pub limits : Limits place 0 stretch

@@ -4,7 +4,6 @@ pub mod ends;
 pub mod live;
 pub mod rounds;
 pub mod rows;
-pub mod shape;
 pub mod steps;
 pub mod stretch;
 pub mod table;

@@ -2,6 +2,8 @@
 // Only the first n words of a mask count.
 use crate::rows::row_at;
 use crate::table::Table;
+use image_sections::letters_at;
+use image_sections::repeats_at;
 use mask::Mask;
 use run_moves::advance;
 use run_moves::gather;
@@ -13,6 +15,7 @@ ghost use mathlib.Core.List.{[]};
 ghost use mathlib.Core.Path.{_≡_};
 ghost use Prim.Native.Nat.{_+_, _*_, _≤_};
 ghost use lib.ListN.{getD, length, take};
+ghost use Rattle.model.specs.Models.Sections.{letterPlace, repeatPlace};
 ghost use Rattle.model.specs.Models.Run.{fallWords, gatherWords, moveWords, passWords, propagateWords, riseWords, scatterWords};
 ghost use Rattle.run_moves.specs.Less.{plusWords, startWords};
 ghost use Rattle.run.specs.Work.{passMasks, rowAt};
@@ -111,13 +114,12 @@ pub fn pass(live: Mask, depth: usize, n: usize, table: &Table) -> Mask
 
 // The live states moved by a byte, and state 0; the byte's masks are read where they lie.
 pub fn moved(live: Mask, image: &[u64], width: usize, n: usize, byte: u8) -> Mask
-    requires { ⌜ (width ≤ 8) × (6 + 512 * width ≤ length (now image)) ⌝ }
-    ensures { λ r. ⌜ take n (r .words) ≡ moveWords (take n (rowAt (now (image .entry)) (5 + width * byte) width))
-        (take n (rowAt (now (image .entry)) (6 + width * (256 + byte)) width)) (take n startWords) (take n (live .words)) ⌝ }
+    requires { ⌜ (width ≤ 8) × (repeatPlace width 256 ≤ length (now image)) ⌝ }
+    ensures { λ r. ⌜ take n (r .words) ≡ moveWords (take n (rowAt (now (image .entry)) (letterPlace width byte) width))
+        (take n (rowAt (now (image .entry)) (repeatPlace width byte) width)) (take n startWords) (take n (live .words)) ⌝ }
 {
-    let b = byte as usize;
-    let letters = row_at(image, 5 + width * b, width);
-    let repeats = row_at(image, 6 + width * (256 + b), width);
+    let letters = row_at(image, letters_at(width, byte), width);
+    let repeats = row_at(image, repeats_at(width, byte), width);
     let first = start();
     advance(
         live,

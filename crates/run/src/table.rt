@@ -1,13 +1,15 @@
 // The masks of work: from the image's words kind by kind, and then laid side by side, so that one index steps through all that a depth needs; and the
 // masks of the back edges after them.
 use crate::rows::row_at;
+use image_sections::Sections;
 use mask::Mask;
 use mask::logic::or;
 use run_moves::less_one;
 ghost use mathlib.Core.Path.{_≡_};
 ghost use Prim.Native.Nat.{_+_, _*_, _≤_, _<_};
 ghost use lib.ListN.{length};
-ghost use Rattle.run.specs.Work.{kindAt, KindOf, Lessened, Put, PutBacks, Sources, Tabled, Tables, Whole};
+ghost use Rattle.image_sections.specs.Sections.{Placed};
+ghost use Rattle.run.specs.Work.{kindAt, KindOf, Lessened, Put, PutBacks, Sources, Tabled, Whole};
 
 // The masks of a kind, block, source or target of a section, for depths 0 to 8.
 pub type Kind = [[u64; 8]; 9];
@@ -47,36 +49,26 @@ fn less_ones(source: Kind) -> Kind
 }
 
 // Kind j of the nine: scatter's three, gather's three, propagate's three with the source less one.
-fn kind(image: &[u64], width: usize, depth: usize, j: usize) -> Kind
-    requires { ⌜ Tables (now image) width depth × (j < 9) ⌝ }
-    ensures { λ r. ⌜ KindOf (now (image .entry)) width depth j r ⌝ }
+fn kind(image: &[u64], sections: Sections, j: usize) -> Kind
+    requires { ⌜ Placed (now image) sections × (j < 9) ⌝ }
+    ensures { λ r. ⌜ KindOf (now (image .entry)) (sections .width) (sections .depth) j r ⌝ }
 {
+    let width = sections.width;
+    let depth = sections.depth;
     if j < 3 {
-        return kind_at(image, 7 + 512 * width, width, depth, j);
+        return kind_at(image, sections.scatter, width, depth, j);
     }
     if j < 6 {
-        return kind_at(
-            image,
-            8 + 512 * width + 3 * (width * depth),
-            width,
-            depth,
-            j - 3,
-        );
+        return kind_at(image, sections.gather, width, depth, j - 3);
     }
-    let masks = kind_at(
-        image,
-        9 + 512 * width + 6 * (width * depth),
-        width,
-        depth + 1,
-        j - 6,
-    );
+    let masks = kind_at(image, sections.propagate, width, depth + 1, j - 6);
     if j == 7 {
         return less_ones(masks);
     }
     masks
 }
 
-// The masks of kind j into their places.
+// The masks of kind j into their sections.
 fn put_kind(table: &mut Table, j: usize, masks: Kind)
     requires { ⌜ (j < 9) × (length (now table) ≡ 97) ⌝ }
     ensures { λ _. ⌜ Put j masks (now (table .entry)) (now (table .exit)) ⌝ }
@@ -90,11 +82,13 @@ fn put_kind(table: &mut Table, j: usize, masks: Kind)
 }
 
 // The masks of the back edges into theirs.
-fn put_backs(table: &mut Table, image: &[u64], width: usize, depth: usize)
-    requires { ⌜ Tables (now image) width depth × (length (now table) ≡ 97) ⌝ }
-    ensures { λ _. ⌜ PutBacks (2 * depth) (now (image .entry)) width depth (now (table .entry)) (now (table .exit)) ⌝ }
+fn put_backs(table: &mut Table, image: &[u64], sections: Sections)
+    requires { ⌜ Placed (now image) sections × (length (now table) ≡ 97) ⌝ }
+    ensures { λ _. ⌜ PutBacks (2 * sections .depth) (now (image .entry)) (sections .width) (sections .depth) (now (table .entry)) (now (table .exit)) ⌝ }
 {
-    let at = 10 + 515 * width + 9 * (width * depth);
+    let at = sections.back;
+    let width = sections.width;
+    let depth = sections.depth;
     let mut i = 0;
     while i < 2 * depth {
         let row = row_at(image, at + width * i, width);
@@ -118,18 +112,18 @@ pub fn all_sources(table: &Table, depth: usize) -> Mask
     r
 }
 
-pub fn table(image: &[u64], width: usize, depth: usize) -> Table
-    requires { ⌜ Tables (now image) width depth ⌝ }
-    ensures { λ r. ⌜ Tabled (now (image .entry)) width depth r ⌝ }
+pub fn table(image: &[u64], sections: Sections) -> Table
+    requires { ⌜ Placed (now image) sections ⌝ }
+    ensures { λ r. ⌜ Tabled (now (image .entry)) (sections .width) (sections .depth) r ⌝ }
 {
     let none = [0u64; 8];
     let mut r = [none; 97];
     let mut j = 0;
     while j < 9 {
-        let masks = kind(image, width, depth, j);
+        let masks = kind(image, sections, j);
         put_kind(&mut r, j, masks);
         j += 1;
     }
-    put_backs(&mut r, image, width, depth);
+    put_backs(&mut r, image, sections);
     r
 }

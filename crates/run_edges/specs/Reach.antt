@@ -1,6 +1,6 @@
 -- WHAT A STATE REACHES, WHAT A BYTE ENTERS AND WHAT IT LEAVES: as words, and of words that are an image in the terms of document 01.
 use mathlib.Core.Path.{_≡_}
-use mathlib.Core.Bool.{true, false, cond}
+use mathlib.Core.Bool.{false}
 use mathlib.Core.List.{List, [], _∷_}
 use Prim.Native.Nat.{ℕ, _+_, _*_, _/_, _%_, _^_, _≤_, _<_}
 use lib.Dec.{T}
@@ -9,12 +9,12 @@ use Rattle.model.specs.Answers.{ImageOf}
 use Rattle.model.specs.Bits.{bit}
 use Rattle.model.specs.Edges.{states}
 use Rattle.model.specs.Live.{Takes}
-use Rattle.model.specs.Models.Apart.{depthWord}
+use Rattle.model.specs.Models.Sections.{depthWord, letterPlace, repeatPlace}
 use Rattle.model.specs.Models.Run.{closeWords, moveWords}
 use Rattle.model.specs.Models.Words.{andWords, orWords, putBit, value}
 use Rattle.model.specs.Tree.{Tree}
 use Rattle.model.specs.Spelling.{Reaches}
-use Rattle.run_word.specs.Shape.{shaped, widthOf}
+use Rattle.image_sections.specs.Sections.{widthOf}
 use Rattle.run.specs.Says.{StatesAre}
 use Rattle.run.specs.Work.{masksOf, noWords, rowAt, Tabled}
 
@@ -23,25 +23,25 @@ abbrev pub unshiftWords : List ℕ → List ℕ
 unshiftWords [] = []
 unshiftWords (x ∷ xs) = (x / 2 + getD xs 0 0 % 2 * 2 ^ 63) ∷ unshiftWords xs
 
--- the masks of work of words with a shape
+-- the masks of work of words
 abbrev pub WorkOf : List ℕ → List (List ℕ) → Type 0
-WorkOf ws table = shaped ws ≡ true → Tabled ws (widthOf ws) (depthWord ws) table
+WorkOf ws table = Tabled ws (widthOf ws) (depthWord ws) table
 
--- ---- as words; none where there is no shape
+-- ---- as words
 abbrev pub reachWords : List ℕ → ℕ → List ℕ
-reachWords ws q = cond (shaped ws) (closeWords (masksOf ws) (depthWord ws) (putBit noWords q)) noWords
+reachWords ws q = closeWords (masksOf ws) (depthWord ws) (putBit noWords q)
 
 abbrev pub lettersOf : List ℕ → ℕ → List ℕ
-lettersOf ws b = let W = widthOf ws in rowAt ws (5 + W * b) W
+lettersOf ws b = let W = widthOf ws in rowAt ws (letterPlace W b) W
 
 abbrev pub repeatsOf : List ℕ → ℕ → List ℕ
-repeatsOf ws b = let W = widthOf ws in rowAt ws (6 + W * (256 + b)) W
+repeatsOf ws b = let W = widthOf ws in rowAt ws (repeatPlace W b) W
 
 abbrev pub enterWords : List ℕ → ℕ → List ℕ → List ℕ
-enterWords ws b live = cond (shaped ws) (moveWords (lettersOf ws b) (repeatsOf ws b) noWords live) noWords
+enterWords ws b live = moveWords (lettersOf ws b) (repeatsOf ws b) noWords live
 
 abbrev pub leaveWords : List ℕ → ℕ → List ℕ → List ℕ
-leaveWords ws b set = cond (shaped ws) (orWords (unshiftWords (andWords set (lettersOf ws b))) (andWords set (repeatsOf ws b))) noWords
+leaveWords ws b set = orWords (unshiftWords (andWords set (lettersOf ws b))) (andWords set (repeatsOf ws b))
 
 -- ---- of an image: the words have all that state q reaches without a letter
 abbrev pub ReachSays : List ℕ → ℕ → List ℕ → Type 0

@@ -1,5 +1,4 @@
--- Shape: which words have a shape. Ends: what is said of the ends found. One: the masks of a rule of one word. Stretch: the run over a stretch on them.
-pub mod Shape
+-- Ends: what is said of the ends found. One: the masks of a rule of one word. Stretch: the run over a stretch on them.
 pub mod Ends
 pub mod One
 pub mod Stretch

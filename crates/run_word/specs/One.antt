@@ -1,14 +1,13 @@
 -- THE MASKS OF A RULE OF AT MOST 64 STATES: each is one word, as it lies in the image.
 use mathlib.Core.Path.{_≡_}
-use mathlib.Core.Bool.{Bool, false, _&&_, cond}
+use mathlib.Core.Bool.{Bool, false, cond}
 use mathlib.Core.List.{List, [], _∷_}
 use Prim.Native.Nat.{ℕ, zero, suc, _+_, _-_, _*_, _/_, _%_, _≤_, _<_}
-use lib.Dec.{eqb, leb, ltb}
-use lib.ListN.{getD, length}
-use Rattle.model.specs.Models.Apart.{depthWord, stateWord}
-use Rattle.model.specs.Models.Run.{closeWords, endsWith, fallWords, Masks, passWords, propagateBy, returnsWords, riseWords}
+use lib.Dec.{eqb, ltb}
+use lib.ListN.{getD}
+use Rattle.model.specs.Models.Sections.{backAt, depthWord, gatherAt, letterPlace, propagateAt, repeatPlace, scatterAt, threePlace, twoPlace}
+use Rattle.model.specs.Models.Run.{closeWords, fallWords, Masks, passWords, propagateBy, returnsWords, riseWords}
 use Rattle.model.specs.Models.Words.{wrapAdd, wrapSub}
-use Rattle.run_word.specs.Shape.{shaped}
 
 -- word i as a row of one
 abbrev pub wordAt : List ℕ → ℕ → List ℕ
@@ -17,19 +16,14 @@ wordAt ws i = getD ws i 0 ∷ []
 -- the masks where they lie in an image of one word to a mask
 abbrev pub oneMasks : List ℕ → Masks
 oneMasks ws = record {
-  letterMask = λ b. wordAt ws (5 + b);
-  loopMask = λ b. wordAt ws (262 + b);
-  scatterMask = λ k j. wordAt ws (519 + 3 * k + j);
-  gatherMask = λ k j. wordAt ws (520 + 3 * depthWord ws + 3 * k + j);
-  propagateMask = λ k j. wordAt ws (521 + 6 * depthWord ws + 3 * k + j);
-  backMask = λ k j. wordAt ws (525 + 9 * depthWord ws + (2 * k + j));
+  letterMask = λ b. wordAt ws (letterPlace 1 b);
+  loopMask = λ b. wordAt ws (repeatPlace 1 b);
+  scatterMask = λ k j. wordAt ws (threePlace (scatterAt 1) 1 k j);
+  gatherMask = λ k j. wordAt ws (threePlace (gatherAt 1 (depthWord ws)) 1 k j);
+  propagateMask = λ k j. wordAt ws (threePlace (propagateAt 1 (depthWord ws)) 1 k j);
+  backMask = λ k j. wordAt ws (twoPlace (backAt 1 (depthWord ws)) 1 k j);
   startMask = 1 ∷ [];
 }
-
--- THE ENDS of a text, where the words have a shape of at most 64 states; elsewhere none
-abbrev pub endsOfOne : List ℕ → List ℕ → List ℕ
-endsOfOne ws text =
-    cond ((shaped ws && leb (stateWord ws) 64) && leb (length text) 65535) (endsWith (oneMasks ws) (depthWord ws) (stateWord ws - 1) text) []
 
 -- ---- THE MASKS IN WORK: nine words to a depth k. First the scatter and the gather masks of the unions whose alternatives lie at depth k, then the
 -- propagate masks of depth k, the source less one
@@ -38,8 +32,8 @@ ofNine j scatter gather less propagate = cond (ltb j 3) scatter (cond (ltb j 6) 
 
 abbrev pub entryAt : List ℕ → (d k j : ℕ) → ℕ
 entryAt ws d k j =
-    let high = getD ws (515 + 6 * d + 3 * k + j) 0 in
-    ofNine j (getD ws (516 + 3 * k + j) 0) (getD ws (514 + 3 * d + 3 * k + j) 0) (wrapSub high 1) high
+    let high = getD ws (propagateAt 1 d + 3 * k + j - 6) 0 in
+    ofNine j (getD ws (scatterAt 1 + 3 * k + j - 3) 0) (getD ws (gatherAt 1 d + 3 * k + j - 6) 0) (wrapSub high 1) high
 
 abbrev pub Entered : List ℕ → ℕ → List ℕ → Type 0
 Entered ws d table = (i : ℕ) → i < 9 * (d + 1) → getD table i 0 ≡ entryAt ws d (i / 9) (i % 9)
@@ -63,8 +57,8 @@ chains any block below target table (suc k) =
 -- after another; a rule without a back edge has none, that is zeros
 abbrev pub tableMasks : List ℕ → (any : Bool) (block below target : ℕ) → (table backs : List ℕ) → Masks
 tableMasks ws any block below target table backs = record {
-  letterMask = λ b. wordAt ws (5 + b);
-  loopMask = λ b. wordAt ws (262 + b);
+  letterMask = λ b. wordAt ws (letterPlace 1 b);
+  loopMask = λ b. wordAt ws (repeatPlace 1 b);
   scatterMask = λ k. three (getD table (9 * suc k) 0) (getD table (9 * suc k + 1) 0) (getD table (9 * suc k + 2) 0);
   gatherMask = λ k. three (getD table (9 * suc k + 3) 0) (getD table (9 * suc k + 4) 0) (getD table (9 * suc k + 5) 0);
   propagateMask = chains any block below target table;
@@ -82,7 +76,7 @@ NoChain table d any = any ≡ false → (k : ℕ) → k ≤ d → getD table (9 
 
 -- the back edges' masks of the depths below d, as they lie; and whether there is any back edge
 abbrev pub Backs : List ℕ → ℕ → List ℕ → Type 0
-Backs ws d backs = (i : ℕ) → i < 2 * d → getD backs i 0 ≡ getD ws (525 + 9 * d + i) 0
+Backs ws d backs = (i : ℕ) → i < 2 * d → getD backs i 0 ≡ getD ws (backAt 1 d + i) 0
 
 abbrev pub NoBack : List ℕ → ℕ → Bool → Type 0
 NoBack backs d any = any ≡ false → (i : ℕ) → i < 2 * d → getD backs i 0 ≡ 0

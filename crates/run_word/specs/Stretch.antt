@@ -4,7 +4,7 @@ use mathlib.Core.Bool.{Bool}
 use mathlib.Core.List.{List, [], _∷_}
 use Prim.Native.Nat.{ℕ, _≤_, _<_}
 use lib.ListN.{length}
-use Rattle.model.specs.Models.Apart.{depthWord}
+use Rattle.model.specs.Models.Sections.{depthWord, repeatPlace}
 use Rattle.model.specs.Models.Run.{Masks}
 use Rattle.run_word.specs.Ends.{Limits, RanOver}
 use Rattle.run_word.specs.One.{Backs, Entered, NoChain}
@@ -18,7 +18,7 @@ RanFrom M d last stretch from before r after =
 
 -- what a loop asks, and what the choice of one does
 pub record Overs (ws stretch : List ℕ) (from : From) (last : ℕ) : Type 0 where
-  pub long : 518 ≤ length ws
+  pub long : repeatPlace 1 256 ≤ length ws
   pub limits : Limits (from .place) (from .found) stretch
   pub few : last < 64
 

@@ -1,10 +1,8 @@
-// The run of a rule of at most 64 states, on plain 64-bit words; and the shape of an image and the writing of an end, which the run of wider
-// rules shares.
+// The run of a rule of at most 64 states, on plain 64-bit words; and the writing of an end, which the run of wider rules shares.
 pub mod ends;
 pub mod passes;
 pub mod places;
 mod rounds;
-pub mod shape;
 mod steps;
 pub mod stretch;
 mod table;

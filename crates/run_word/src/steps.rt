@@ -3,11 +3,14 @@ use crate::passes::advance;
 use crate::passes::along;
 use crate::passes::gather;
 use crate::passes::scatter;
+use image_sections::letters_at;
+use image_sections::repeats_at;
 ghost use mathlib.Core.Bool.{cond};
 ghost use mathlib.Core.List.{[], _∷_};
 ghost use mathlib.Core.Path.{_≡_};
 ghost use Prim.Native.Nat.{_+_, _*_, _≤_};
 ghost use lib.ListN.{getD, length};
+ghost use Rattle.model.specs.Models.Sections.{letterPlace, repeatPlace};
 ghost use Rattle.model.specs.Models.Run.{gatherWords, moveWords, propagateWords, scatterWords};
 ghost use Rattle.model.specs.Models.Words.{wrapAdd};
 ghost use Rattle.run_word.specs.One.{Fallen, Passed, Risen, wordAt};
@@ -100,9 +103,10 @@ pub fn reach(live: u64, depth: usize, any: bool, table: &[u64; 81]) -> u64
 
 // The live states moved by a byte, and state 0.
 pub fn moved(live: u64, image: &[u64], byte: u8) -> u64
-    requires { ⌜ 518 ≤ length (now image) ⌝ }
-    ensures { λ r. ⌜ r ∷ [] ≡ moveWords (wordAt (now (image .entry)) (5 + byte)) (wordAt (now (image .entry)) (262 + byte)) (1 ∷ []) (live ∷ []) ⌝ }
+    requires { ⌜ repeatPlace 1 256 ≤ length (now image) ⌝ }
+    ensures { λ r. ⌜ r ∷ [] ≡ moveWords (wordAt (now (image .entry)) (letterPlace 1 byte)) (wordAt (now (image .entry)) (repeatPlace 1 byte)) (1 ∷ []) (live ∷ []) ⌝ }
 {
-    let b = byte as usize;
-    advance(live, image[5 + b], image[262 + b])
+    let letters = image[letters_at(1, byte)];
+    let repeats = image[repeats_at(1, byte)];
+    advance(live, letters, repeats)
 }

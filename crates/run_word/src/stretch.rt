@@ -11,6 +11,7 @@ ghost use mathlib.Core.Path.{_≡_};
 ghost use Prim.Native.Nat.{_≤_, _<_};
 ghost use lib.ListN.{length};
 ghost use Rattle.model.specs.Bits.{bit};
+ghost use Rattle.model.specs.Models.Sections.{repeatPlace};
 ghost use Rattle.model.specs.Models.Words.{value};
 ghost use Rattle.run_word.specs.One.{oneMasks, tableMasks, workMasks};
 ghost use Rattle.run_word.specs.Ends.{Limits, RanOver};
@@ -52,7 +53,7 @@ fn over(
     target: u64,
     table: &[u64; 81],
 ) -> Ran
-    requires { ⌜ (518 ≤ length (now image)) × (last < 64) × (depth ≤ 8) × Limits place found (now stretch) ⌝ }
+    requires { ⌜ (repeatPlace 1 256 ≤ length (now image)) × (last < 64) × (depth ≤ 8) × Limits place found (now stretch) ⌝ }
     ensures { λ r. ⌜ RanOver (tableMasks (now (image .entry)) any block below target (now (table .entry)) []) 1 depth last place found (now (stretch .entry)) (first ∷ [])
         (now (ends .entry)) (r .live ∷ []) (r .total) (now (ends .exit)) ⌝ }
 {

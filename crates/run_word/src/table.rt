@@ -1,21 +1,23 @@
 // The table of work: the masks of scatter, gather and propagate for each depth, from the image's words; and beside it those of the back edges.
+use image_sections::Sections;
 ghost use mathlib.Core.Path.{_≡_};
-ghost use Prim.Native.Nat.{_+_, _*_, _≤_, _<_};
+ghost use Prim.Native.Nat.{_≤_, _<_};
 ghost use lib.ListN.{length};
+ghost use Rattle.image_sections.specs.Sections.{Single};
 ghost use Rattle.run_word.specs.One.{Backs, Entered, entryAt, NoBack, NoChain};
 
 // Word j of the nine of depth k.
-fn entry(image: &[u64], depth: usize, k: usize, j: usize) -> u64
-    requires { ⌜ (524 + 9 * depth ≤ length (now image)) × (k ≤ depth) × (j < 9) × (depth ≤ 8) ⌝ }
-    ensures { λ r. ⌜ r ≡ entryAt (now (image .entry)) depth k j ⌝ }
+fn entry(image: &[u64], sections: Sections, k: usize, j: usize) -> u64
+    requires { ⌜ Single sections (length (now image)) × (k ≤ sections .depth) × (j < 9) ⌝ }
+    ensures { λ r. ⌜ r ≡ entryAt (now (image .entry)) (sections .depth) k j ⌝ }
 {
     if j < 3 {
-        return image[516 + 3 * k + j];
+        return image[sections.scatter + 3 * k + j - 3];
     }
     if j < 6 {
-        return image[514 + 3 * depth + 3 * k + j];
+        return image[sections.gather + 3 * k + j - 6];
     }
-    let word = image[515 + 6 * depth + 3 * k + j];
+    let word = image[sections.propagate + 3 * k + j - 6];
     if j == 7 {
         return std::num::wrapping_sub_u64(word, 1);
     }
@@ -23,14 +25,15 @@ fn entry(image: &[u64], depth: usize, k: usize, j: usize) -> u64
 }
 
 // The words of depths 0 to d, zeros after.
-pub fn table(image: &[u64], depth: usize) -> [u64; 81]
-    requires { ⌜ (524 + 9 * depth ≤ length (now image)) × (depth ≤ 8) ⌝ }
-    ensures { λ r. ⌜ Entered (now (image .entry)) depth r ⌝ }
+pub fn table(image: &[u64], sections: Sections) -> [u64; 81]
+    requires { ⌜ Single sections (length (now image)) ⌝ }
+    ensures { λ r. ⌜ Entered (now (image .entry)) (sections .depth) r ⌝ }
 {
+    let depth = sections.depth;
     let mut r = [0u64; 81];
     let mut i = 0;
     while i < 9 * (depth + 1) {
-        r[i] = entry(image, depth, i / 9, i % 9);
+        r[i] = entry(image, sections, i / 9, i % 9);
         i += 1;
     }
     r
@@ -52,14 +55,16 @@ pub fn any_chain(table: &[u64; 81], depth: usize) -> bool
 }
 
 // Source and target of the back edges of each depth below d, zeros after.
-pub fn backs(image: &[u64], depth: usize) -> [u64; 16]
-    requires { ⌜ (525 + 11 * depth ≤ length (now image)) × (depth ≤ 8) ⌝ }
-    ensures { λ r. ⌜ Backs (now (image .entry)) depth r ⌝ }
+pub fn backs(image: &[u64], sections: Sections) -> [u64; 16]
+    requires { ⌜ Single sections (length (now image)) ⌝ }
+    ensures { λ r. ⌜ Backs (now (image .entry)) (sections .depth) r ⌝ }
 {
+    let at = sections.back;
+    let depth = sections.depth;
     let mut r = [0u64; 16];
     let mut i = 0;
     while i < 2 * depth {
-        r[i] = image[525 + 9 * depth + i];
+        r[i] = image[at + i];
         i += 1;
     }
     r

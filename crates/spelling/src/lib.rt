@@ -6,8 +6,8 @@ mod follow;
 use crate::follow::follow;
 use image_check::Verdict;
 use image_check::check;
+use image_sections::Sections;
 use run_edges::work;
-use run_word::shape::states as states_of;
 ghost use Rattle.model.specs.Spelling.{CheckSays};
 ghost use Rattle.spelling.specs.Answers.{checkedNumber, checkedYes};
 ghost use Rattle.spelling.specs.Work.{IsImage, RightSays};
@@ -33,21 +33,28 @@ pub fn check_spelling(
 {
     let checked = check(image);
     let verdict = checked.verdict;
-    let Verdict::Image(_) = verdict else {
+    let Verdict::Image(sections) = verdict else {
         return Judged::NotAnImage;
     };
     if text.len() > 65535 {
         return Judged::TextTooLong;
     }
-    if is_right(image, text, start, end, states) {
+    if is_right(image, sections, text, start, end, states) {
         return Judged::Yes;
     }
     Judged::No
 }
 
-// Places and length first, and then the states. One pass for each byte: a short proposal costs little.
-fn is_right(image: &[u64], text: &[u8], start: usize, end: usize, states: &[u32]) -> bool
-    requires { ⌜ IsImage (now image) ⌝ }
+// Sections and length first, and then the states. One pass for each byte: a short proposal costs little.
+fn is_right(
+    image: &[u64],
+    sections: Sections,
+    text: &[u8],
+    start: usize,
+    end: usize,
+    states: &[u32],
+) -> bool
+    requires { ⌜ IsImage (now image) × Placed (now image) sections ⌝ }
     ensures { λ r. ⌜ RightSays (now (image .entry)) (now (text .entry)) start end (now (states .entry)) r ⌝ }
 {
     if end > text.len() {
@@ -59,7 +66,7 @@ fn is_right(image: &[u64], text: &[u8], start: usize, end: usize, states: &[u32]
     if states.len() != end - start {
         return false;
     }
-    let masks = work(image);
-    let last = states_of(image) - 1;
-    follow(image, &masks, text, start, states, last)
+    let last = sections.states - 1;
+    let masks = work(image, sections);
+    follow(image, sections, &masks, text, start, states, last)
 }

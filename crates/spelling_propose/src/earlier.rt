@@ -1,10 +1,12 @@
-// The sets of earlier places, which go back from an end place.
+// The sets of earlier sections, which go back from an end place.
 use crate::origins::Origins;
 use crate::origins::into;
 use crate::sets::with_state;
+use image_sections::Sections;
 use mask::Mask;
 use run_edges::leave;
 ghost use Prim.Native.Nat.{_<_};
+ghost use Rattle.image_sections.specs.Sections.{Placed};
 ghost use Rattle.spelling_propose.specs.Work.{BackSays, EndingSays};
 
 // The states that reach the accepting state without a letter.
@@ -18,10 +20,17 @@ pub fn ending(origins: &Origins, last: usize) -> [u64; 8]
 }
 
 // One byte back.
-pub fn back(image: &[u64], origins: &Origins, set: [u64; 8], byte: u8) -> [u64; 8]
+pub fn back(
+    image: &[u64],
+    sections: Sections,
+    origins: &Origins,
+    set: [u64; 8],
+    byte: u8,
+) -> [u64; 8]
+    requires { ⌜ Placed (now image) sections ⌝ }
     ensures { λ r. ⌜ BackSays (now (image .entry)) (now (origins .entry)) set byte r ⌝ }
 {
-    let left = leave(image, Mask { words: set }, byte);
+    let left = leave(image, sections, Mask { words: set }, byte);
     let row = left.words;
     into(origins, row)
 }

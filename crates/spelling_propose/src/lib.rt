@@ -15,10 +15,11 @@ use crate::search::find_start;
 use crate::write::write;
 use image_check::Verdict;
 use image_check::check;
+use image_sections::Sections;
 use run_edges::work;
-use run_word::shape::states as states_of;
 ghost use Prim.Native.Nat.{_≤_};
 ghost use lib.ListN.{length};
+ghost use Rattle.image_sections.specs.Sections.{Placed};
 ghost use Rattle.model.specs.Spelling.{ProposeSays};
 ghost use Rattle.spelling.specs.Work.{IsImage};
 ghost use Rattle.spelling_propose.specs.Answers.{proposedAnswer};
@@ -38,7 +39,7 @@ pub fn propose_spelling(image: &[u64], text: &[u8], end: usize, states: &mut [u3
 {
     let checked = check(image);
     let verdict = checked.verdict;
-    let Verdict::Image(_) = verdict else {
+    let Verdict::Image(sections) = verdict else {
         return Proposed::NotAnImage;
     };
     if text.len() > 65535 {
@@ -47,20 +48,27 @@ pub fn propose_spelling(image: &[u64], text: &[u8], end: usize, states: &mut [u3
     if end > text.len() {
         return Proposed::NoEnd;
     }
-    propose(image, text, end, states)
+    propose(image, sections, text, end, states)
 }
 
 // The search for the start, and then the states: for a place in the text.
-fn propose(image: &[u64], text: &[u8], end: usize, states: &mut [u32]) -> Proposed
-    requires { ⌜ IsImage (now image) × (end ≤ length (now text)) × (length (now text) ≤ 65535) ⌝ }
+fn propose(
+    image: &[u64],
+    sections: Sections,
+    text: &[u8],
+    end: usize,
+    states: &mut [u32],
+) -> Proposed
+    requires { ⌜ IsImage (now image) × Placed (now image) sections × (end ≤ length (now text)) × (length (now text) ≤ 65535) ⌝ }
     ensures { λ r. ⌜ ProposeSays (now (image .entry)) (now (text .entry)) end (now (states .entry)) (proposedAnswer r (now (states .exit))) ⌝ }
 {
-    let masks = work(image);
-    let last = states_of(image) - 1;
-    let origins = find_origins(image, &masks, last + 1);
+    let count = sections.states;
+    let last = count - 1;
+    let masks = work(image, sections);
+    let origins = find_origins(image, sections, &masks, count);
     let none = [0u64; 8];
     let mut kept = [none; 256];
-    let found = find_start(image, text, end, last, &origins, &mut kept);
+    let found = find_start(image, sections, text, end, last, &origins, &mut kept);
     let Found::At(start) = found else {
         return Proposed::NoEnd;
     };
@@ -69,6 +77,7 @@ fn propose(image: &[u64], text: &[u8], end: usize, states: &mut [u32]) -> Propos
     }
     write(
         image,
+        sections,
         &masks,
         text,
         start,

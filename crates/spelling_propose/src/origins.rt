@@ -2,12 +2,14 @@
 // the origins of a set's states: no pass goes the other way.
 use crate::sets::either;
 use crate::sets::with_state;
+use image_sections::Sections;
 use mask::bits::row_has_bit;
 use run_edges::Work;
 use run_edges::reach;
 ghost use mathlib.Core.Path.{_≡_};
 ghost use Prim.Native.Nat.{_+_, _≤_, _<_};
 ghost use lib.ListN.{length};
+ghost use Rattle.image_sections.specs.Sections.{Placed};
 ghost use Rattle.run_edges.specs.Reach.{WorkOf};
 ghost use Rattle.spelling_propose.specs.Work.{IntoSays, IntoWordSays, NoteSays, OriginsSays};
 
@@ -30,15 +32,15 @@ fn note(origins: &mut Origins, q: usize, reached: [u64; 8], count: usize)
     }
 }
 
-pub fn find_origins(image: &[u64], masks: &Work, count: usize) -> Origins
-    requires { ⌜ WorkOf (now image) (now masks) × (count ≤ 512) ⌝ }
+pub fn find_origins(image: &[u64], sections: Sections, masks: &Work, count: usize) -> Origins
+    requires { ⌜ Placed (now image) sections × WorkOf (now image) (now masks) × (count ≤ 512) ⌝ }
     ensures { λ r. ⌜ OriginsSays (now (image .entry)) count r ⌝ }
 {
     let none = [0u64; 8];
     let mut r = [none; 512];
     let mut q = 0;
     while q < count {
-        let from = reach(image, masks, q);
+        let from = reach(image, sections, masks, q);
         let reached = from.words;
         note(&mut r, q, reached, count);
         q += 1;

@@ -2,10 +2,12 @@
 use crate::earlier::back;
 use crate::earlier::ending;
 use crate::origins::Origins;
+use image_sections::Sections;
 use mask::bits::row_has_bit;
 use mask::bits::same_rows;
 ghost use mathlib.Core.Path.{_≡_};
 ghost use lib.ListN.{length};
+ghost use Rattle.image_sections.specs.Sections.{Placed};
 ghost use Rattle.spelling_propose.specs.Work.{Asked, StartSays};
 
 // A set for every 256th place.
@@ -19,13 +21,14 @@ pub enum Found {
 // Goes back from the end until state 0 leads there, or no state does, and keeps the set of each 256th place.
 pub fn find_start(
     image: &[u64],
+    sections: Sections,
     text: &[u8],
     end: usize,
     last: usize,
     origins: &Origins,
     kept: &mut Kept,
 ) -> Found
-    requires { ⌜ Asked (now text) end last × (length (now kept) ≡ 256) ⌝ }
+    requires { ⌜ Placed (now image) sections × Asked (now text) end last × (length (now kept) ≡ 256) ⌝ }
     ensures { λ r. ⌜ StartSays (now (image .entry)) (now (origins .entry)) last (now (text .entry)) end (now (kept .exit)) r ⌝ }
 {
     let none = [0u64; 8];
@@ -42,7 +45,7 @@ pub fn find_start(
             return Found::Nowhere;
         }
         k -= 1;
-        let before = back(image, origins, set, text[k]);
+        let before = back(image, sections, origins, set, text[k]);
         set = before;
         if k % 256 == 0 {
             kept[k / 256] = set;

@@ -4,6 +4,7 @@ use crate::earlier::ending;
 use crate::origins::Origins;
 use crate::search::Kept;
 use crate::sets::lowest;
+use image_sections::Sections;
 use mask::Mask;
 use mask::logic::and;
 use run_edges::Work;
@@ -12,12 +13,14 @@ use run_edges::reach;
 ghost use mathlib.Core.Path.{_≡_};
 ghost use Prim.Native.Nat.{_≤_, _<_};
 ghost use lib.ListN.{length};
+ghost use Rattle.image_sections.specs.Sections.{Placed};
 ghost use Rattle.run_edges.specs.Reach.{WorkOf};
 ghost use Rattle.spelling_propose.specs.Work.{ChooseSays, FillSays, SetSays, StopSays, Stretch, WalkAsks, WalkSays, WriteAsks, WriteSays};
 
-// The sets of the places after lo up to hi, from that of hi.
+// The sets of the sections after lo up to hi, from that of hi.
 fn fill(
     image: &[u64],
+    sections: Sections,
     text: &[u8],
     lo: usize,
     hi: usize,
@@ -25,7 +28,7 @@ fn fill(
     set: [u64; 8],
     sets: &mut Kept,
 )
-    requires { ⌜ Stretch (now text) lo hi × (length (now sets) ≡ 256) ⌝ }
+    requires { ⌜ Placed (now image) sections × Stretch (now text) lo hi × (length (now sets) ≡ 256) ⌝ }
     ensures { λ _. ⌜ FillSays (now (image .entry)) (now (origins .entry)) (now (text .entry)) lo hi set (now (sets .exit)) ⌝ }
 {
     let mut here = set;
@@ -33,18 +36,25 @@ fn fill(
     while k > lo {
         k -= 1;
         sets[k - lo] = here;
-        let before = back(image, origins, here, text[k]);
+        let before = back(image, sections, origins, here, text[k]);
         here = before;
     }
 }
 
 // Of the states that a byte enters from what a state reaches, the lowest that is in the set.
-fn choose(image: &[u64], masks: &Work, at: usize, set: [u64; 8], byte: u8) -> usize
-    requires { ⌜ WorkOf (now image) (now masks) ⌝ }
+fn choose(
+    image: &[u64],
+    sections: Sections,
+    masks: &Work,
+    at: usize,
+    set: [u64; 8],
+    byte: u8,
+) -> usize
+    requires { ⌜ Placed (now image) sections × WorkOf (now image) (now masks) ⌝ }
     ensures { λ r. ⌜ ChooseSays (now (image .entry)) at set byte r ⌝ }
 {
-    let from = reach(image, masks, at);
-    let entered = enter(image, from, byte);
+    let from = reach(image, sections, masks, at);
+    let entered = enter(image, sections, from, byte);
     let both = and(entered, Mask { words: set }, 8);
     let words = both.words;
     lowest(words)
@@ -53,6 +63,7 @@ fn choose(image: &[u64], masks: &Work, at: usize, set: [u64; 8], byte: u8) -> us
 // The states that the bytes from lo to hi enter, after the state `from`: each one from which the other bytes lead on.
 fn walk(
     image: &[u64],
+    sections: Sections,
     masks: &Work,
     text: &[u8],
     lo: usize,
@@ -62,14 +73,14 @@ fn walk(
     start: usize,
     states: &mut [u32],
 ) -> usize
-    requires { ⌜ WorkOf (now image) (now masks) × WalkAsks (now text) lo hi from start (now states) ⌝ }
+    requires { ⌜ Placed (now image) sections × WorkOf (now image) (now masks) × WalkAsks (now text) lo hi from start (now states) ⌝ }
     ensures { λ r. ⌜ WalkSays (now (image .entry)) (now (text .entry)) lo hi (now (sets .entry)) from start (now (states .entry)) r (now (states .exit)) ⌝ }
 {
     let mut at = from;
     let mut k = lo;
     while k < hi {
         let set = sets[k - lo];
-        at = choose(image, masks, at, set, text[k]);
+        at = choose(image, sections, masks, at, set, text[k]);
         states[k - start] = at as u32;
         k += 1;
     }
@@ -99,6 +110,7 @@ fn set_at(end: usize, last: usize, origins: &Origins, kept: &Kept, stop: usize) 
 // The states of the spelling from start to end, into the first words of the list.
 pub fn write(
     image: &[u64],
+    sections: Sections,
     masks: &Work,
     text: &[u8],
     start: usize,
@@ -108,7 +120,7 @@ pub fn write(
     kept: &Kept,
     states: &mut [u32],
 )
-    requires { ⌜ WorkOf (now image) (now masks) × WriteAsks (now text) start end last (now states) ⌝ }
+    requires { ⌜ Placed (now image) sections × WorkOf (now image) (now masks) × WriteAsks (now text) start end last (now states) ⌝ }
     ensures { λ _. ⌜ WriteSays (now (image .entry)) (now (origins .entry)) last (now (text .entry)) start end (now (kept .entry)) (now (states .entry)) (now (states .exit)) ⌝ }
 {
     let none = [0u64; 8];
@@ -118,8 +130,19 @@ pub fn write(
     while k < end {
         let stop = stop_after(k, end);
         let set = set_at(end, last, origins, kept, stop);
-        fill(image, text, k, stop, origins, set, &mut sets);
-        at = walk(image, masks, text, k, stop, &sets, at, start, states);
+        fill(image, sections, text, k, stop, origins, set, &mut sets);
+        at = walk(
+            image,
+            sections,
+            masks,
+            text,
+            k,
+            stop,
+            &sets,
+            at,
+            start,
+            states,
+        );
         k = stop;
     }
 }

@@ -11,7 +11,6 @@ use image_check::check;
 use mask::bits::row_has_bit;
 use run::ends::go_on;
 use run_word::places::note;
-use run_word::shape::states;
 ghost use Rattle.model.specs.Watch.{BeginSays, StepSays};
 ghost use Rattle.watch.specs.Answers.{begunAnswer, steppedAnswer};
 
@@ -29,14 +28,15 @@ pub fn begin(image: &[u64], mask: &mut [u64], place: &mut u64, ends: &mut [u32])
 {
     let checked = check(image);
     let verdict = checked.verdict;
-    let Verdict::Image(width) = verdict else {
+    let Verdict::Image(sections) = verdict else {
         return Begun::NotAnImage;
     };
+    let width = sections.width;
+    let last = sections.states - 1;
     if mask.len() != width {
         return Begun::NotAMask;
     }
-    let last = states(image) - 1;
-    let first = run::live::begin(image);
+    let first = run::live::begin(image, sections);
     let words = first.words;
     let total = note(ends, 0, 0, row_has_bit(words, last));
     put_words(mask, words, width);
@@ -66,13 +66,14 @@ pub fn step(
 {
     let checked = check(image);
     let verdict = checked.verdict;
-    let Verdict::Image(width) = verdict else {
+    let Verdict::Image(sections) = verdict else {
         return Stepped::NotAnImage;
     };
+    let width = sections.width;
+    let count = sections.states;
     if stretch.len() > 65535 {
         return Stepped::StretchTooLong;
     }
-    let count = states(image);
     if !is_mask(mask, count) {
         return Stepped::NotAMask;
     }
@@ -81,7 +82,7 @@ pub fn step(
     if at > 4294967295 - length {
         return Stepped::TextTooLong;
     }
-    let ran = go_on(image, mask, at, stretch, ends);
+    let ran = go_on(image, sections, mask, at, stretch, ends);
     let words = ran.words;
     put_words(mask, words, width);
     *place = at + length;

@@ -63,20 +63,20 @@ pub enum Matched {
     Done(usize),
 }
 
-// Match: from an image and a text to the places of the ends, rising, as far as what is lent reaches. The image is checked in this same call: what
+// Match: from an image and a text to the sections of the ends, rising, as far as what is lent reaches. The image is checked in this same call: what
 // was checked is what runs.
 pub fn match_ends(image: &[u64], text: &[u8], ends: &mut [u32]) -> Matched
     ensures { λ r. ⌜ MatchSays (now (image .entry)) (now (text .entry)) (now (ends .entry)) (matchedAnswer r (now (ends .exit))) ⌝ }
 {
     let checked = check(image);
     let verdict = checked.verdict;
-    let Verdict::Image(_) = verdict else {
+    let Verdict::Image(sections) = verdict else {
         return Matched::NotAnImage;
     };
     if text.len() > 65535 {
         return Matched::TextTooLong;
     }
-    let total = find(image, text, ends);
+    let total = find(image, sections, text, ends);
     Matched::Done(total as usize)
 }
 

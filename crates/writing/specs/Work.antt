@@ -9,7 +9,7 @@ use lib.Seq.{sets}
 use Rattle.model.specs.Bits.{mask}
 use Rattle.model.specs.Bytes.{byte, bytes}
 use Rattle.model.specs.Image.{join}
-use Rattle.model.specs.Models.Apart.{bitOf, lettersIn}
+use Rattle.model.specs.Models.Sections.{bitOf, lettersIn}
 use Rattle.model.specs.Models.LayOut.{begin, owns}
 use Rattle.model.specs.Writing.{classWriting, markWriting, repeatWriting}
 use Rattle.tokens.specs.Kinds.{readKind}

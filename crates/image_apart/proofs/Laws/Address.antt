@@ -5,7 +5,7 @@ use Prim.Native.Nat.{ℕ, _+_, _*_, _≤_}
 use native.Mathlib.Omega.{arith}
 use lib.ListN.{drop, take}
 use lib.Seq.{drop-drop}
-use Rattle.model.specs.Models.Apart.{chunk, repeatsIn, widthWord}
+use Rattle.model.specs.Models.Sections.{chunk, repeatsIn, widthWord}
 use Rattle.model.proofs.Image.Address as model
 use Rattle.image_apart.specs.Work.{wordsAt}
 

@@ -5,7 +5,7 @@ use mathlib.Core.List.{List, map}
 use Prim.Native.Nat.{ℕ, _+_, _-_, _*_, _≤_}
 use native.Mathlib.Omega.{arith}
 use lib.ListN.{length, length-map}
-use Rattle.model.specs.Models.Apart.{depthWord, stateWord, widthWord}
+use Rattle.model.specs.Models.Sections.{depthWord, stateWord, widthWord}
 use Rattle.model.specs.Models.Words.{Fit}
 use Rattle.tokens_masks.specs.declared.Tape.{Tape}
 use Rattle.image_apart.specs.Says.{ApartSays, Headed, LettersOf, no-header, ShownTape, taken}

@@ -8,7 +8,8 @@ use native.Mathlib.Nat.{le-of-suc-le-suc, not-suc-le-zero, zero-add, zero-lt-suc
 use native.Mathlib.Omega.{arith}
 use lib.ListN.{drop, getD, length, take}
 use Rattle.model.specs.Bits.{bit, mask}
-use Rattle.model.specs.Models.Apart.{anyBelow, backAt, backIn, bitOf, bitOfThree, bitOfTwo, chunk, depthWord, gatherAt, gatherIn, lettersIn, markOf, propagateAt, propagateIn, repeatOf, repeatsIn, scatterAt, scatterIn, stateWord, tape, tokenAt, tokenOf, tokensBetween, tokensFrom, widthWord}
+use Rattle.model.specs.Models.Apart.{anyBelow, markOf, repeatOf, tape, tokenAt, tokenOf, tokensBetween, tokensFrom}
+use Rattle.model.specs.Models.Sections.{backAt, backIn, bitOf, bitOfThree, bitOfTwo, chunk, depthWord, gatherAt, gatherIn, lettersIn, propagateAt, propagateIn, repeatsIn, scatterAt, scatterIn, stateWord, widthWord}
 use Rattle.model.specs.Models.Tokens.{Token}
 use Rattle.model.specs.Models.Words.{Fit, value}
 use Rattle.model.proofs.Image.SameBits.{fit-drop, fit-take}

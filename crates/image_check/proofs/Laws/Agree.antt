@@ -14,7 +14,8 @@ use lib.Pow.{pow-mono}
 use lib.Seq.{drop-append-add, length-take-le, take-at}
 use Rattle.model.specs.Bits.{bit, mask}
 use Rattle.model.specs.Image.{join}
-use Rattle.model.specs.Models.Apart.{anyBelow, backAt, backIn, bitOf, chunk, depthWord, gatherAt, gatherIn, lettersIn, propagateAt, propagateIn, repeatsIn, scatterAt, scatterIn, stateWord, tape, widthWord}
+use Rattle.model.specs.Models.Apart.{anyBelow, tape}
+use Rattle.model.specs.Models.Sections.{backAt, backIn, bitOf, chunk, depthWord, gatherAt, gatherIn, lettersIn, propagateAt, propagateIn, repeatsIn, scatterAt, scatterIn, stateWord, widthWord}
 use Rattle.model.specs.Models.LayOut.{back-source, back-target, begin, blockOf, gather-block, gather-source, gather-target, layOut, letter-place, loop-place, scatter-block, scatter-source, scatter-target, set, sourceOf, targetOf, three, tokenLetters, two, Which}
 use Rattle.model.specs.Models.Tokens.{Token}
 use Rattle.model.specs.Models.Verdict.{sameWords}

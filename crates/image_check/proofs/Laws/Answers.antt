@@ -7,7 +7,7 @@ use native.Mathlib.Omega.{arith}
 use lib.Dec.{T}
 use lib.ListN.{length}
 use Rattle.model.specs.Answers.{NoImage}
-use Rattle.model.specs.Models.Apart.{depthWord, widthWord}
+use Rattle.model.specs.Models.Sections.{depthWord, widthWord}
 use Rattle.model.specs.Models.Words.{Fit}
 use Rattle.tokens_masks.specs.Tapes.{shapeOf}
 use Rattle.tokens_masks.specs.declared.Shape.the-variants as shape

@@ -12,7 +12,8 @@ use lib.Seq.{getD-drop}
 use Rattle.model.specs.Answers.{ImageOf}
 use Rattle.model.specs.Bits.{bit}
 use Rattle.model.specs.Edges.{states}
-use Rattle.model.specs.Models.Apart.{anyBelow, backAt, bitOf, depthWord, gatherAt, gatherIn, lettersIn, propagateAt, propagateIn, repeatsIn, scatterAt, scatterIn, stateWord, tape, tokenAt, widthWord}
+use Rattle.model.specs.Models.Apart.{anyBelow, tape, tokenAt}
+use Rattle.model.specs.Models.Sections.{backAt, bitOf, depthWord, gatherAt, gatherIn, lettersIn, propagateAt, propagateIn, repeatsIn, scatterAt, scatterIn, stateWord, widthWord}
 use Rattle.model.specs.Models.LayOut.{begin, letter-place, loop-place, reach, valid}
 use Rattle.model.specs.Models.Tokens.{parse, Token, tokens}
 use Rattle.model.specs.Models.Verdict.{accepts, sameWords}

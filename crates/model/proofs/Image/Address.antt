@@ -1,4 +1,4 @@
--- WHERE THE MASKS OF AN IMAGE LIE: a section comes after the one before it and a count, so a part of it is words from one place on.
+-- WHERE THE MASKS OF AN IMAGE LIE: a part of a section is words from one place on.
 use mathlib.Core.Path.{_≡_, refl, ap, _∙_}
 use mathlib.Core.List.{List, [], _∷_}
 use Prim.Native.Nat.{ℕ, zero, suc, _+_, _*_, _≤_, _<_}
@@ -6,7 +6,7 @@ use native.Mathlib.Nat.{mul-add, mul-assoc, mul-le-mul-left, mul-left-comm, mul-
 use native.Mathlib.Omega.{arith}
 use lib.ListN.{drop, take}
 use lib.Seq.{drop-drop, take-take}
-use Rattle.model.specs.Models.Apart.{backAt, backIn, chunk, depthWord, gatherAt, gatherIn, lettersIn, propagateAt, propagateIn, repeatsIn, scatterAt, scatterIn, widthWord}
+use Rattle.model.specs.Models.Sections.{chunk}
 
 -- there is room for part k where there is for n
 pub part-fits : (w : ℕ) {k n : ℕ} → k < n → w * k + w ≤ w * n
@@ -18,10 +18,6 @@ part-of-part n zero k l h = take-take n k l (omega arith)
 part-of-part n (suc m) zero l h = absurd (omega arith)
 part-of-part n (suc m) (suc k) [] h = refl
 part-of-part n (suc m) (suc k) (x ∷ l) h = part-of-part n m k l (omega arith)
-
--- the section after n words and the count of the next one
-past : (S ws : List ℕ) (a n : ℕ) → S ≡ drop a ws → drop 1 (drop n S) ≡ drop (a + n + 1) ws
-past S ws a n e = ap (λ (l : List ℕ). drop 1 (drop n l)) e ∙ ap (drop 1) (drop-drop n a ws) ∙ drop-drop 1 (a + n) ws
 
 -- mask k of a section, and mask j of the three of depth k
 pub chunk-at : (W k a : ℕ) (S ws : List ℕ) → S ≡ drop a ws → chunk W k S ≡ take W (drop (a + W * k) ws)
@@ -59,34 +55,3 @@ two-at W k j a S ws h e =
 
     place : a + 2 * W * k + W * j ≡ a + W * (2 * k + j)
     place = omega (arith, mul-add W (2 * k) j, mul-left-comm W 2 k, mul-assoc 2 W k)
-
--- ---- the sections
-module _ (ws : List ℕ) where
-  abbrev W : ℕ
-  W = widthWord ws
-
-  abbrev d : ℕ
-  d = depthWord ws
-
-  pub repeats-at : repeatsIn ws ≡ drop (6 + W * 256) ws
-  repeats-at = past (lettersIn ws) ws 5 (W * 256) refl ∙ ap (λ (n : ℕ). drop n ws) (let e : 5 + W * 256 + 1 ≡ 6 + W * 256 = omega arith in e)
-
-  pub scatter-at : scatterIn ws ≡ drop (scatterAt W) ws
-  scatter-at =
-      past (repeatsIn ws) ws (6 + W * 256) (W * 256) repeats-at
-      ∙ ap (λ (n : ℕ). drop n ws) (let e : 6 + W * 256 + W * 256 + 1 ≡ scatterAt W = omega arith in e)
-
-  pub gather-at : gatherIn ws ≡ drop (gatherAt W d) ws
-  gather-at =
-      past (scatterIn ws) ws (scatterAt W) (3 * W * d) scatter-at
-      ∙ ap (λ (n : ℕ). drop n ws) (let e : scatterAt W + 3 * W * d + 1 ≡ gatherAt W d = omega arith in e)
-
-  pub propagate-at : propagateIn ws ≡ drop (propagateAt W d) ws
-  propagate-at =
-      past (gatherIn ws) ws (gatherAt W d) (3 * W * d) gather-at
-      ∙ ap (λ (n : ℕ). drop n ws) (let e : gatherAt W d + 3 * W * d + 1 ≡ propagateAt W d = omega arith in e)
-
-  pub back-at : backIn ws ≡ drop (backAt W d) ws
-  back-at =
-      past (propagateIn ws) ws (propagateAt W d) (3 * W * suc d) propagate-at
-      ∙ ap (λ (n : ℕ). drop n ws) (let e : propagateAt W d + 3 * W * suc d + 1 ≡ backAt W d = omega arith in e)

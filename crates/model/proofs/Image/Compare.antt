@@ -9,10 +9,11 @@ use native.Mathlib.Nat.{le-of-suc-le-suc, not-suc-le-zero, zero-lt-suc, zero-add
 use native.Mathlib.Omega.{arith}
 use lib.Dec.{T}
 use lib.ListN.{length, getD, drop, length-drop}
-use lib.Seq.{drop-at, length-take-le}
+use lib.Seq.{getD-at, getD-drop, length-take-le}
 use Rattle.model.specs.Bits.{bit, mask}
 use Rattle.model.specs.Image.{section, width}
-use Rattle.model.specs.Models.Apart.{anyBelow, backIn, bitOf, chunk, depthWord, gatherIn, lettersIn, propagateIn, repeatsIn, scatterIn, stateWord, tape, tokenAt, tokenOf, tokensBetween, tokensFrom, widthWord}
+use Rattle.model.specs.Models.Apart.{anyBelow, tape, tokenAt, tokenOf, tokensBetween, tokensFrom}
+use Rattle.model.specs.Models.Sections.{backIn, bitOf, chunk, Counted, depthWord, gatherAt, gatherIn, lettersAt, lettersIn, propagateAt, propagateIn, repeatsAt, repeatsIn, scatterAt, scatterIn, stateWord, widthWord}
 use Rattle.model.specs.Models.LayOut.{assemble, back-source, back-target, begin, blockOf, gather-block, gather-source, gather-target, laid, layOut, loop-place, reach, scatter-block, scatter-source, scatter-target, set, sourceOf, targetOf, three, tokenLetters, tokenLoops, two, valid, Which}
 use Rattle.model.specs.Models.Tokens.{aBar, classOf, Token}
 use Rattle.model.specs.Models.Verdict.{accepts}
@@ -31,17 +32,10 @@ use Rattle.model.proofs.Words.Operations.{near-and, none-and-l}
 
 -- ---- what is compared
 pub record Compared (ws : List ℕ) (l : List Token) : Type 0 where
-  pub long : length ws ≡ 10 + widthWord ws * (515 + 11 * depthWord ws)
-  pub shape-count : getD ws 0 0 ≡ 3
+  pub counted : Counted ws (widthWord ws) (depthWord ws)
   pub states : stateWord ws ≡ suc (length l)
   pub width-word : widthWord ws ≡ width (stateWord ws)
   pub level : depthWord ws ≡ reach l begin
-  pub letters-count : getD ws 4 0 ≡ widthWord ws * 256
-  pub repeats-count : getD (drop (widthWord ws * 256) (lettersIn ws)) 0 0 ≡ widthWord ws * 256
-  pub scatter-count : getD (drop (widthWord ws * 256) (repeatsIn ws)) 0 0 ≡ 3 * widthWord ws * depthWord ws
-  pub gather-count : getD (drop (3 * widthWord ws * depthWord ws) (scatterIn ws)) 0 0 ≡ 3 * widthWord ws * depthWord ws
-  pub propagate-count : getD (drop (3 * widthWord ws * depthWord ws) (gatherIn ws)) 0 0 ≡ 3 * widthWord ws * suc (depthWord ws)
-  pub back-count : getD (drop (3 * widthWord ws * suc (depthWord ws)) (propagateIn ws)) 0 0 ≡ 2 * widthWord ws * depthWord ws
   -- no letter mask has state 0 or a state at or past m
   pub letters : (b x : ℕ) → b < 256 → (x ≡ 0) ⊎ (stateWord ws ≤ x) → bitOf (widthWord ws) (lettersIn ws) b x ≡ false
   pub repeats : (b : ℕ) → b < 256 → chunk (widthWord ws) b (repeatsIn ws)
@@ -109,14 +103,7 @@ tape-letters ws b i h k =
 pub compared-laid : (ws : List ℕ) → Fit ws → Compared ws (tape ws) → ws ≡ laid (tape ws)
 compared-laid ws fit C =
     rebuild ws (tokenLetters l) (tokenLoops l) (layOut l begin) (record {
-      long = C .long;
-      shape-count = C .shape-count;
-      letters-count = C .letters-count;
-      repeats-count = C .repeats-count;
-      scatter-count = C .scatter-count;
-      gather-count = C .gather-count;
-      propagate-count = C .propagate-count;
-      back-count = C .back-count;
+      counted = C .counted;
       letters = letters-same;
       repeats = λ b h. C .repeats b h ∙ repeat-words l b m W (chunk W b (lettersIn ws)) (C .states) fits (letters-hold b h);
       scatter = C .scatter;
@@ -139,7 +126,7 @@ compared-laid ws fit C =
     fits = subst (λ (n : ℕ). m ≤ wide n) (sym (C .width-word)) (room m)
 
     enough : (b : ℕ) → b < 256 → W ≤ length (drop (W * b) (lettersIn ws))
-    enough b h = omega (arith, C .long, length-drop (W * b) (lettersIn ws), length-drop 5 ws, mul-le-mul-left W h, mul-suc W b)
+    enough b h = omega (arith, C .counted .long, length-drop (W * b) (lettersIn ws), length-drop lettersAt ws, mul-le-mul-left W h, mul-suc W b)
 
     letter-bits : (b : ℕ) → b < 256 → (x : ℕ) → x < m → bit (value (chunk W b (lettersIn ws))) x ≡ tokenLetters l b x
     letter-bits b h zero k = C .letters b 0 h (inl refl)
@@ -149,7 +136,7 @@ compared-laid ws fit C =
     letters-hold b h = record {
       near = record {
         len = length-take-le W (drop (W * b) (lettersIn ws)) (enough b h);
-        fit = fit-take W (drop (W * b) (lettersIn ws)) (fit-drop (W * b) (lettersIn ws) (fit-drop 5 ws fit));
+        fit = fit-take W (drop (W * b) (lettersIn ws)) (fit-drop (W * b) (lettersIn ws) (fit-drop lettersAt ws fit));
         bits = letter-bits b h;
       };
       none = λ x k. C .letters b x h (inr k);
@@ -180,9 +167,10 @@ module _ (l : List Token) where
   abbrev B : Which → ℕ → ℕ → Bool
   B = layOut l begin
 
-  -- the count after the n words xs of a section, where the next section has j words
-  count-after : (S xs ys r : List ℕ) (n j : ℕ) → S ≡ xs ++ (section ys ++ r) → length xs ≡ n → length ys ≡ j → getD (drop n S) 0 0 ≡ j
-  count-after S xs ys r n j e x y = ap (λ (z : List ℕ). getD (drop n z) 0 0) e ∙ ap (λ (z : List ℕ). getD z 0 0) (drop-at xs (section ys ++ r) n x) ∙ y
+  -- the count after the n words xs of a section at place a, where the next section has j words
+  count-after : (xs ys r : List ℕ) (a n j : ℕ) → drop a (laid l) ≡ xs ++ (section ys ++ r) → length xs ≡ n → length ys ≡ j → getD (laid l) (a + n) 0 ≡ j
+  count-after xs ys r a n j e x y =
+      sym (getD-drop a (laid l) n 0) ∙ ap (λ (z : List ℕ). getD z n 0) e ∙ getD-at xs (length ys) (ys ++ r) 0 n x ∙ y
 
   set-clear : (f : ℕ → Bool) (x : ℕ) → f 0 ≡ false → (x ≡ 0) ⊎ (m ≤ x) → bit (value (set m W f)) x ≡ false
   set-clear f x h (inl e) = ap (λ (y : ℕ). bit (value (set m W f)) y) e ∙ set-holds m W f (room m) .near .bits 0 (zero-lt-suc (length l)) ∙ h
@@ -190,23 +178,25 @@ module _ (l : List Token) where
 
   pub laid-compared : Compared (laid l) l
   laid-compared = record {
-    long = length-assembled m W d L R B;
-    shape-count = refl;
+    counted = record {
+      long = length-assembled m W d L R B;
+      shape-count = refl;
+      letters-count = letters-length m W d L R B;
+      repeats-count = count-after (letterRows m W d L R B) (loopRows m W d L R B) (after-repeats m W d L R B) lettersAt (256 * W) (256 * W)
+          refl (letters-length m W d L R B) (loops-length m W d L R B);
+      scatter-count = count-after (loopRows m W d L R B) (scatterRows m W d L R B) (after-scatter m W d L R B) (repeatsAt W) (256 * W) (3 * W * d)
+          (repeats-found m W d L R B) (loops-length m W d L R B) (scatters-length m W d L R B);
+      gather-count = count-after (scatterRows m W d L R B) (gatherRows m W d L R B) (after-gather m W d L R B) (scatterAt W) (3 * W * d) (3 * W * d)
+          (scatter-found m W d L R B) (scatters-length m W d L R B) (gathers-length m W d L R B);
+      propagate-count = count-after (gatherRows m W d L R B) (propagateRows m W d L R B) (after-propagate m W d L R B) (gatherAt W d) (3 * W * d) (3 * W * suc d)
+          (gather-found m W d L R B) (gathers-length m W d L R B) (propagates-length m W d L R B);
+      back-count = count-after (propagateRows m W d L R B) (backRows m W d L R B) [] (propagateAt W d) (3 * W * suc d) (2 * W * d)
+          (propagate-found m W d L R B ∙ ap (λ (z : List ℕ). propagateRows m W d L R B ++ z) (sym (append-nil (after-propagate m W d L R B))))
+          (propagates-length m W d L R B) (backs-length m W d L R B);
+    };
     states = refl;
     width-word = refl;
     level = refl;
-    letters-count = letters-length m W d L R B;
-    repeats-count = count-after (lettersIn (laid l)) (letterRows m W d L R B) (loopRows m W d L R B) (after-repeats m W d L R B) (W * 256) (W * 256)
-        refl (letters-length m W d L R B) (loops-length m W d L R B);
-    scatter-count = count-after (repeatsIn (laid l)) (loopRows m W d L R B) (scatterRows m W d L R B) (after-scatter m W d L R B) (W * 256) (3 * W * d)
-        (repeats-found m W d L R B) (loops-length m W d L R B) (scatters-length m W d L R B);
-    gather-count = count-after (scatterIn (laid l)) (scatterRows m W d L R B) (gatherRows m W d L R B) (after-gather m W d L R B) (3 * W * d) (3 * W * d)
-        (scatter-found m W d L R B) (scatters-length m W d L R B) (gathers-length m W d L R B);
-    propagate-count = count-after (gatherIn (laid l)) (gatherRows m W d L R B) (propagateRows m W d L R B) (after-propagate m W d L R B) (3 * W * d) (3 * W * suc d)
-        (gather-found m W d L R B) (gathers-length m W d L R B) (propagates-length m W d L R B);
-    back-count = count-after (propagateIn (laid l)) (propagateRows m W d L R B) (backRows m W d L R B) [] (3 * W * suc d) (2 * W * d)
-        (propagate-found m W d L R B ∙ ap (λ (z : List ℕ). propagateRows m W d L R B ++ z) (sym (append-nil (after-propagate m W d L R B))))
-        (propagates-length m W d L R B) (backs-length m W d L R B);
     letters = λ b x h o. ap (λ (z : List ℕ). bit (value z) x) (part-letters m W d L R B b h) ∙ set-clear (L b) x refl o;
     repeats = λ b h. part-repeats m W d L R B b h
         ∙ sym (ap (λ (z : List ℕ). andWords z (set m W (B loop-place 0))) (part-letters m W d L R B b h)

@@ -11,7 +11,8 @@ use lib.Dec.{T, eqb, eqb-refl}
 use lib.ListN.{length, getD}
 use Rattle.model.specs.Bits.{bit}
 use Rattle.model.specs.Tree.{canLoop, canOmit, canReturn, once, option, plus, star}
-use Rattle.model.specs.Models.Apart.{anyBelow, bitOf, lettersIn, stateWord, widthWord}
+use Rattle.model.specs.Models.Apart.{anyBelow}
+use Rattle.model.specs.Models.Sections.{bitOf, lettersIn, stateWord, widthWord}
 use Rattle.model.specs.Models.LayOut.{afterBar, afterClose, barMarksIn, begin, closeMarksIn, Frame, layOut, letter-place, loop-place, mark, Scan, set, step, tokenLetters, tokenLoops, Which}
 use Rattle.model.specs.Models.Tokens.{aBar, aClose, aLetter, anOpen, classOf, loopClassOf, Token}
 use Rattle.model.specs.Models.Words.{value}

@@ -6,11 +6,11 @@ use Prim.Native.Nat.{ℕ, zero, suc, _+_, _*_, _/_, _^_, _≤_, _<_}
 use native.Mathlib.Nat.{le-of-suc-le-suc, not-suc-le-zero, mul-zero, mul-suc, le-trans, zero-add}
 use native.Mathlib.Omega.{arith}
 use lib.ListN.{length, take, drop, length-append}
-use lib.Seq.{take-at, take-all, drop-at, drop-append-add}
+use lib.Seq.{drop-append-add, drop-at, drop-drop, take-all, take-at}
 use lib.Pow.{pow-add, pow-mono}
 use Rattle.model.specs.Bits.{bit, mask}
 use Rattle.model.specs.Image.{join, width, words}
-use Rattle.model.specs.Models.Apart.{chunk}
+use Rattle.model.specs.Models.Sections.{chunk}
 use Rattle.model.specs.Models.LayOut.{set, three, two}
 use Rattle.model.specs.Models.Words.{value}
 use Rattle.model.proofs.Laws.Bits.{mask-same}
@@ -116,10 +116,13 @@ module _ (w : ℕ) (f : ℕ → List ℕ) (same : (k : ℕ) → length (f k) ≡
 
   pub chunk-join-end : (n k : ℕ) → k < n → chunk w k (join n 0 f) ≡ f k
   chunk-join-end n k h = ap (chunk w k) (sym (append-nil (join n 0 f))) ∙ chunk-join n k [] h
-
   -- past the parts and the count of the next section
-  pub past-join : (n c : ℕ) (r : List ℕ) → drop 1 (drop (w * n) (join n 0 f ++ (c ∷ r))) ≡ r
-  past-join n c r = ap (drop 1) (drop-at (join n 0 f) (c ∷ r) (w * n) (length-join n 0))
+
+-- what comes after a section: its words from place a on, n of them, and the count of the next
+pub past-section : (ws xs ys : List ℕ) (a n c : ℕ) → drop a ws ≡ xs ++ (c ∷ ys) → length xs ≡ n → drop (suc (a + n)) ws ≡ ys
+past-section ws xs ys a n c e l =
+    (let q : suc (a + n) ≡ a + n + 1 = omega arith in ap (λ (k : ℕ). drop k ws) q) ∙ sym (drop-drop 1 (a + n) ws)
+    ∙ ap (drop 1) (sym (drop-drop n a ws) ∙ ap (drop n) e ∙ drop-at xs (c ∷ ys) n l)
 
 -- parts that are equal for each number that comes
 pub join-same : (n a : ℕ) (f g : ℕ → List ℕ) → ((k : ℕ) → k < a + n → f k ≡ g k) → join n a f ≡ join n a g

@@ -1,17 +1,17 @@
 -- The sections of an assembled image: taking it apart finds each set again, and its length is what document 01 says.
-use mathlib.Core.Path.{_≡_, ap, _∙_}
+use mathlib.Core.Path.{_≡_, refl, ap, _∙_}
 use mathlib.Core.Bool.{Bool}
 use mathlib.Core.List.{List, _++_}
-use Prim.Native.Nat.{ℕ, suc, _+_, _*_, _≤_, _<_}
-use native.Mathlib.Nat.{mul-suc}
+use Prim.Native.Nat.{ℕ, suc, _*_, _≤_, _<_}
+use native.Mathlib.Nat.{mul-comm}
 use native.Mathlib.Omega.{arith}
-use lib.ListN.{length, drop, length-append}
+use lib.ListN.{length, length-append}
 use Rattle.model.specs.Bits.{bit}
 use Rattle.model.specs.Image.{join, section}
-use Rattle.model.specs.Models.Apart.{backIn, bitOf, bitOfThree, bitOfTwo, chunk, gatherIn, lettersIn, propagateIn, repeatsIn, scatterIn}
+use Rattle.model.specs.Models.Sections.{backIn, bitOf, bitOfThree, bitOfTwo, chunk, gatherAt, gatherIn, imageLength, lettersAt, lettersIn, propagateAt, propagateIn, repeatsAt, repeatsIn, scatterAt, scatterIn}
 use Rattle.model.specs.Models.LayOut.{assemble, back-source, back-target, blockOf, gather-block, gather-source, gather-target, scatter-block, scatter-source, scatter-target, set, sourceOf, targetOf, three, two, Which}
 use Rattle.model.specs.Models.Words.{value}
-use Rattle.model.proofs.Image.Rows.{chunk-join, chunk-join-end, length-join, length-set, length-three, length-two, past-join, set-bit, three-0, three-1, three-2, two-0, wide}
+use Rattle.model.proofs.Image.Rows.{chunk-join, chunk-join-end, length-join, length-set, length-three, length-two, past-section, set-bit, three-0, three-1, three-2, two-0, wide}
 
 module _ (m W d : ℕ) (L R : ℕ → ℕ → Bool) (B : Which → ℕ → ℕ → Bool) where
   abbrev all : List ℕ
@@ -73,11 +73,11 @@ module _ (m W d : ℕ) (L R : ℕ → ℕ → Bool) (B : Which → ℕ → ℕ �
   abbrev pub backRows : List ℕ
   backRows = join d 0 backWordsAt
 
-  pub letters-length : length letterRows ≡ W * 256
-  letters-length = length-join W letterWordsAt letter-length 256 0
+  pub letters-length : length letterRows ≡ 256 * W
+  letters-length = length-join W letterWordsAt letter-length 256 0 ∙ mul-comm W 256
 
-  pub loops-length : length loopRows ≡ W * 256
-  loops-length = length-join W loopWordsAt loop-length 256 0
+  pub loops-length : length loopRows ≡ 256 * W
+  loops-length = length-join W loopWordsAt loop-length 256 0 ∙ mul-comm W 256
 
   pub scatters-length : length scatterRows ≡ 3 * W * d
   scatters-length = length-join (3 * W) scatterWordsAt scatter-length d 0
@@ -109,27 +109,20 @@ module _ (m W d : ℕ) (L R : ℕ → ℕ → Bool) (B : Which → ℕ → ℕ �
 
   -- ---- each section is found
   pub repeats-found : repeatsIn all ≡ loopRows ++ after-repeats
-  repeats-found = past-join W letterWordsAt letter-length 256 (length loopRows) (loopRows ++ after-repeats)
+  repeats-found = past-section all letterRows (loopRows ++ after-repeats) lettersAt (256 * W) (length loopRows) refl letters-length
 
   pub scatter-found : scatterIn all ≡ scatterRows ++ after-scatter
-  scatter-found =
-      ap (λ (l : List ℕ). drop 1 (drop (W * 256) l)) repeats-found
-      ∙ past-join W loopWordsAt loop-length 256 (length scatterRows) (scatterRows ++ after-scatter)
+  scatter-found = past-section all loopRows (scatterRows ++ after-scatter) (repeatsAt W) (256 * W) (length scatterRows) repeats-found loops-length
 
   pub gather-found : gatherIn all ≡ gatherRows ++ after-gather
-  gather-found =
-      ap (λ (l : List ℕ). drop 1 (drop (3 * W * d) l)) scatter-found
-      ∙ past-join (3 * W) scatterWordsAt scatter-length d (length gatherRows) (gatherRows ++ after-gather)
+  gather-found = past-section all scatterRows (gatherRows ++ after-gather) (scatterAt W) (3 * W * d) (length gatherRows) scatter-found scatters-length
 
   pub propagate-found : propagateIn all ≡ propagateRows ++ after-propagate
   propagate-found =
-      ap (λ (l : List ℕ). drop 1 (drop (3 * W * d) l)) gather-found
-      ∙ past-join (3 * W) gatherWordsAt gather-length d (length propagateRows) (propagateRows ++ after-propagate)
+      past-section all gatherRows (propagateRows ++ after-propagate) (gatherAt W d) (3 * W * d) (length propagateRows) gather-found gathers-length
 
   pub back-found : backIn all ≡ backRows
-  back-found =
-      ap (λ (l : List ℕ). drop 1 (drop (3 * W * suc d) l)) propagate-found
-      ∙ past-join (3 * W) propagateWordsAt propagate-length (suc d) (length backRows) backRows
+  back-found = past-section all propagateRows backRows (propagateAt W d) (3 * W * suc d) (length backRows) propagate-found propagates-length
 
   -- ---- and in it each part
   pub part-letters : (b : ℕ) → b < 256 → chunk W b (lettersIn all) ≡ letterWordsAt b
@@ -183,8 +176,7 @@ module _ (m W d : ℕ) (L R : ℕ → ℕ → Bool) (B : Which → ℕ → ℕ �
         ap (λ (ws : List ℕ). bit (value ws) x) (ap (chunk W 0) (part-back k h) ∙ two-0 m W (B back-source k) (B back-target k))
         ∙ set-bit m W (B back-source k) room x l
 
-  -- "The length is 9 + W(515 + 9d) words", and "lengths grow by 1 + 2Wd"
-  pub length-assembled : length all ≡ 10 + W * (515 + 11 * d)
+  pub length-assembled : length all ≡ imageLength W d
   length-assembled =
       omega (
         arith,
@@ -199,5 +191,4 @@ module _ (m W d : ℕ) (L R : ℕ → ℕ → Bool) (B : Which → ℕ → ℕ �
         gathers-length,
         propagates-length,
         backs-length,
-        mul-suc (3 * W) d,
       )

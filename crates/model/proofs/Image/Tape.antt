@@ -10,7 +10,8 @@ use Rattle.model.specs.Bits.{bit, mask}
 use Rattle.model.specs.Tree.{canLoop, canOmit, canReturn, canSkip, Mark, once, option, optional, plus, Repeat, Seq, star, starred, unmarked}
 use Rattle.model.specs.Edges.{depth, seqEnd}
 use Rattle.model.specs.Image.{width}
-use Rattle.model.specs.Models.Apart.{anyBelow, backIn, bitOf, bitOfThree, bitOfTwo, gatherIn, lettersIn, markOf, propagateIn, repeatOf, repeatsIn, scatterIn, tape, tokenAt, tokenOf, tokensFrom}
+use Rattle.model.specs.Models.Apart.{anyBelow, markOf, repeatOf, tape, tokenAt, tokenOf, tokensFrom}
+use Rattle.model.specs.Models.Sections.{backIn, bitOf, bitOfThree, bitOfTwo, gatherIn, lettersIn, propagateIn, repeatsIn, scatterIn}
 use Rattle.model.specs.Models.LayOut.{back-source, entering, gather-target, leaving, scatter-source, Which}
 use Rattle.model.specs.Models.Tokens.{aBar, aClose, aLetter, anOpen, classOf, loopClassOf, Token, tokens}
 use Rattle.model.proofs.Ends.Run.{letterSet, loopSet}

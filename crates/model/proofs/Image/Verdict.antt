@@ -13,7 +13,8 @@ use Rattle.model.specs.Bits.{bit, mask}
 use Rattle.model.specs.Tree.{Seq}
 use Rattle.model.specs.Edges.{depth, states}
 use Rattle.model.specs.Image.{image}
-use Rattle.model.specs.Models.Apart.{anyBelow, bitOf, lettersIn, stateWord, tape, tokenAt, tokenOf, tokensBetween, tokensFrom, widthWord}
+use Rattle.model.specs.Models.Apart.{anyBelow, tape, tokenAt, tokenOf, tokensBetween, tokensFrom}
+use Rattle.model.specs.Models.Sections.{bitOf, lettersIn, stateWord, widthWord}
 use Rattle.model.specs.Models.LayOut.{begin, laid, reach, valid}
 use Rattle.model.specs.Models.Tokens.{parse, Token, tokens}
 use Rattle.model.specs.Models.Verdict.{accepts, sameWords, verdict}

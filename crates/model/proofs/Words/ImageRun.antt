@@ -9,7 +9,7 @@ use lib.ListN.{getD}
 use Rattle.model.specs.Tree.{Seq}
 use Rattle.model.specs.Edges.{depth, seqEnd}
 use Rattle.model.specs.Image.{width}
-use Rattle.model.specs.Models.Apart.{backIn, chunk, gatherIn, lettersIn, propagateIn, repeatsIn, scatterIn, widthWord}
+use Rattle.model.specs.Models.Sections.{backIn, chunk, gatherIn, lettersIn, propagateIn, repeatsIn, scatterIn, widthWord}
 use Rattle.model.specs.Models.LayOut.{back-source, back-target, blockOf, gather-block, gather-source, gather-target, scatter-block, scatter-source, scatter-target, set, sourceOf, targetOf, three, two}
 use Rattle.model.specs.Models.Run.{Masks}
 use Rattle.model.proofs.Ends.Run.{letterSet, loopSet, startSet}

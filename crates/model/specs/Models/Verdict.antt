@@ -5,7 +5,8 @@ use mathlib.Core.Option.{Option, none, some}
 use Prim.Native.Nat.{ℕ}
 use lib.Dec.{eqb, leb}
 use Rattle.model.specs.Tree.{Tree}
-use Rattle.model.specs.Models.Apart.{stateWord, tape}
+use Rattle.model.specs.Models.Apart.{tape}
+use Rattle.model.specs.Models.Sections.{stateWord}
 use Rattle.model.specs.Models.LayOut.{begin, laid, valid}
 use Rattle.model.specs.Models.Tokens.{parse}
 

@@ -1,10 +1,10 @@
 -- THE MASKS OF WORK HOLD THE TREE'S SETS, for words that are the tree's image: they are the image's own masks with zeros above. And such words
--- have a shape.
+-- have its places.
 use mathlib.Core.Path.{_≡_, refl, sym, ap, _∙_, subst}
-use mathlib.Core.Bool.{Bool, true, false}
+use mathlib.Core.Bool.{Bool, false}
 use mathlib.Core.List.{List, [], _∷_, _++_}
 use Prim.Native.Nat.{ℕ, zero, suc, _+_, _-_, _*_, _≤_, _<_}
-use native.Mathlib.Nat.{mul-add, not-suc-le-zero}
+use native.Mathlib.Nat.{not-suc-le-zero}
 use native.Mathlib.Omega.{arith}
 use lib.Dec.{eqb·suc-zero}
 use lib.ListN.{drop, replicate, take}
@@ -12,11 +12,11 @@ use Rattle.model.specs.Answers.{ImageOf}
 use Rattle.model.specs.Bits.{bit}
 use Rattle.model.specs.Edges.{depth, states}
 use Rattle.model.specs.Image.{width}
-use Rattle.model.specs.Models.Apart.{backAt, backIn, chunk, gatherAt, gatherIn, lettersIn, propagateAt, propagateIn, repeatsIn, scatterAt, scatterIn, stateWord}
+use Rattle.model.specs.Models.Sections.{backAt, backIn, chunk, gatherAt, gatherIn, letterPlace, lettersAt, lettersIn, propagateAt, propagateIn, repeatPlace, repeatsAt, repeatsIn, scatterAt, scatterIn, stateWord}
 use Rattle.model.specs.Models.Words.{value}
 use Rattle.model.specs.Tree.{Tree}
 use Rattle.model.proofs.Ends.Run.{letterSet, loopSet, startSet}
-use Rattle.model.proofs.Image.Address.{back-at, chunk-at, gather-at, propagate-at, repeats-at, scatter-at, three-at, two-at}
+use Rattle.model.proofs.Image.Address.{chunk-at, three-at, two-at}
 use Rattle.model.proofs.Image.OfEdges.{image-is}
 use Rattle.model.proofs.Image.Sections.{length-assembled}
 use Rattle.model.proofs.Image.Sets.{arcImage, treeSet}
@@ -28,10 +28,9 @@ use Rattle.model.proofs.Reading.WellFormed.{rule-well}
 use Rattle.model.proofs.Words.Holds.{Holds, pad-holds}
 use Rattle.model.proofs.Words.ImageRun.{image-carry}
 use Rattle.model.proofs.Words.Run.{Carry}
-use Rattle.run_word.specs.Shape.{shaped}
+use Rattle.image_sections.specs.Sections.{Placed, sectionsOf}
 use Rattle.run_moves.specs.Less.{startWords}
 use Rattle.run.specs.Work.{masksOf, rowAt}
-use Rattle.run_word.proofs.Laws.Shape.{Shape, shape-is}
 
 -- the mask of state 0: one word, and zeros above
 start-bit : (x : ℕ) → bit (value (1 ∷ [])) x ≡ startSet x
@@ -74,17 +73,17 @@ module _ (t : Tree) where
     placed S at k j f e l H = padded (chunk W j (chunk (3 * W) k S)) (at + W * (3 * k + j)) f (three-at W k j at S A l e) H
 
     scattered : (k j : ℕ) (f : ℕ → Bool) → j < 3 → Holds m W (chunk W j (chunk (3 * W) k (scatterIn A))) f → Holds m 8 (masksOf A .scatterMask k j) f
-    scattered k j f = placed (scatterIn A) (scatterAt W) k j f (scatter-at A)
+    scattered k j f = placed (scatterIn A) (scatterAt W) k j f refl
 
     gathered : (k j : ℕ) (f : ℕ → Bool) → j < 3 → Holds m W (chunk W j (chunk (3 * W) k (gatherIn A))) f → Holds m 8 (masksOf A .gatherMask k j) f
-    gathered k j f = placed (gatherIn A) (gatherAt W d) k j f (gather-at A)
+    gathered k j f = placed (gatherIn A) (gatherAt W d) k j f refl
 
     propagated : (k j : ℕ) (f : ℕ → Bool) → j < 3 → Holds m W (chunk W j (chunk (3 * W) k (propagateIn A))) f → Holds m 8 (masksOf A .propagateMask k j) f
-    propagated k j f = placed (propagateIn A) (propagateAt W d) k j f (propagate-at A)
+    propagated k j f = placed (propagateIn A) (propagateAt W d) k j f refl
 
     -- of the two of the back edges of depth k
     returned : (k j : ℕ) (f : ℕ → Bool) → j < 2 → Holds m W (chunk W j (chunk (2 * W) k (backIn A))) f → Holds m 8 (masksOf A .backMask k j) f
-    returned k j f l = padded (chunk W j (chunk (2 * W) k (backIn A))) (backAt W d + W * (2 * k + j)) f (two-at W k j (backAt W d) (backIn A) A l (back-at A))
+    returned k j f l = padded (chunk W j (chunk (2 * W) k (backIn A))) (backAt W d + W * (2 * k + j)) f (two-at W k j (backAt W d) (backIn A) A l refl)
 
     arc-carry : Carry m 8 t (masksOf A)
     arc-carry =
@@ -92,10 +91,8 @@ module _ (t : Tree) where
         record {
           room = few;
           whole = C .whole;
-          letters = λ b l. padded (chunk W b (lettersIn A)) (5 + W * b) (letterSet (arcs t 0 0) b) (chunk-at W b 5 (lettersIn A) A refl) (C .letters b l);
-          loops = λ b l. padded (chunk W b (repeatsIn A)) (6 + W * (256 + b)) (loopSet (arcs t 0 0) b)
-              (chunk-at W b (6 + W * 256) (repeatsIn A) A (repeats-at A)
-              ∙ ap (λ (n : ℕ). take W (drop n A)) (let e : 6 + W * 256 + W * b ≡ 6 + W * (256 + b) = omega (arith, mul-add W 256 b) in e)) (C .loops b l);
+          letters = λ b l. padded (chunk W b (lettersIn A)) (letterPlace W b) (letterSet (arcs t 0 0) b) (chunk-at W b lettersAt (lettersIn A) A refl) (C .letters b l);
+          loops = λ b l. padded (chunk W b (repeatsIn A)) (repeatPlace W b) (loopSet (arcs t 0 0) b) (chunk-at W b (repeatsAt W) (repeatsIn A) A refl) (C .loops b l);
           scatter-block = λ k l. scattered k 0 _ (omega arith) (C .scatter-block k l);
           scatter-source = λ k l. scattered k 1 _ (omega arith) (C .scatter-source k l);
           scatter-target = λ k l. scattered k 2 _ (omega arith) (C .scatter-target k l);
@@ -110,10 +107,11 @@ module _ (t : Tree) where
           start = start-holds m (omega arith);
         }
 
-  arc-shape : NonEmpty t → m ≤ 512 → d ≤ 8 → Shape A
-  arc-shape f h k = record {
-    some-states = two-states t f;
-    few-states = h;
+  arc-placed : NonEmpty t → m ≤ 512 → d ≤ 8 → Placed A (sectionsOf m d)
+  arc-placed f h k = record {
+    own = refl;
+    some = two-states t f;
+    few = h;
     shallow = k;
     long = length-assembled m W d (letterSet (arcs t 0 0)) (loopSet (arcs t 0 0)) (treeSet t);
   }
@@ -131,6 +129,5 @@ module _ (ws : List ℕ) (t : Tree) (I : ImageOf ws t) where
   pub carried : Carry (states t) 8 t (masksOf ws)
   carried = subst (λ (z : List ℕ). Carry (states t) 8 t (masksOf z)) (sym as-arcs) (arc-carry t (I .few))
 
-  pub image-shaped : shaped ws ≡ true
-  image-shaped =
-      ap shaped as-arcs ∙ shape-is (arcImage t) (arc-shape t (rule-well (I .is-rule) .full) (I .few) (I .shallow))
+  pub image-placed : Placed ws (sectionsOf (states t) (depth t))
+  image-placed = subst (λ (z : List ℕ). Placed z (sectionsOf (states t) (depth t))) (sym as-arcs) (arc-placed t (rule-well (I .is-rule) .full) (I .few) (I .shallow))

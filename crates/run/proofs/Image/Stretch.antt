@@ -14,7 +14,7 @@ use Rattle.model.specs.Bits.{bit}
 use Rattle.model.specs.Edges.{accepting, depth, states}
 use Rattle.model.specs.Image.{width}
 use Rattle.model.specs.Live.{LiveFrom}
-use Rattle.model.specs.Models.Apart.{depthWord, stateWord}
+use Rattle.model.specs.Models.Sections.{depthWord, stateWord}
 use Rattle.model.specs.Models.Run.{endsAfter, Masks, runFrom}
 use Rattle.model.specs.Models.Words.{Fit, value}
 use Rattle.model.specs.Tree.{Tree}
@@ -34,11 +34,12 @@ use Rattle.run_word.specs.Ends.{RanOver}
 use Rattle.run_word.proofs.Laws.Back.{BackCut}
 use Rattle.run_word.proofs.Laws.Cut.{Cut, take-bit}
 use Rattle.run_word.specs.One.{oneMasks}
-use Rattle.run_word.specs.Shape.{widthOf}
-use Rattle.run_word.proofs.Laws.Shape.{shape-of}
+use Rattle.image_sections.specs.Sections.{Placed, widthOf}
+use Rattle.image_sections.specs.declared.Sections.{Sections}
+use Rattle.image_sections.proofs.Laws.Within.{own-depth, own-placed, own-states, own-width}
 use Rattle.run.specs.Says.{Gone, StatesAre}
 use Rattle.run.specs.Work.{masksOf, rowAt, ruleMasks, Tabled}
-use Rattle.run.proofs.Image.Carry.{as-arcs, carried, image-shaped, states-is}
+use Rattle.run.proofs.Image.Carry.{as-arcs, carried, image-placed, states-is}
 use Rattle.run.proofs.Image.Live.{depth-is}
 use Rattle.run.proofs.Laws.One.{mask-back, mask-cut, one as one-wide}
 use Rattle.run.proofs.Laws.Table.{back-cut, work-cut}
@@ -130,25 +131,25 @@ module _ (ws : List ℕ) (t : Tree) (I : ImageOf ws t) (fits : Fit ws) (table : 
 
   work : Cuts wide (depth t) (masksOf ws) (ruleMasks ws wide table)
   work =
-      let S = shape-of ws (image-shaped ws t I) in
+      let S = own-placed (image-placed ws t I) in
       subst (λ (n : ℕ). Cuts wide n (masksOf ws) (ruleMasks ws wide table)) (depth-is ws t I)
       (subst (λ (n : ℕ). Cuts n (depthWord ws) (masksOf ws) (ruleMasks ws n table)) wide-is
       (work-cut ws fits S table E (widthOf ws), back-cut ws fits S table E (widthOf ws) (le-refl (widthOf ws))))
 
-  pub went : {read deep count : ℕ} → read ≡ widthOf ws → deep ≡ depthWord ws → count ≡ stateWord ws → (mask : List ℕ) → Fit mask → IsMask (states t) mask
-      → (place : ℕ) (stretch : List ℕ) → Bytes stretch → (first before words : List ℕ) (total : ℕ) (after : List ℕ) → first ≡ rowAt mask 0 read
-      → RanOver (ruleMasks ws read table) read deep (count - 1) place 0 stretch (take read first) before words total after
+  pub went : {p : Sections} → Placed ws p → (mask : List ℕ) → Fit mask → IsMask (states t) mask → (place : ℕ) (stretch : List ℕ) → Bytes stretch
+      → (first before words : List ℕ) (total : ℕ) (after : List ℕ) → first ≡ rowAt mask 0 (p .width)
+      → RanOver (ruleMasks ws (p .width) table) (p .width) (p .depth) (p .states - 1) place 0 stretch (take (p .width) first) before words total after
       → Gone t mask place stretch before words total after
-  went {read} {deep} {count} ew ed em mask fit M place stretch B first before words total after e G =
-      gone t (rule-full t (I .is-rule)) wide deep (count - 1) (ruleMasks ws wide table) (first-carry (states t) (I .few) t (masksOf ws) (ruleMasks ws wide table) (carried ws t I) (work .0) (work .1)) refl
-      (ed ∙ depth-is ws t I) last-is mask fit M place stretch B (take wide first) before words total after row-is
-      (subst (λ (n : ℕ). RanOver (ruleMasks ws n table) n deep (count - 1) place 0 stretch (take n first) before words total after) w G)
+  went {p} P mask fit M place stretch B first before words total after e G =
+      gone t (rule-full t (I .is-rule)) wide (p .depth) (p .states - 1) (ruleMasks ws wide table) (first-carry (states t) (I .few) t (masksOf ws) (ruleMasks ws wide table) (carried ws t I) (work .0) (work .1)) refl
+      (own-depth P ∙ depth-is ws t I) last-is mask fit M place stretch B (take wide first) before words total after row-is
+      (subst (λ (n : ℕ). RanOver (ruleMasks ws n table) n (p .depth) (p .states - 1) place 0 stretch (take n first) before words total after) w G)
     where
-      w : read ≡ wide
-      w = ew ∙ wide-is
+      w : p .width ≡ wide
+      w = own-width P ∙ wide-is
 
-      last-is : count - 1 ≡ accepting t
-      last-is = omega (arith, em, states-is ws t I)
+      last-is : p .states - 1 ≡ accepting t
+      last-is = omega (arith, own-states P, states-is ws t I)
 
       row-is : take wide first ≡ mask
       row-is =
@@ -167,23 +168,23 @@ module _ (ws : List ℕ) (t : Tree) (I : ImageOf ws t) (few : stateWord ws ≤ 6
   wide₁ = width (states t)
 
   one-is : 1 ≡ wide₁
-  one-is = sym (one-wide ws (shape-of ws (image-shaped ws t I)) few) ∙ ap widthOf (as-arcs ws t I)
+  one-is = sym (one-wide ws (own-placed (image-placed ws t I)) few) ∙ ap widthOf (as-arcs ws t I)
 
   word-work : Cuts wide₁ (depth t) (masksOf ws) (oneMasks ws)
   word-work =
-      let S = shape-of ws (image-shaped ws t I) in
+      let S = own-placed (image-placed ws t I) in
       subst (λ (n : ℕ). Cuts wide₁ n (masksOf ws) (oneMasks ws)) (depth-is ws t I)
       (subst (λ (n : ℕ). Cuts n (depthWord ws) (masksOf ws) (oneMasks ws)) one-is (mask-cut ws S few, mask-back ws S few))
 
-  pub went-word : (mask : List ℕ) → Fit mask → IsMask (states t) mask → (place : ℕ) (stretch : List ℕ) → Bytes stretch → {r : ℕ} (before : List ℕ) (total : ℕ) (after : List ℕ)
-      → RanOver (oneMasks ws) 1 (depthWord ws) (stateWord ws - 1) place 0 stretch (getD mask 0 0 ∷ []) before (r ∷ []) total after
+  pub went-word : {p : Sections} → Placed ws p → (mask : List ℕ) → Fit mask → IsMask (states t) mask → (place : ℕ) (stretch : List ℕ) → Bytes stretch → {r : ℕ} (before : List ℕ)
+      (total : ℕ) (after : List ℕ) → RanOver (oneMasks ws) 1 (p .depth) (p .states - 1) place 0 stretch (getD mask 0 0 ∷ []) before (r ∷ []) total after
       → Gone t mask place stretch before (set (replicate 8 0) 0 r) total after
-  went-word mask fit M place stretch B {r} before total after G =
-      gone t (rule-full t (I .is-rule)) wide₁ (depthWord ws) (stateWord ws - 1) (oneMasks ws)
-      (first-carry (states t) (I .few) t (masksOf ws) (oneMasks ws) (carried ws t I) (word-work .0) (word-work .1)) refl (depth-is ws t I) last-is mask fit M place stretch B
+  went-word {p} P mask fit M place stretch B {r} before total after G =
+      gone t (rule-full t (I .is-rule)) wide₁ (p .depth) (p .states - 1) (oneMasks ws)
+      (first-carry (states t) (I .few) t (masksOf ws) (oneMasks ws) (carried ws t I) (word-work .0) (word-work .1)) refl (own-depth P ∙ depth-is ws t I) last-is mask fit M place stretch B
       (getD mask 0 0 ∷ []) before (set (replicate 8 0) 0 r) total after (one-word mask (M .long ∙ sym one-is))
-      (subst (λ (n : ℕ). RanOver (oneMasks ws) n (depthWord ws) (stateWord ws - 1) place 0 stretch (getD mask 0 0 ∷ []) before (set (replicate 8 0) 0 r) total after) one-is
+      (subst (λ (n : ℕ). RanOver (oneMasks ws) n (p .depth) (p .states - 1) place 0 stretch (getD mask 0 0 ∷ []) before (set (replicate 8 0) 0 r) total after) one-is
       (record { counted = G .counted; stored = G .stored; runs = G .runs }))
     where
-      last-is : stateWord ws - 1 ≡ accepting t
-      last-is = omega (arith, states-is ws t I)
+      last-is : p .states - 1 ≡ accepting t
+      last-is = omega (arith, own-states P, states-is ws t I)

@@ -13,7 +13,7 @@ use lib.Seq.{getD-set-other, getD-set-same, getD-take}
 use mir.Syntax.{w64}
 use mir.Val.{Fits}
 use Rattle.model.specs.Bits.{bit}
-use Rattle.model.specs.Models.Apart.{backAt, depthWord}
+use Rattle.model.specs.Models.Sections.{backAt, depthWord}
 use Rattle.model.specs.Models.Words.{orWords}
 use Rattle.model.proofs.Image.Address.{part-fits}
 use Rattle.model.proofs.Laws.Bits.{bit-zero}
@@ -21,14 +21,15 @@ use Rattle.model.proofs.Laws.Bool.{le-or-lt}
 use Rattle.model.proofs.Words.Bits.{bit-and, bit-ext, bit-or}
 use Rattle.model.proofs.Words.Operations.{each-at}
 use Rattle.run_moves.specs.Sets.{Apart}
-use Rattle.run_word.specs.Shape.{widthOf}
+use Rattle.image_sections.specs.Sections.{Placed, sectionsIn, widthOf, Within}
+use Rattle.image_sections.specs.declared.Sections.{Sections}
+use Rattle.image_sections.proofs.Laws.Within.{back-is, within}
 use Rattle.run_word.proofs.Laws.Back.{Low}
-use Rattle.run_word.proofs.Laws.Shape.{Sections, sections-of, Shape, shape-is}
 use Rattle.run.specs.Work.{Entered, masksOf, PutBacks, rowAt, Sources, Tabled, Whole}
 use Rattle.run.proofs.Laws.Rows.{row-clear, row-long}
 
 -- ---- as they lie
-pub masks-low : (ws : List ℕ) → Shape ws → (n : ℕ) → widthOf ws ≤ n → Low n (depthWord ws) (masksOf ws)
+pub masks-low : (ws : List ℕ) → Placed ws (sectionsIn ws) → (n : ℕ) → widthOf ws ≤ n → Low n (depthWord ws) (masksOf ws)
 masks-low ws S n h = record {
   clear = λ k j m l i g. row-clear ws (backAt W d + W * (2 * k + j)) W i (omega arith);
   long = λ k j m l. omega (
@@ -43,8 +44,8 @@ masks-low ws S n h = record {
     d : ℕ
     d = depthWord ws
 
-    T : Sections W d (length ws)
-    T = sections-of ws (shape-is ws S) refl refl
+    T : Within (sectionsIn ws) (length ws)
+    T = within S
 
 -- ---- put into the table
 pub backs-begin : (ws : List ℕ) (W d : ℕ) (table : List (List ℕ)) → PutBacks 0 ws W d table table
@@ -64,9 +65,12 @@ pub tabled : {ws : List ℕ} {W d : ℕ} {table new : List (List ℕ)} → Enter
 tabled I P = record { passes = λ k j h l. P .there (9 * k + j) (omega arith) ∙ I k j h l; backs = P .here }
 
 -- each is a whole mask
-pub whole-backs : {ws : List ℕ} {W d : ℕ} (table : List (List ℕ)) → Sections W d (length ws) → Tabled ws W d table → Whole table d
-whole-backs {ws} {W} {d} table T E i h =
-    ap length (E .backs i h) ∙ row-long ws (backAt W d + W * i) W (T .narrow) (omega (arith, T .backs, part-fits W {k = i} {n = 2 * d} h))
+pub whole-backs : {ws : List ℕ} {p : Sections} (table : List (List ℕ)) → Placed ws p → Tabled ws (p .width) (p .depth) table → Whole table (p .depth)
+whole-backs {ws} {p} table P E i h =
+    let T = within P in
+    ap length (E .backs i h)
+    ∙ row-long ws (backAt (p .width) (p .depth) + p .width * i) (p .width) (T .narrow)
+    (omega (arith, T .backs, back-is P, part-fits (p .width) {k = i} {n = 2 * p .depth} h))
 
 -- ---- all sources in one row: none yet; and those of a depth more, for what is apart from both of two masks is apart from each
 pub sources-none : (table : List (List ℕ)) (row : List ℕ) → Sources table 0 row

@@ -9,23 +9,24 @@ use native.Mathlib.Omega.{arith}
 use borrow.Author.Count.{below-more}
 use lib.ListN.{getD, length, length-set, set, take}
 use lib.Seq.{getD-set-other, getD-set-same, take-take}
-use Rattle.model.specs.Models.Apart.{backAt, depthWord, gatherAt, propagateAt, scatterAt, stateWord}
+use Rattle.model.specs.Models.Sections.{backAt, depthWord, gatherAt, propagateAt, scatterAt, stateWord}
 use Rattle.model.specs.Models.Run.{closeWords, endsWith, Masks}
 use Rattle.model.specs.Models.Words.{Fit}
 use Rattle.model.proofs.Words.Run.{Bytes}
 use Rattle.run_moves.specs.Less.{lessOne, plusWords}
 use Rattle.run_moves.proofs.Laws.Less.{plus-less}
-use Rattle.run_word.specs.Shape.{widthOf}
+use Rattle.image_sections.specs.Sections.{Placed, sectionsIn, widthOf}
+use Rattle.image_sections.specs.declared.Sections.{Sections}
+use Rattle.image_sections.proofs.Laws.Within.{own-depth, own-width}
 use Rattle.run_word.proofs.Laws.Back.{BackCut}
 use Rattle.run_word.proofs.Laws.Cut.{close-cut, Cut, ends-cut}
 use Rattle.run_word.proofs.Laws.Nine.{nine-scatter}
-use Rattle.run_word.proofs.Laws.Shape.{Shape}
 use Rattle.run.specs.Work.{cutMasks, kindAt, masksOf, passMasks, Put, PutTo, rowAt, ruleMasks, Tabled, workMasks}
 use Rattle.run.proofs.Laws.Backs.{masks-low}
 use Rattle.run.proofs.Laws.Rounds.{close-letters}
 use Rattle.run.proofs.Laws.Rows.{fit-at, kind-row, row-short}
 
-module _ (ws : List ℕ) (fits : Fit ws) (S : Shape ws) (table : List (List ℕ)) (I : Tabled ws (widthOf ws) (depthWord ws) table) where
+module _ (ws : List ℕ) (fits : Fit ws) (S : Placed ws (sectionsIn ws)) (table : List (List ℕ)) (I : Tabled ws (widthOf ws) (depthWord ws) table) where
   abbrev W : ℕ
   W = widthOf ws
 
@@ -33,7 +34,7 @@ module _ (ws : List ℕ) (fits : Fit ws) (S : Shape ws) (table : List (List ℕ)
   d = depthWord ws
 
   narrow : W ≤ 8
-  narrow = omega (arith, S .few-states)
+  narrow = omega (arith, S .few)
 
   scattered : (k j : ℕ) → k < d → j < 3 → getD table (9 * k + j) [] ≡ masksOf ws .scatterMask k j
   scattered k j h l = I .passes k j (omega (arith, S .shallow)) (omega arith) ∙ sym (nine-scatter j _ _ _ _ l) ∙ kind-row ws (scatterAt W) W j d k h
@@ -117,7 +118,7 @@ module _ (ws : List ℕ) (fits : Fit ws) (S : Shape ws) (table : List (List ℕ)
       → endsWith (ruleMasks ws wide table) deep (count - 1) text ≡ endsWith (masksOf ws) d (stateWord ws - 1) text
   work-ends {wide} {deep} {count} ew ed em text B =
       ap (λ (n : ℕ). endsWith (ruleMasks ws n table) deep (count - 1) text) ew ∙ ap₂ (λ (i k : ℕ). endsWith (N W) i (k - 1) text) ed em
-      ∙ sym (ends-cut W d (masksOf ws) (N W) (work-cut W) (back-cut W (le-refl W)) (stateWord ws - 1) (omega (arith, S .some-states)) text B)
+      ∙ sym (ends-cut W d (masksOf ws) (N W) (work-cut W) (back-cut W (le-refl W)) (stateWord ws - 1) (omega (arith, S .some)) text B)
 
 -- ---- the table made: a kind put, one mask more and one kind more
 pub put-begin : (j : ℕ) (masks table : List (List ℕ)) → PutTo 0 j masks table table
@@ -142,7 +143,7 @@ kind-entered {c} rows {masks} {table} {new} I h P M k j l =
     below-more (λ (i : ℕ). getD new (9 * k + i) [] ≡ rows i k) c
     (λ i m. P .there k i (omega arith) (λ q. let e : i ≡ c = q in absurd (omega arith)) ∙ I k i l m) (P .here k l ∙ M k l) j
 
--- the table that code has made, with the width and the depth that it has read
-pub tabled-of : (ws : List ℕ) (table : List (List ℕ)) {W d : ℕ} → W ≡ widthOf ws → d ≡ depthWord ws → Tabled ws W d table → Tabled ws (widthOf ws) (depthWord ws) table
-tabled-of ws table {W} {d} ew ed I =
-    subst (λ (x : ℕ). Tabled ws (widthOf ws) x table) ed (subst (λ (x : ℕ). Tabled ws x d table) ew I)
+-- the table that code has made, by the places
+pub tabled-of : {ws : List ℕ} {p : Sections} (table : List (List ℕ)) → Placed ws p → Tabled ws (p .width) (p .depth) table → Tabled ws (widthOf ws) (depthWord ws) table
+tabled-of {ws} {p} table P I =
+    subst (λ (x : ℕ). Tabled ws (widthOf ws) x table) (own-depth P) (subst (λ (x : ℕ). Tabled ws x (p .depth) table) (own-width P) I)

@@ -1,7 +1,7 @@
 -- THE WORDS OF WHAT IS REACHED, ENTERED AND LEFT hold those sets of document 01's states, for words that are an image.
 use mathlib.Core.Path.{_≡_, refl, sym, ap, ap₂, _∙_, subst}
 use mathlib.Core.Logic.{_⊎_, inl, inr, _↔_}
-use mathlib.Core.Bool.{Bool, true, false, _&&_, _||_, cond, or-false}
+use mathlib.Core.Bool.{Bool, true, false, _&&_, _||_, or-false}
 use mathlib.Core.List.{List}
 use Prim.Native.Nat.{ℕ, suc, _≤_, _<_}
 use native.Mathlib.Omega.{arith}
@@ -11,7 +11,6 @@ use Rattle.model.specs.Answers.{ImageOf}
 use Rattle.model.specs.Bits.{bit}
 use Rattle.model.specs.Edges.{depth, states}
 use Rattle.model.specs.Live.{Takes}
-use Rattle.model.specs.Models.Apart.{depthWord}
 use Rattle.model.specs.Models.Run.{closeWords, moveWords}
 use Rattle.model.specs.Models.Words.{andWords, Fit, orWords, putBit, value}
 use Rattle.model.specs.Tree.{Tree}
@@ -33,7 +32,7 @@ use Rattle.model.proofs.Spelling.Reach.{reach-set, reachSet}
 use Rattle.run_edges.specs.Reach.{enterWords, EnterSays, Inside, leaveWords, LeaveSays, lettersOf, ReachSays, reachWords, repeatsOf, unshiftWords}
 use Rattle.run.specs.Says.{StatesAre}
 use Rattle.run.specs.Work.{masksOf, noWords}
-use Rattle.run.proofs.Image.Carry.{carried, image-shaped}
+use Rattle.run.proofs.Image.Carry.{carried}
 use Rattle.run.proofs.Image.Live.{depth-is}
 use Rattle.run_edges.proofs.Laws.Back.{back-bit, back-fit, back-length}
 
@@ -70,9 +69,7 @@ module _ (ws : List ℕ) (t : Tree) (I : ImageOf ws t) where
             go false e = e
 
     reach-row : reachWords ws q ≡ closeWords (masksOf ws) (depth t) (putBit noWords q)
-    reach-row =
-        ap (λ (b : Bool). cond b (closeWords (masksOf ws) (depthWord ws) (putBit noWords q)) noWords) (image-shaped ws t I)
-        ∙ ap (λ (n : ℕ). closeWords (masksOf ws) n (putBit noWords q)) (depth-is ws t I)
+    reach-row = ap (λ (n : ℕ). closeWords (masksOf ws) n (putBit noWords q)) (depth-is ws t I)
 
     reach-is : StatesAre t (reachWords ws q) (Reaches t q)
     reach-is =
@@ -101,11 +98,9 @@ module _ (ws : List ℕ) (t : Tree) (I : ImageOf ws t) where
     enter-is =
         let C = carried ws t I in
         let M = moveWords (lettersOf ws b) (repeatsOf ws b) noWords live in
-        subst (λ (xs : List ℕ). StatesAre t xs (λ r. (q : ℕ) × T (D q) × Takes t b q r))
-        (sym (ap (λ (v : Bool). cond v M noWords) (image-shaped ws t I)))
-        (states-are M (entered t F b D) (λ r. (q : ℕ) × T (D q) × Takes t b q r) (entered-is t F b D)
+        states-are M (entered t F b D) (λ r. (q : ℕ) × T (D q) × Takes t b q r) (entered-is t F b D)
         (holds-as (states t) 8 M (λ x. ((next D x && L x) || (D x && P x)) || false) (entered t F b D) (λ x. or-false (entered t F b D x))
-        (move-holds (C .room) held (C .letters b byte) (C .loops b byte) none-held)))
+        (move-holds (C .room) held (C .letters b byte) (C .loops b byte) none-held))
 
     -- a row's bits below 512, and none past them
     near-self : (xs : List ℕ) → length xs ≡ 8 → Fit xs → Near 512 8 xs (λ x. bit (value xs) x)
@@ -161,10 +156,7 @@ module _ (ws : List ℕ) (t : Tree) (I : ImageOf ws t) where
 
     pub leave-is : StatesAre t (leaveWords ws b live) (λ q. (r : ℕ) × T (D r) × Takes t b q r)
     unfolding made
-    leave-is =
-        subst (λ (xs : List ℕ). StatesAre t xs (λ q. (r : ℕ) × T (D r) × Takes t b q r))
-        (sym (ap (λ (v : Bool). cond v made noWords) (image-shaped ws t I)))
-        (states-are made (left t F b D) (λ q. (r : ℕ) × T (D r) × Takes t b q r) (left-is t F b D) leave-held)
+    leave-is = states-are made (left t F b D) (λ q. (r : ℕ) × T (D r) × Takes t b q r) (left-is t F b D) leave-held
 
 -- WHAT `reach`, `enter` AND `leave` SAY
 pub reach-says : (ws : List ℕ) (q : ℕ) (words : List ℕ) → words ≡ reachWords ws q → ReachSays ws q words

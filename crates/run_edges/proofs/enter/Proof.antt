@@ -1,20 +1,19 @@
-use mathlib.Core.Path.{_≡_, sym, _∙_}
+-- `enter`: the move without state 0.
+use mathlib.Core.Path.{_≡_}
+use lib.ListN.{length}
 use Rattle.mask.proofs.Laws.Bits.{fit-row}
 use Rattle.run_edges.specs.Reach.{enterWords}
 use Rattle.run_edges.proofs.Laws.Image.{enter-says}
-use Rattle.run_edges.proofs.Laws.Reached.{enter-none, enter-whole}
+use Rattle.run_edges.proofs.Laws.Reached.{enter-whole}
 use borrow.Author.Needs.{needs}
 use Rattle.run_edges.proofs.enter.Statement.{statement}
 use Rattle.run_edges.proofs.enter.Tie as tie
 
-has-shape-requires : tie.Need-has-shape-requires
-has-shape-requires c κs = search needs
-
 letters-requires : tie.Need-letters-requires
-letters-requires c κs = sym (c .before .has-shape .ensures) ∙ c .if1 .taken
+letters-requires c κs = c .before .pre
 
 repeats-requires : tie.Need-repeats-requires
-repeats-requires c κs = sym (c .before .before .has-shape .ensures) ∙ c .before .if1 .taken
+repeats-requires c κs = c .before .before .pre
 
 none-requires : tie.Need-none-requires
 none-requires c κs = search needs
@@ -24,39 +23,19 @@ advance-requires c κs = search needs
 
 returns : tie.Need-returns
 returns c =
-    let h = c .before .before .before .before .before .has-shape in
-    let a = c .before .before .before .before .before .before .before .args in
+    let s = c .before .before .before .before .before in
+    let a = s .args in
     let ws = a .image .now in
     let v = a .live .words in
     let l = c .before .before .before .letters in
     let p = c .before .before .repeats in
     let n = c .before .none in
     let r = c .advance .result .words in
+    let hv : length v ≡ 8 = search (needs, s .good .1 .1 .0 .1 .1 .0 .1 .0 .1) in
     let e : r ≡ enterWords ws (a .byte) v =
-    enter-whole ws (a .byte) v r (l .result) (p .result) (n .result .words) (search needs) (search needs) (search needs) (search needs) (search needs)
-    (sym (h .ensures) ∙ c .before .before .before .before .if1 .taken) (l .ensures) (p .ensures) (n .ensures) (c .advance .ensures) in
-    (e, enter-says ws (a .byte) v r (search needs) (search needs) (fit-row v (λ k. search needs)) e)
-
-none-requires-2 : tie.Need-none-requires-2
-none-requires-2 c κs = search needs
-
-returns-2 : tie.Need-returns-2
-returns-2 c =
-    let a = c .before .before .before .before .args in
-    let ws = a .image .now in
-    let v = a .live .words in
-    let e : c .none2 .result .words ≡ enterWords ws (a .byte) v = enter-none ws (a .byte) v (c .none2 .result .words) (sym (c .before .before .has-shape .ensures) ∙ c .before .if1 .left) (c .none2 .ensures) in
-    (e, enter-says ws (a .byte) v (c .none2 .result .words) (search needs) (search needs) (fit-row v (λ k. search needs)) e)
+    enter-whole ws (a .byte) v r (l .result) (p .result) (n .result .words) (search needs) (search needs) (search needs) hv (search (needs, c .advance .ok .1 .1 .0 .1 .0 .1))
+    (l .ensures) (p .ensures) (n .ensures) (c .advance .ensures) in
+    (e, enter-says ws (a .byte) v r (s .good .1 .1 .1 .0 .1) hv (fit-row v (λ k. search (needs, s .good .1 .1 .0 .1 .1 .0 .1 .1))) e)
 
 pub enter-spec : {M : Type 1} → statement M
-enter-spec =
-    tie.close
-    (tie.spec
-    has-shape-requires
-    letters-requires
-    repeats-requires
-    none-requires
-    advance-requires
-    returns
-    none-requires-2
-    returns-2)
+enter-spec = tie.close (tie.spec letters-requires repeats-requires none-requires advance-requires returns)

@@ -1,31 +1,29 @@
 -- THE TABLE OF WORK HOLDS THE IMAGE'S MASKS: the entries by their tests; the table's masks are those of the image, so they find the same ends; and
 -- so do the masks of eight words of a rule of one.
-use mathlib.Core.Path.{_≡_, refl, sym, ap, ap₂, _∙_}
+use mathlib.Core.Path.{_≡_, refl, sym, ap, _∙_}
 use mathlib.Core.Logic.{_⊎_, inl, inr}
-use mathlib.Core.Bool.{Bool, true, false, _&&_, and-false, cond}
+use mathlib.Core.Bool.{Bool, true, false, cond}
 use mathlib.Core.List.{List, [], _∷_}
 use Prim.Native.Nat.{ℕ, zero, suc, _+_, _-_, _*_, _%_, _^_, _≤_, _<_}
 use native.Mathlib.Nat.{eq-or-lt-of-le, not-suc-le-zero}
 use native.Mathlib.Omega.{arith}
-use lib.Dec.{leb}
 use lib.ListN.{getD, length, take}
 use lib.Seq.{sets}
-use Rattle.model.specs.Image.{width}
-use Rattle.model.specs.Models.Apart.{depthWord, stateWord}
-use Rattle.model.specs.Models.Run.{closeWords, endsAfter, endsWith, Masks, runFrom}
+use Rattle.model.specs.Models.Sections.{backAt, depthWord, gatherAt, propagateAt, scatterAt, threePlace, twoPlace}
+use Rattle.model.specs.Models.Run.{closeWords, endsAfter, Masks, runFrom}
 use Rattle.model.specs.Models.Words.{wrapAdd, wrapSub}
-use Rattle.model.proofs.Laws.Bool.{le-false, le-true}
 use Rattle.model.proofs.Words.Run.{Bytes}
+use Rattle.image_sections.specs.Sections.{Placed}
+use Rattle.image_sections.specs.declared.Sections.{Sections}
+use Rattle.image_sections.proofs.Laws.Within.{single}
 use Rattle.run_word.specs.Ends.{Limits, RanOver}
-use Rattle.run_word.specs.One.{Backs, chain, endsOfOne, Entered, entryAt, NoChain, oneMasks, wordAt, workMasks}
-use Rattle.run_word.specs.Shape.{shaped}
+use Rattle.run_word.specs.One.{Backs, chain, Entered, entryAt, NoChain, oneMasks, wordAt, workMasks}
 use Rattle.run_word.specs.Stretch.{Chosen, RanFrom}
 use Rattle.run_word.specs.declared.stretch.From.{From}
 use Rattle.run_word.specs.declared.stretch.Ran.{Ran}
 use Rattle.run_word.proofs.Laws.Back.{BackCut, Zeros}
 use Rattle.run_word.proofs.Laws.Cut.{after-cut, close-cut, Cut, run-cut}
 use Rattle.run_word.proofs.Laws.Nine.{entered-at, nine-gather, nine-scatter}
-use Rattle.run_word.proofs.Laws.Shape.{Shape, shape-of}
 
 pub less-one : {x s : ℕ} → s < 2 ^ 64 → (s + 1) % 2 ^ 64 ≡ x → s ≡ wrapSub x 1
 less-one h e = omega arith
@@ -48,21 +46,21 @@ module _ (ws table backs : List ℕ) (d : ℕ) (any : Bool) (deep : d ≡ depthW
   entry = entered-at 0 (entryAt ws d) table d I
 
   -- word j of depth k + 1, where the image has it
-  scattered : (k j : ℕ) → k < d → j < 3 → getD table (9 * suc k + j) 0 ≡ getD ws (519 + 3 * k + j) 0
+  scattered : (k j : ℕ) → k < d → j < 3 → getD table (9 * suc k + j) 0 ≡ getD ws (threePlace (scatterAt 1) 1 k j) 0
   scattered k j h l =
       entry (suc k) j h (omega arith) ∙ sym (nine-scatter j _ _ _ _ l)
-      ∙ (let e : 516 + 3 * suc k + j ≡ 519 + 3 * k + j = omega arith in ap (λ (i : ℕ). getD ws i 0) e)
+      ∙ (let e : scatterAt 1 + 3 * suc k + j - 3 ≡ threePlace (scatterAt 1) 1 k j = omega arith in ap (λ (i : ℕ). getD ws i 0) e)
 
-  gathered : (k j : ℕ) → k < d → j < 3 → getD table (9 * suc k + (3 + j)) 0 ≡ getD ws (520 + 3 * depthWord ws + 3 * k + j) 0
+  gathered : (k j : ℕ) → k < d → j < 3 → getD table (9 * suc k + (3 + j)) 0 ≡ getD ws (threePlace (gatherAt 1 (depthWord ws)) 1 k j) 0
   gathered k j h l =
       entry (suc k) (3 + j) h (omega arith) ∙ sym (nine-gather (3 + j) _ _ _ _ (omega arith) (omega arith))
-      ∙ (let e : 514 + 3 * d + 3 * suc k + (3 + j) ≡ 520 + 3 * depthWord ws + 3 * k + j = omega arith in ap (λ (i : ℕ). getD ws i 0) e)
+      ∙ (let e : gatherAt 1 d + 3 * suc k + (3 + j) - 6 ≡ threePlace (gatherAt 1 (depthWord ws)) 1 k j = omega (arith, deep) in ap (λ (i : ℕ). getD ws i 0) e)
 
   abbrev at : ℕ → ℕ → ℕ
-  at k j = 521 + 6 * depthWord ws + 3 * k + j
+  at k j = threePlace (propagateAt 1 (depthWord ws)) 1 k j
 
-  place : (k j : ℕ) → 515 + 6 * d + 3 * k + (6 + j) ≡ at k j
-  place k j = omega arith
+  place : (k j : ℕ) → propagateAt 1 d + 3 * k + (6 + j) - 6 ≡ at k j
+  place k j = omega (arith, deep)
 
   block : (k : ℕ) → k ≤ d → getD table (9 * k + 6) 0 ≡ getD ws (at k 0) 0
   block k h = entry k 6 h (omega arith) ∙ ap (λ (i : ℕ). getD ws i 0) (place k 0)
@@ -70,7 +68,7 @@ module _ (ws table backs : List ℕ) (d : ℕ) (any : Bool) (deep : d ≡ depthW
   source : (k : ℕ) → k ≤ d → wrapAdd (getD table (9 * k + 7) 0) 1 ≡ getD ws (at k 1) 0
   source k h =
       ap (λ (x : ℕ). wrapAdd x 1) (entry k 7 h (omega arith))
-      ∙ back (getD ws (515 + 6 * d + 3 * k + 7) 0) (fit (515 + 6 * d + 3 * k + 7)) ∙ ap (λ (i : ℕ). getD ws i 0) (place k 1)
+      ∙ back (getD ws (propagateAt 1 d + 3 * k + 7 - 6) 0) (fit (propagateAt 1 d + 3 * k + 7 - 6)) ∙ ap (λ (i : ℕ). getD ws i 0) (place k 1)
     where
       back : (x : ℕ) → x < 2 ^ 64 → wrapAdd (wrapSub x 1) 1 ≡ x
       back x l = omega arith
@@ -127,7 +125,7 @@ module _ (ws table backs : List ℕ) (d : ℕ) (any : Bool) (deep : d ≡ depthW
   one-back = record { backs = edges; low = record { clear = λ k j h l. none (getD backs (2 * k + j) 0); long = λ k j h l. omega arith } }
     where
       edges : (k j : ℕ) → k < d → j < 2 → take 1 (T .backMask k j) ≡ oneMasks ws .backMask k j
-      edges k j h l = ap (λ (x : ℕ). x ∷ []) (B (2 * k + j) (omega arith) ∙ ap (λ (n : ℕ). getD ws (525 + 9 * n + (2 * k + j)) 0) deep)
+      edges k j h l = ap (λ (x : ℕ). x ∷ []) (B (2 * k + j) (omega arith) ∙ (let e : backAt 1 d + (2 * k + j) ≡ twoPlace (backAt 1 (depthWord ws)) 1 k j = omega (arith, deep) in ap (λ (n : ℕ). getD ws n 0) e))
 
       none : (w : ℕ) → Zeros 1 (w ∷ [])
       none w zero h = absurd (not-suc-le-zero h)
@@ -151,28 +149,6 @@ module _ (ws table backs : List ℕ) (d : ℕ) (any : Bool) (deep : d ≡ depthW
           ap (λ (i : ℕ). endsAfter T i last place (first ∷ []) stretch) (sym q)
           ∙ after-cut 1 d T (oneMasks ws) one-cut one-back last (omega arith) place (first ∷ []) stretch bs
 
--- ---- the list found, by the three tests
-module _ (ws text : List ℕ) where
-  abbrev found : Bool → Bool → Bool → List ℕ
-  found a b c = cond ((a && b) && c) (endsWith (oneMasks ws) (depthWord ws) (stateWord ws - 1) text) []
-
-  pub found-one : shaped ws ≡ true → stateWord ws ≤ 64 → length text ≤ 65535
-      → endsWith (oneMasks ws) (depthWord ws) (stateWord ws - 1) text ≡ endsOfOne ws text
-  found-one e h l = sym (ap₂ (λ (a b : Bool). found a b (leb (length text) 65535)) e (le-true (stateWord ws) 64 h) ∙ ap (found true true) (le-true (length text) 65535 l))
-
-  pub one-no-shape : shaped ws ≡ false → [] ≡ endsOfOne ws text
-  one-no-shape e = sym (ap (λ (a : Bool). found a (leb (stateWord ws) 64) (leb (length text) 65535)) e)
-
-  pub one-too-wide : 64 < stateWord ws → [] ≡ endsOfOne ws text
-  one-too-wide h =
-      sym (ap (λ (b : Bool). found (shaped ws) b (leb (length text) 65535)) (le-false (stateWord ws) 64 h)
-      ∙ ap (λ (b : Bool). cond (b && leb (length text) 65535) (found true true true) []) (and-false (shaped ws)))
-
-  pub one-too-long : 65535 < length text → [] ≡ endsOfOne ws text
-  one-too-long h =
-      sym (ap (found (shaped ws) (leb (stateWord ws) 64)) (le-false (length text) 65535 h)
-      ∙ ap (λ (b : Bool). cond b (found true true true) []) (and-false (shaped ws && leb (stateWord ws) 64)))
-
 -- ---- the choice of a loop: each runs as the image's masks do, with the depth and the presence of chains as literals or not, with the back edges' masks
 -- or, where there is none, without
 pub chosen : {ws stretch : List ℕ} {from : From} {last d : ℕ} {any : Bool} {table backs : List ℕ} → Chosen ws stretch from last d any table backs → ((i : ℕ) → getD ws i 0 < 2 ^ 64)
@@ -191,21 +167,16 @@ no-back C z = record {
   edges = λ i h. sym (z i h) ∙ C .edges i h;
 }
 
--- words with a shape of one word to a mask are 525 and eleven for each depth
-pub one-long : (ws : List ℕ) → Shape ws → stateWord ws ≤ 64 → length ws ≡ 525 + 11 * depthWord ws
-one-long ws S h =
-    let e : width (stateWord ws) ≡ 1 = omega (arith, S .some-states) in
-    S .long ∙ ap (λ (w : ℕ). 10 + w * (515 + 11 * depthWord ws)) e ∙ (let q : 10 + 1 * (515 + 11 * depthWord ws) ≡ 525 + 11 * depthWord ws = omega arith in q)
-
--- words with a shape of at most 64 states, with what code has read of it and the table that it has made, have what the choice of a loop asks
-pub may-choose : {ws : List ℕ} → shaped ws ≡ true → stateWord ws ≤ 64 → {d count : ℕ} → d ≡ depthWord ws → count ≡ stateWord ws → {any : Bool} {table backs : List ℕ} → Entered ws d table
-    → NoChain table d any → Backs ws d backs → (from : From) {stretch : List ℕ} → Limits (from .place) (from .found) stretch → Chosen ws stretch from (count - 1) d any table backs
-may-choose {ws} e h ed em E N B from L =
-    let S = shape-of ws e in
+-- words of one word to a mask, with the table that was made of them, have what the choice of a loop asks
+pub may-choose : {ws : List ℕ} {p : Sections} → Placed ws p → p .states ≤ 64 → {any : Bool} {table backs : List ℕ} → Entered ws (p .depth) table
+    → NoChain table (p .depth) any → Backs ws (p .depth) backs → (from : From) {stretch : List ℕ} → Limits (from .place) (from .found) stretch
+    → Chosen ws stretch from (p .states - 1) (p .depth) any table backs
+may-choose P h E N B from L =
+    let S = single P h in
     record {
-      overs = record { long = omega (arith, one-long ws S h); limits = L; few = omega (arith, em, h, S .some-states) };
-      shallow = omega (arith, ed, S .shallow);
-      deep = ed;
+      overs = record { long = omega (arith, S .long); limits = L; few = omega (arith, h, P .some) };
+      shallow = S .deep;
+      deep = ap (λ (q : Sections). q .depth) (P .own);
       entered = E;
       none = N;
       edges = B;

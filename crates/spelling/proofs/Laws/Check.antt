@@ -6,7 +6,7 @@ use Prim.Native.Nat.{ℕ, _-_, _≤_, _<_}
 use native.Mathlib.Omega.{arith}
 use lib.ListN.{drop, length, take}
 use Rattle.model.specs.Edges.{states}
-use Rattle.model.specs.Models.Apart.{stateWord}
+use Rattle.model.specs.Models.Sections.{stateWord}
 use Rattle.model.specs.Spelling.{Follow}
 use Rattle.run.proofs.Image.Carry.{states-is}
 use Rattle.spelling.specs.Work.{FollowSays, RightSays}

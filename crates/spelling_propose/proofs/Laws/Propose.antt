@@ -8,7 +8,7 @@ use lib.ListN.{length, take, take-append-drop}
 use lib.Seq.{length-take-le}
 use Rattle.model.specs.Answers.{ImageOf}
 use Rattle.model.specs.Edges.{accepting}
-use Rattle.model.specs.Models.Apart.{stateWord}
+use Rattle.model.specs.Models.Sections.{stateWord}
 use Rattle.model.specs.Tree.{Tree}
 use Rattle.model.proofs.Laws.Bool.{le-or-lt}
 use Rattle.model.specs.Models.Leads.{Leads}

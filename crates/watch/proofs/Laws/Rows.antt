@@ -14,7 +14,7 @@ use Rattle.model.specs.Bits.{bit}
 use Rattle.model.specs.Edges.{accepting, states}
 use Rattle.model.specs.Image.{width}
 use Rattle.model.specs.Live.{Before}
-use Rattle.model.specs.Models.Apart.{stateWord}
+use Rattle.model.specs.Models.Sections.{stateWord}
 use Rattle.model.specs.Models.Run.{noted}
 use Rattle.model.specs.Models.Words.{Fit, isMask, value}
 use Rattle.model.specs.Tree.{Tree}

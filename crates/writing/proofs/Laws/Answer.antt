@@ -9,7 +9,7 @@ use lib.ListN.{length, length-map}
 use Rattle.model.specs.Answers.{done, ImageOf, no-room, written}
 use Rattle.model.specs.Edges.{states}
 use Rattle.model.specs.Image.{width}
-use Rattle.model.specs.Models.Apart.{widthWord}
+use Rattle.model.specs.Models.Sections.{widthWord}
 use Rattle.model.specs.Tree.{Tree}
 use Rattle.model.specs.Writing.{writing}
 use Rattle.model.proofs.Image.Tokens.{length-tokens}

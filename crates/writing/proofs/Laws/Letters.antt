@@ -13,7 +13,7 @@ use lib.ListN.{drop, getD, length, length-replicate, replicate, set}
 use lib.Seq.{getD-drop, getD-take, set-getD}
 use Rattle.model.specs.Bits.{bit, digit}
 use Rattle.model.specs.Image.{words}
-use Rattle.model.specs.Models.Apart.{bitOf, chunk, lettersIn}
+use Rattle.model.specs.Models.Sections.{bitOf, chunk, lettersIn}
 use Rattle.model.specs.Models.Words.{Fit, putBit, value}
 use Rattle.model.proofs.Image.Rows.{val-words}
 use Rattle.model.proofs.Image.SameBits.{fit-drop, fit-take}

@@ -10,7 +10,8 @@ use lib.ListN.{getD, length, take}
 use lib.Seq.{getD-take, length-take-le}
 use Rattle.model.specs.Answers.{ImageOf}
 use Rattle.model.specs.Image.{join}
-use Rattle.model.specs.Models.Apart.{anyBelow, bitOf, lettersIn, stateWord, tape, tokenAt, tokenOf as tokenShown, widthWord}
+use Rattle.model.specs.Models.Apart.{anyBelow, tape, tokenAt, tokenOf as tokenShown}
+use Rattle.model.specs.Models.Sections.{bitOf, lettersIn, stateWord, widthWord}
 use Rattle.model.specs.Models.LayOut.{begin, emptyIn, own, owns, Scan, step}
 use Rattle.model.specs.Models.Tokens.{aBar, aClose, aLetter, anOpen, Token, tokens}
 use Rattle.model.specs.Tree.{Tree}

@@ -3,7 +3,7 @@ use mathlib.Core.Path.{_∙_, ap}
 use Prim.Native.Nat.{ℕ, _+_, _*_}
 use native.Mathlib.Numerals.{add-one}
 use borrow.Author.Needs.{needs}
-use Rattle.model.specs.Models.Apart.{propagateAt}
+use Rattle.model.specs.Models.Sections.{propagateAt}
 use Rattle.image_apart.specs.Work.{enteredRow, someRow}
 use Rattle.image_apart.proofs.marks.marks_of.Statement.{statement}
 use Rattle.image_apart.proofs.marks.marks_of.Tie as tie

@@ -8,7 +8,7 @@ use native.Mathlib.Omega.{arith}
 use lib.Dec.{T}
 use lib.ListN.{getD}
 use Rattle.model.specs.Image.{join}
-use Rattle.model.specs.Models.Apart.{backAt, gatherAt, propagateAt, scatterAt}
+use Rattle.model.specs.Models.Sections.{backAt, gatherAt, propagateAt, scatterAt}
 use Rattle.model.specs.Models.LayOut.{letter-place, loop-place}
 use Rattle.model.specs.Models.Verdict.{sameWords}
 use Rattle.tokens_masks.specs.Tapes.{tableOf}

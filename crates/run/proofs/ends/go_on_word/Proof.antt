@@ -1,22 +1,19 @@
 -- `go_on_word`: the loop on plain words, and the word after it as the first of eight (`went-word`).
 use native.Mathlib.Omega.{arith}
 use Rattle.mask.proofs.Laws.Bits.{fit-row}
+use Rattle.image_sections.proofs.Laws.Within.{own-states, within}
 use Rattle.run_word.proofs.Laws.Bytes.{all-bytes}
-use Rattle.run_word.proofs.Laws.Shape.{shape-of}
 use Rattle.run.proofs.Image.Stretch.{went-word}
 use borrow.Author.Needs.{needs}
 use Rattle.run.proofs.ends.go_on_word.Statement.{statement}
 use Rattle.run.proofs.ends.go_on_word.Tie as tie
+use Rattle.run_word.proofs.ends.go_on.Reads as go-on-reads
 
 shared-slice-read-first : tie.Need-shared-slice-read-first
-shared-slice-read-first c =
-    let s = c .before .before .before .before .before in
-    omega (arith, s .pre .0 .long, shape-of (s .args .image .now) (s .pre .0 .shape) .some-states)
+shared-slice-read-first c = let s = c .before .before .before .before .before in let P = s .pre .0 .placed in omega (arith, s .pre .0 .long, within P .room, own-states P, P .some)
 
 go-on-requires : tie.Need-go-on-requires
-go-on-requires c κs =
-    let s = c .before .before .before .before .before .before in
-    (s .pre .0 .shape, s .pre .1, s .pre .0 .limits)
+go-on-requires c κs = let s = c .before .before .before .before .before .before in (s .pre .0 .placed, s .pre .1, s .pre .0 .limits)
 
 array-write-words : tie.Need-array-write-words
 array-write-words c = search needs
@@ -25,13 +22,13 @@ same-length : tie.Need-same-length
 same-length c = search needs
 
 returns : tie.Need-returns
-returns c t I M =
-    let g = c .before .before in
-    let k = g .before .before .before in
-    let s = k .before .before .before .before in
+returns c = λ t I M.
+    let g = c .before .before .go-on in
+    let s = c .before .before .before .before .before .before .before .before .before in
     let a = s .args in
-    went-word (a .image .now) t I (s .pre .1) (a .mask .now) (fit-row (a .mask .now) (k .before .before .shared-slice-known2 .given)) M (a .place) (a .stretch .now)
-    (all-bytes (a .stretch .now) (λ i. omega (arith, k .before .shared-slice-known3 .given i))) (a .places .now) (g .go-on .result .total) (g .go-on .last .1 .1 .1 .1 .0) (g .go-on .ensures)
+    let P = s .pre .0 .placed in
+    went-word (a .image .now) t I (omega (arith, own-states P, s .pre .1)) P (a .mask .now) (fit-row (a .mask .now) (c .before .before .before .before .before .before .before .shared-slice-known2 .given)) M (a .place) (a .stretch .now)
+    (all-bytes (a .stretch .now) (λ i. omega (arith, c .before .before .before .before .before .before .shared-slice-known3 .given i))) (a .ends .now) (g .result .total) (g .last .1 .1 .1 .1 .1 .0) (g .ensures)
 
 pub go-on-word-spec : {M : Type 1} → statement M
 go-on-word-spec =

@@ -1,85 +1,58 @@
 -- `go_on_words`: the loop with the table of work, from the words of a mask (`went`).
 use native.Mathlib.Omega.{arith}
 use Rattle.mask.proofs.Laws.Bits.{fit-row}
+use Rattle.image_sections.proofs.Laws.Within.{bytes-fit, own-states, within}
 use Rattle.run_word.proofs.Laws.Bytes.{all-bytes}
-use Rattle.run_word.proofs.Laws.Shape.{sections-of, shape-of}
 use Rattle.run.proofs.Image.Stretch.{went}
 use Rattle.run.proofs.Laws.Backs.{whole-backs}
 use Rattle.run.proofs.Laws.Table.{tabled-of}
 use borrow.Author.Needs.{needs}
 use Rattle.run.proofs.ends.go_on_words.Statement.{statement}
 use Rattle.run.proofs.ends.go_on_words.Tie as tie
-
-width-requires : tie.Need-width-requires
-width-requires c κs = c .before .before .before .before .pre .0 .shape
-
-depth-requires : tie.Need-depth-requires
-depth-requires c κs = search needs
-
-table-requires : tie.Need-table-requires
-table-requires c κs = record { shape = c .before .before .before .before .before .before .pre .0 .shape; wide = c .before .width .ensures; deep = c .depth .ensures }
-
-states-requires : tie.Need-states-requires
-states-requires c κs = search needs
+use Rattle.run.proofs.rows.row_at.Reads as row-at-reads
+use Rattle.run.proofs.stretch.run_over.Reads as run-over-reads
+use Rattle.run.proofs.table.table.Reads as table-reads
 
 sub-last : tie.Need-sub-last
-sub-last c =
-    let s = c .before .before .before .before .before .before .before .before in
-    omega (arith, c .states .ensures, shape-of (s .args .image .now) (s .pre .0 .shape) .some-states)
+sub-last c = let P = c .before .before .before .before .before .pre .0 .placed in omega (arith, own-states P, P .some)
+
+table-requires : tie.Need-table-requires
+table-requires c κs = c .before .before .before .before .before .pre .0 .placed
 
 row-at-requires : tie.Need-row-at-requires
-row-at-requires c κs =
-    let s = c .before .before .before .before .before .before .before .before in
-    let w = c .before .before .before .width .ensures in
-    let S = sections-of (s .args .image .now) (s .pre .0 .shape) w (c .before .before .depth .ensures) in
-    (S .narrow, omega (arith, w, s .pre .0 .long))
+row-at-requires c κs = let s = c .before .before .before .before .before .before in (within (s .pre .0 .placed) .narrow, omega (arith, s .pre .0 .long))
 
 run-over-requires : tie.Need-run-over-requires
 run-over-requires c κs =
-    let m = c .before .before .before in
-    let d = m .before .before in
-    let s = d .before .before .before .before .before .before in
-    let ws = s .args .image .now in
-    let w = d .before .width .ensures in
-    let S = sections-of ws (s .pre .0 .shape) w (d .depth .ensures) in
-    let some = shape-of ws (s .pre .0 .shape) .some-states in
+    let t = c .before .before .before .table in
+    let s = c .before .before .before .before .before .before .before .before .before in
+    let P = s .pre .0 .placed in
+    let I = within P in
     record {
-      steps = record { wide = omega (arith, w, s .pre .1); narrow = S .narrow; long = S .letters; shallow = S .deep };
+      steps = record { wide = omega (arith, I .room, s .pre .1); narrow = I .narrow; long = bytes-fit P; shallow = I .deep };
       limits = s .pre .0 .limits;
-      within = omega (arith, w, m .states .ensures, some);
-      whole = let t = m .before .table in whole-backs (t .result) S (t .ensures);
+      within = omega (arith, I .room, own-states P, P .some);
+      whole = whole-backs (t .result) P (t .ensures);
     }
 
 same-length : tie.Need-same-length
 same-length c = search needs
 
 returns : tie.Need-returns
-returns c t I M =
-    let r = c .before .before in
-    let f = r .before .before .before in
-    let m = f .before in
-    let b = m .before in
-    let d = b .before in
-    let w = d .before in
-    let s = w .before .before .before .before .before in
+returns c = λ t I M.
+    let r = c .before .before .run-over in
+    let f = c .before .before .before .before .before in
+    let b = f .before in
+    let s = b .before .before .before .before .before .before in
     let a = s .args in
     let ws = a .image .now in
-    went ws t I (fit-row ws (w .before .before .before .before .shared-slice-known .given)) (b .table .result)
-    (tabled-of ws (b .table .result) (w .width .ensures) (d .depth .ensures) (b .table .ensures)) (w .width .ensures) (d .depth .ensures) (m .states .ensures) (a .mask .now)
-    (fit-row (a .mask .now) (w .before .before .before .shared-slice-known2 .given)) M (a .place) (a .stretch .now)
-    (all-bytes (a .stretch .now) (λ i. omega (arith, w .before .before .shared-slice-known3 .given i))) (f .row-at .result) (a .places .now) (r .run-over .result .words) (r .run-over .result .total)
-    (r .run-over .last .1 .1 .0) (f .row-at .ensures) (r .run-over .ensures)
+    let P = s .pre .0 .placed in
+    went ws t I (fit-row ws (b .before .before .before .before .before .shared-slice-known .given)) (b .table .result) (tabled-of (b .table .result) P (b .table .ensures)) P (a .mask .now)
+    (fit-row (a .mask .now) (b .before .before .before .before .shared-slice-known2 .given)) M (a .place) (a .stretch .now)
+    (all-bytes (a .stretch .now) (λ i. omega (arith, b .before .before .before .shared-slice-known3 .given i))) (f .row-at .result) (a .ends .now) (r .result .words) (r .result .total)
+    (r .last .1 .1 .0) (f .row-at .ensures) (r .ensures)
 
 pub go-on-words-spec : {M : Type 1} → statement M
 go-on-words-spec =
     tie.close
-    (tie.spec
-    width-requires
-    depth-requires
-    table-requires
-    states-requires
-    sub-last
-    row-at-requires
-    run-over-requires
-    same-length
-    returns)
+    (tie.spec sub-last table-requires row-at-requires run-over-requires same-length returns)

@@ -1,37 +1,36 @@
 -- `close_of`: the table holds the masks of the words, so both rounds of eight words are theirs.
-use mathlib.Core.Path.{_≡_}
+use mathlib.Core.Path.{_≡_, sym, ap, _∙_}
+use Prim.Native.Nat.{ℕ}
 use native.Mathlib.Omega.{arith}
-use lib.ListN.{length}
+use lib.ListN.{length, take}
 use Rattle.mask.proofs.Laws.Bits.{fit-row}
-use Rattle.run_word.proofs.Laws.Shape.{shape-of}
+use Rattle.model.specs.Models.Run.{closeWords}
+use Rattle.image_sections.proofs.Laws.Within.{own-depth, own-placed, within}
+use Rattle.run.specs.Work.{masksOf}
 use Rattle.run.proofs.Laws.Table.{close-eight, tabled-of}
 use borrow.Author.Needs.{needs}
 use Rattle.run.proofs.live.close_of.Statement.{statement}
 use Rattle.run.proofs.live.close_of.Tie as tie
-
-depth-requires : tie.Need-depth-requires
-depth-requires c κs = search needs
-
-width-requires : tie.Need-width-requires
-width-requires c κs = search needs
+use Rattle.run.proofs.rounds.close.Reads as close-reads
+use Rattle.run.proofs.table.table.Reads as table-reads
 
 table-requires : tie.Need-table-requires
-table-requires c κs = record { shape = c .before .before .before .pre; wide = c .width .ensures; deep = c .before .depth .ensures }
+table-requires c κs = c .before .pre
 
 close-requires : tie.Need-close-requires
-close-requires c κs =
-    let s = c .before .before .before .before .before in
-    omega (arith, c .before .before .before .depth .ensures, shape-of (s .args .image .now) (s .pre) .shallow)
+close-requires c κs = within (c .before .before .before .pre) .deep
 
 returns : tie.Need-returns
 returns c =
     let t = c .before .before in
-    let d = t .before .before .depth in
-    let s = t .before .before .before .before in
+    let s = t .before .before in
     let ws = s .args .image .now in
-    let eight : length (s .args .live .words) ≡ 8 = search needs in
-    close-eight ws (fit-row ws (t .before .before .before .shared-slice-known .given)) (shape-of ws (s .pre)) (t .table .result)
-    (tabled-of ws (t .table .result) (t .before .width .ensures) (d .ensures) (t .table .ensures)) (d .ensures) (s .args .live .words) (c .close .result .words) (omega (arith, eight)) (c .close .ensures)
+    let live = s .args .live .words in
+    let P = s .pre in
+    let eight : length live ≡ 8 = search needs in
+    close-eight ws (fit-row ws (t .before .shared-slice-known .given)) (own-placed P) (t .table .result) (tabled-of (t .table .result) P (t .table .ensures)) (own-depth P) live
+    (c .close .result .words) (omega (arith, eight)) (c .close .ensures)
+    ∙ ap (λ (i : ℕ). take 8 (closeWords (masksOf ws) i live)) (sym (own-depth P))
 
 pub close-of-spec : {M : Type 1} → statement M
-close-of-spec = tie.close (tie.spec depth-requires width-requires table-requires close-requires returns)
+close-of-spec = tie.close (tie.spec table-requires close-requires returns)

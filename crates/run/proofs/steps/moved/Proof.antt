@@ -1,31 +1,33 @@
 -- `moved`: the byte's two masks lie within the letters and the repeats.
-use Prim.Native.Nat.{_+_}
+use mathlib.Core.Path.{_≡_, ap, _∙_}
+use mathlib.Core.List.{List}
+use Prim.Native.Nat.{ℕ}
 use native.Mathlib.Omega.{arith}
+use lib.ListN.{take}
+use Rattle.model.specs.Models.Run.{moveWords}
+use Rattle.model.specs.Models.Sections.{letterPlace, repeatPlace}
 use Rattle.model.proofs.Image.Address.{part-fits}
+use Rattle.run.specs.Work.{rowAt}
 use borrow.Author.Needs.{needs}
 use Rattle.run.proofs.steps.moved.Statement.{statement}
 use Rattle.run.proofs.steps.moved.Tie as tie
+use Rattle.image_sections.proofs.letters_at.Reads as letters-at-reads
+use Rattle.image_sections.proofs.repeats_at.Reads as repeats-at-reads
+use Rattle.run.proofs.rows.row_at.Reads as row-at-reads
+use Rattle.run_moves.proofs.advance.Reads as advance-reads
+use Rattle.run_moves.proofs.start.Reads as start-reads
 
-mul-row-at : tie.Need-mul-row-at
-mul-row-at c = let a = c .before .args in omega (arith, part-fits (a .width) {k = a .byte} {n = 256} (omega arith))
-
-add-row-at : tie.Need-add-row-at
-add-row-at c = let a = c .before .args in omega (arith, part-fits (a .width) {k = a .byte} {n = 256} (omega arith))
+letters-at-requires : tie.Need-letters-at-requires
+letters-at-requires c κs = search needs
 
 row-at-requires : tie.Need-row-at-requires
-row-at-requires c κs = let a = c .before .args in (c .before .pre .0, omega (arith, part-fits (a .width) {k = a .byte} {n = 256} (omega arith)))
+row-at-requires c κs = let s = c .before .before in let a = s .args in (s .pre .0, omega (arith, c .letters-at .ensures, s .pre .1, part-fits (a .width) {k = a .byte} {n = 256} (omega arith)))
 
-add-row-at-2 : tie.Need-add-row-at-2
-add-row-at-2 c = search needs
-
-mul-row-at-2 : tie.Need-mul-row-at-2
-mul-row-at-2 c = let a = c .before .before .args in omega (arith, part-fits (a .width) {k = 256 + a .byte} {n = 512} (omega arith))
-
-add-row-at-3 : tie.Need-add-row-at-3
-add-row-at-3 c = let a = c .before .before .args in omega (arith, part-fits (a .width) {k = 256 + a .byte} {n = 512} (omega arith))
+repeats-at-requires : tie.Need-repeats-at-requires
+repeats-at-requires c κs = search needs
 
 row-at-requires-2 : tie.Need-row-at-requires-2
-row-at-requires-2 c κs = let a = c .before .before .args in (c .before .before .pre .0, omega (arith, part-fits (a .width) {k = 256 + a .byte} {n = 512} (omega arith)))
+row-at-requires-2 c κs = let s = c .before .before .before .before in let a = s .args in (s .pre .0, omega (arith, c .repeats-at .ensures, s .pre .1, part-fits (a .width) {k = a .byte} {n = 256} (omega arith)))
 
 start-requires : tie.Need-start-requires
 start-requires c κs = search needs
@@ -34,18 +36,22 @@ advance-requires : tie.Need-advance-requires
 advance-requires c κs = search needs
 
 returns : tie.Need-returns
-returns c = cc
+returns c =
+    let p = c .before .before .before in
+    let l = p .before .before in
+    let a = l .before .before .args in
+    let row : ℕ → List ℕ = λ x. rowAt (a .image .now) x (a .width) in
+    let letters : p .before .row-at .result ≡ row (letterPlace (a .width) (a .byte)) = p .before .row-at .ensures ∙ ap row (l .letters-at .ensures) in
+    let repeats : c .before .before .row-at2 .result ≡ row (repeatPlace (a .width) (a .byte)) = c .before .before .row-at2 .ensures ∙ ap row (p .repeats-at .ensures) in
+    c .advance .ensures ∙ (λ i. moveWords (take (a .n) (letters i)) (take (a .n) (repeats i)) (take (a .n) (c .before .start .ensures i)) (take (a .n) (a .live .words)))
 
 pub moved-spec : {M : Type 1} → statement M
 moved-spec =
     tie.close
     (tie.spec
-    mul-row-at
-    add-row-at
+    letters-at-requires
     row-at-requires
-    add-row-at-2
-    mul-row-at-2
-    add-row-at-3
+    repeats-at-requires
     row-at-requires-2
     start-requires
     advance-requires

@@ -12,10 +12,10 @@ use Rattle.run.proofs.table.table.Statement.{statement}
 use Rattle.run.proofs.table.table.Tie as tie
 
 abbrev Inv-loop : tie.InvT-loop
-Inv-loop image width depth r₀ j₀ r j = (length r ≡ 97) × ((k i : ℕ) → k < 9 → i < j → getD r (9 * k + i) [] ≡ kindRow image width depth i k)
+Inv-loop image sections r₀ j₀ r j = (length r ≡ 97) × ((k i : ℕ) → k < 9 → i < j → getD r (9 * k + i) [] ≡ kindRow image (sections .width) (sections .depth) i k)
 
 abbrev μ-loop : tie.MeasureT-loop
-μ-loop image width depth r₀ j₀ r j = 9 - j
+μ-loop image sections r₀ j₀ r j = 9 - j
 
 loop-holds : tie.Need-loop-holds Inv-loop μ-loop
 loop-holds c = (refl, λ k i h l. absurd (omega arith))
@@ -38,7 +38,7 @@ loop-again c =
     let l = t .before .loop in
     let a = t .before .before .before .args in
     let p = c .put-kind .ensures in
-    (p .long ∙ l .inv .0, kind-entered (kindRow (a .image .now) (a .width) (a .depth)) (l .inv .1) (t .loop-test .taken) p (c .before .before .kind .ensures))
+    (p .long ∙ l .inv .0, kind-entered (kindRow (a .image .now) (a .sections .width) (a .sections .depth)) (l .inv .1) (t .loop-test .taken) p (c .before .before .kind .ensures))
 
 put-backs-requires : tie.Need-put-backs-requires Inv-loop μ-loop
 put-backs-requires c κs = (c .before .before .before .before .pre, c .before .before .loop .inv .0)

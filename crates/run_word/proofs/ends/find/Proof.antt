@@ -1,66 +1,92 @@
--- `find`: the three tests, and what was found between them.
-use mathlib.Core.Path.{refl, sym, _∙_, subst}
-use mathlib.Core.List.{List}
-use Prim.Native.Nat.{ℕ}
+-- `find`: the table's masks are the image's, so the first word is theirs, and with it the whole text is a beginning and one stretch (`begun`).
+use mathlib.Core.Path.{ap}
+use mathlib.Core.List.{[], _∷_}
+use Prim.Native.Nat.{_-_}
 use native.Mathlib.Omega.{arith}
-use Rattle.run_word.specs.Ends.{Written}
-use Rattle.run_word.proofs.Laws.One.{found-one, one-no-shape, one-too-long, one-too-wide}
+use Rattle.image_sections.specs.declared.Sections.{Sections}
+use Rattle.image_sections.proofs.Laws.Within.{single}
+use Rattle.run_word.specs.One.{oneMasks}
+use Rattle.run_word.proofs.Laws.One.{may-choose, one-first}
+use Rattle.run_word.proofs.Laws.Stretch.{begun, noted-few}
 use borrow.Author.Needs.{needs}
 use Rattle.run_word.proofs.ends.find.Statement.{statement}
 use Rattle.run_word.proofs.ends.find.Tie as tie
+use Rattle.run_word.proofs.places.note.Reads as note-reads
+use Rattle.run_word.proofs.rounds.close.Reads as close-reads
+use Rattle.run_word.proofs.stretch.is_live.Reads as is-live-reads
+use Rattle.run_word.proofs.stretch.run_over.Reads as run-over-reads
+use Rattle.run_word.proofs.table.any_chain.Reads as any-chain-reads
+use Rattle.run_word.proofs.table.backs.Reads as backs-reads
+use Rattle.run_word.proofs.table.table.Reads as table-reads
 
-has-shape-requires : tie.Need-has-shape-requires
-has-shape-requires c κs = search needs
+sub-last : tie.Need-sub-last
+sub-last c =
+    let s = c .before .before .before .before in
+    omega (arith, ap (λ (q : Sections). q .states) (s .pre .0 .own), s .pre .0 .some)
 
-states-requires : tie.Need-states-requires
-states-requires c κs = search needs
+table-requires : tie.Need-table-requires
+table-requires c κs = let s = c .before .before .before .before in single (s .pre .0) (s .pre .1)
 
-find-in-requires : tie.Need-find-in-requires
-find-in-requires c κs = (
-  sym (c .before .before .before .before .before .has-shape .ensures) ∙ c .before .before .before .before .if1 .taken,
-  omega (arith, c .before .before .before .states .ensures, c .before .before .if2 .taken),
-  c .before .if3 .taken,
-)
+any-chain-requires : tie.Need-any-chain-requires
+any-chain-requires c κs = let s = c .before .before .before .before .before .before in single (s .pre .0) (s .pre .1) .deep
+
+backs-requires : tie.Need-backs-requires
+backs-requires c κs = let s = c .before .before .before .before .before .before .before in single (s .pre .0) (s .pre .1)
+
+close-requires : tie.Need-close-requires
+close-requires c κs = let s = c .before .before .before .before .before .before .before .before .before .before in single (s .pre .0) (s .pre .1) .deep
+
+is-live-requires : tie.Need-is-live-requires
+is-live-requires c κs =
+    let s = c .before .before .before .before .before .before .before .before .before .before .before .before in
+    omega (arith, ap (λ (q : Sections). q .states) (s .pre .0 .own), s .pre .0 .some, s .pre .1)
+
+note-requires : tie.Need-note-requires
+note-requires c κs = search needs
+
+run-over-requires : tie.Need-run-over-requires
+run-over-requires c κs =
+    let n = c .before .before .before .before .before in
+    let q = n .before .before .before in
+    let e = q .before .before .before in
+    let y = e .before in
+    let b = y .before .before in
+    let s = b .before .before .before .before .before in
+    may-choose (s .pre .0) (s .pre .1) (b .table .ensures) (y .any-chain .ensures) (e .backs .ensures)
+    (record { live = q .close .result; place = 0; found = n .note .result })
+    (record { small = s .pre .2; near = omega (arith, s .pre .2); few = omega (arith, n .note .ensures .0, noted-few (n .before .is-live .result) 0) })
 
 same-length : tie.Need-same-length
 same-length c = search needs
 
 returns : tie.Need-returns
 returns c =
-    let r = c .before .before .find-in in
-    let a = c .before .before .before .before .before .before .before .before .before .before .before .before .args in
-    let h = c .before .before .before .before .before .before .before .before .has-shape in
-    subst (λ (ps : List ℕ). Written ps (a .places .now) (r .result) (r .last .1 .1 .0))
-    (found-one (a .image .now) (a .text .now) (sym (h .ensures) ∙ c .before .before .before .before .before .before .before .if1 .taken)
-    (omega (arith, c .before .before .before .before .before .before .states .ensures, c .before .before .before .before .before .if2 .taken))
-    (c .before .before .before .before .if3 .taken)) (r .ensures)
-
-returns-2 : tie.Need-returns-2
-returns-2 c =
-    let a = c .before .before .before .before .before .before .before .before .args in
-    subst (λ (ps : List ℕ). Written ps (a .places .now) 0 (a .places .now)) (one-too-long (a .image .now) (a .text .now) (c .if3 .left)) (record { counted = refl; stored = refl })
-
-returns-3 : tie.Need-returns-3
-returns-3 c =
-    let a = c .before .before .before .before .before .before .before .args in
-    subst (λ (ps : List ℕ). Written ps (a .places .now) 0 (a .places .now))
-    (one-too-wide (a .image .now) (a .text .now) (omega (arith, c .before .states .ensures, c .if2 .left))) (record { counted = refl; stored = refl })
-
-returns-4 : tie.Need-returns-4
-returns-4 c =
-    let a = c .before .before .before .before .before .args in
-    subst (λ (ps : List ℕ). Written ps (a .places .now) 0 (a .places .now))
-    (one-no-shape (a .image .now) (a .text .now) (sym (c .before .has-shape .ensures) ∙ c .if1 .left)) (record { counted = refl; stored = refl })
+    let r = c .before .before .run-over in
+    let n = c .before .before .before .before .before .before .before .before in
+    let h = n .before in
+    let q = h .before .before in
+    let e = q .before .before .before in
+    let y = e .before in
+    let b = y .before .before in
+    let s = b .before .before .before .before .before in
+    let a = s .args in
+    let ws = a .image .now in
+    begun (oneMasks ws) 1 (a .sections .depth) (a .sections .states - 1) (a .text .now) (q .close .result ∷ []) (a .ends .now)
+    (one-first ws (b .table .result) (e .backs .result) (a .sections .depth) (y .any-chain .result) (ap (λ (p : Sections). p .depth) (s .pre .0 .own)) (b .table .ensures)
+    (y .any-chain .ensures) (e .backs .ensures) (λ i. b .before .before .before .before .shared-slice-known .given i .fits) (q .close .ensures ws))
+    (h .is-live .result) (h .is-live .ensures) (n .note .ensures .0) (n .note .ensures .1) (r .ensures)
 
 pub find-spec : {M : Type 1} → statement M
 find-spec =
     tie.close
     (tie.spec
-    has-shape-requires
-    states-requires
-    find-in-requires
+    sub-last
+    table-requires
+    any-chain-requires
+    backs-requires
+    close-requires
+    is-live-requires
+    note-requires
+    run-over-requires
     same-length
-    returns
-    returns-2
-    returns-3
-    returns-4)
+    returns)

@@ -10,10 +10,10 @@ use Rattle.run_word.proofs.table.table.Statement.{statement}
 use Rattle.run_word.proofs.table.table.Tie as tie
 
 abbrev Inv-loop : tie.InvT-loop
-Inv-loop image depth r₀ i₀ r i = (length r ≡ 81) × ((x : ℕ) → x < i → getD r x 0 ≡ entryAt image depth (x / 9) (x % 9))
+Inv-loop image sections depth r₀ i₀ r i = (length r ≡ 81) × ((x : ℕ) → x < i → getD r x 0 ≡ entryAt image depth (x / 9) (x % 9))
 
 abbrev μ-loop : tie.MeasureT-loop
-μ-loop image depth r₀ i₀ r i = 9 * (depth + 1) - i
+μ-loop image sections depth r₀ i₀ r i = 9 * (depth + 1) - i
 
 loop-holds : tie.Need-loop-holds Inv-loop μ-loop
 loop-holds c = (refl, λ x h. absurd (omega arith))
@@ -44,8 +44,8 @@ loop-again c =
     let l = c .before .before .loop in
     let s = c .before .before .before .before in
     let a = s .args in
-    let h : l .i < length (l .r) = omega (arith, l .inv .0, s .pre .1, c .before .loop-test .taken) in
-    (length-set (l .r) (l .i) (c .entry .result) ∙ l .inv .0, entered-more 0 (λ (x : ℕ). entryAt (a .image .now) (a .depth) (x / 9) (x % 9)) (l .r) (l .i) (c .entry .result) h (l .inv .1) (c .entry .ensures))
+    let h : l .i < length (l .r) = omega (arith, l .inv .0, s .pre .deep, c .before .loop-test .taken) in
+    (length-set (l .r) (l .i) (c .entry .result) ∙ l .inv .0, entered-more 0 (λ (x : ℕ). entryAt (a .image .now) (a .sections .depth) (x / 9) (x % 9)) (l .r) (l .i) (c .entry .result) h (l .inv .1) (c .entry .ensures))
 
 returns : tie.Need-returns Inv-loop μ-loop
 returns c = λ i h. c .before .loop .inv .1 i (omega arith)

@@ -1,16 +1,18 @@
 -- `read_shape`: each refusal is a test of `shapeFits` that fails.
 use native.Mathlib.Omega.{arith}
+use mathlib.Core.Path.{ap, _∙_}
 use mathlib.Core.Logic.{⊎-elim}
 use borrow.Author.Needs.{needs}
 use borrow.Author.Tests.{ltb-false, ltb-true}
-use Rattle.image_apart.specs.Work.{shapeFits}
-use Rattle.image_apart.proofs.Laws.Header.{refused, shape-fits, shape-of, taken}
-use Rattle.image_apart.proofs.numbers.read_shape.Statement.{statement}
-use Rattle.image_apart.proofs.numbers.read_shape.Tie as tie
+use Rattle.image_sections.specs.Header.{shapeFits}
+use Rattle.image_sections.specs.declared.Header.the-variants.{Sound}
+use Rattle.image_sections.proofs.Laws.Header.{refused, shape-fits, shape-of, taken}
+use Rattle.image_sections.proofs.reader.read_shape.Statement.{statement}
+use Rattle.image_sections.proofs.reader.read_shape.Tie as tie
 
 returns : tie.Need-returns
 returns c =
-    let ws = c .before .args .words .now in
+    let ws = c .before .before .args .words .now in
     refused (shapeFits ws) ws (λ t. omega (arith, shape-of ws t .four))
 
 shared-slice-read-if2 : tie.Need-shared-slice-read-if2
@@ -18,7 +20,7 @@ shared-slice-read-if2 c = search needs
 
 returns-2 : tie.Need-returns-2
 returns-2 c =
-    let ws = c .before .before .before .args .words .now in
+    let ws = c .before .before .before .before .args .words .now in
     refused (shapeFits ws) ws (λ t. c .if2 .taken (shape-of ws t .three))
 
 shared-slice-read-states : tie.Need-shared-slice-read-states
@@ -32,7 +34,7 @@ shared-slice-read-depth c = search needs
 
 returns-3 : tie.Need-returns-3
 returns-3 c =
-    let ws = c .before .before .before .before .before .before .before .args .words .now in
+    let ws = c .before .before .before .before .before .before .before .before .args .words .now in
     refused (shapeFits ws) ws
     (λ t. ⊎-elim (λ w. omega (arith, w .taken, shape-of ws t .some-states))
     (λ w. omega (arith, ltb-true, w .1 .taken, shape-of ws t .few-states)) (c .if3 .came))
@@ -42,24 +44,29 @@ add-if5 c = omega (arith, ltb-false)
 
 returns-4 : tie.Need-returns-4
 returns-4 c =
-    let ws = c .before .before .before .before .before .before .before .before .before .args .words .now in
+    let ws = c .before .before .before .before .before .before .before .before .before .before .args .words .now in
     refused (shapeFits ws) ws (λ t. c .if5 .taken (shape-of ws t .wide))
 
 returns-5 : tie.Need-returns-5
 returns-5 c =
-    let ws = c .before .before .before .before .before .before .before .before .before .before .args .words .now in
+    let ws = c .before .before .before .before .before .before .before .before .before .before .before .args .words .now in
     refused (shapeFits ws) ws (λ t. omega (arith, c .if6 .taken, shape-of ws t .shallow))
+
+sections-of-requires : tie.Need-sections-of-requires
+sections-of-requires c κs = (omega (arith, ltb-false), c .if6 .left)
 
 returns-6 : tie.Need-returns-6
 returns-6 c =
-    let ws = c .before .before .before .before .before .before .before .before .before .before .args .words .now in
-    taken (shapeFits ws) ws (shape-fits ws (record {
-      four = c .before .before .before .before .before .before .before .before .before .if1 .left;
-      three = c .before .before .before .before .before .before .before .if2 .left;
-      some-states = c .before .before .before .if3 .left;
+    let s = c .before in
+    let ws = s .before .before .before .before .before .before .before .before .before .before .before .args .words .now in
+    ap Sound (c .sections-of .ensures)
+    ∙ taken (shapeFits ws) ws (shape-fits ws (record {
+      four = s .before .before .before .before .before .before .before .before .before .if1 .left;
+      three = s .before .before .before .before .before .before .before .if2 .left;
+      some-states = s .before .before .before .if3 .left;
       few-states = omega (arith, ltb-false);
-      wide = c .before .if5 .left;
-      shallow = c .if6 .left;
+      wide = s .before .if5 .left;
+      shallow = s .if6 .left;
     }))
 
 pub read-shape-spec : {M : Type 1} → statement M
@@ -76,4 +83,5 @@ read-shape-spec =
     add-if5
     returns-4
     returns-5
+    sections-of-requires
     returns-6)

@@ -4,7 +4,6 @@ use mathlib.Core.List.{List, []}
 use Prim.Native.Nat.{ℕ, suc, _+_, _*_}
 use lib.ListN.{getD, take}
 use Rattle.model.specs.Image.{join}
-use Rattle.model.specs.Models.Sections.{backAt, gatherAt, propagateAt, scatterAt}
 use Rattle.model.specs.Models.LayOut.{back-source, back-target, gather-block, gather-source, gather-target, letter-place, loop-place, scatter-block, scatter-source, scatter-target}
 use Rattle.model.specs.Models.Verdict.{sameWords}
 use Rattle.model.specs.Models.Words.{andWords}
@@ -12,11 +11,13 @@ use Rattle.tokens_masks.specs.Masks.{rowIn}
 use Rattle.tokens_masks.specs.Tables.{Table}
 use Rattle.tokens_masks.specs.Tapes.{propagateBlockTable, propagateSourceTable, propagateTargetTable, tableOf}
 use Rattle.tokens_masks.specs.declared.Tape.{Tape}
+use Rattle.image_sections.specs.declared.Sections.{Sections}
 use Rattle.image.specs.Work.{threeRows, twoRows}
 use Rattle.image_apart.specs.Work.{wordsAt}
 
-abbrev pub sameRepeats : List ℕ → ℕ → List ℕ → Bool
-sameRepeats ws W loops = sameWords (wordsAt ws (6 + 256 * W) (256 * W)) (join 256 0 (λ b. andWords (wordsAt ws (5 + W * b) W) loops))
+abbrev pub sameRepeats : List ℕ → Sections → List ℕ → Bool
+sameRepeats ws s loops =
+    sameWords (wordsAt ws (s .repeats) (s .width * 256)) (join 256 0 (λ b. andWords (wordsAt ws (s .letters + s .width * b) (s .width)) loops))
 
 -- of the masks of one depth k, three to a depth, `count` from the one of number `first` on; and those of all depths, from a place on
 abbrev pub depthMasks : (W first count : ℕ) (masks : List ℕ) → ℕ → List ℕ
@@ -42,8 +43,10 @@ abbrev pub sameBack : List ℕ → (at W d : ℕ) → Tape → Bool
 sameBack ws at W d t =
     sameWords (wordsAt ws at (2 * W * d)) (join d 0 (λ k. twoRows W (getD (tableOf t back-source) k []) (getD (tableOf t back-target) k [])))
 
-abbrev pub sameAll : List ℕ → (W d : ℕ) → List ℕ → Tape → Bool
-sameAll ws W d letters t =
+abbrev pub sameAll : List ℕ → Sections → List ℕ → Tape → Bool
+sameAll ws s letters t =
     sameWords letters (getD (tableOf t letter-place) 0 [])
-    && (sameRepeats ws W (getD (tableOf t loop-place) 0 [])
-    && (sameScatter ws (scatterAt W) W d t && (sameGather ws (gatherAt W d) W d t && (samePropagate ws (propagateAt W d) W d t && sameBack ws (backAt W d) W d t))))
+    && (sameRepeats ws s (getD (tableOf t loop-place) 0 [])
+    && (sameScatter ws (s .scatter) (s .width) (s .depth) t
+    && (sameGather ws (s .gather) (s .width) (s .depth) t
+    && (samePropagate ws (s .propagate) (s .width) (s .depth) t && sameBack ws (s .back) (s .width) (s .depth) t))))

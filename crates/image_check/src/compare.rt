@@ -7,17 +7,18 @@ ghost use mathlib.Core.Path.{_≡_};
 ghost use mathlib.Core.Bool.{not};
 ghost use Prim.Native.Nat.{_+_, _*_, _≤_};
 ghost use lib.ListN.{length as lengthOf};
+ghost use Rattle.image_sections.specs.Sections.{Within};
 ghost use Rattle.tokens_masks.specs.Says.{Laid};
 ghost use Rattle.image_check.specs.Work.{sameAll, sameMasks, sameRepeats};
 
 // Each mask of the repeats is the byte's mask of the letters at the loops' places.
-fn repeats_differ(words: &[u64], places: Places, loops: [u64; 8]) -> bool
+fn repeats_differ(words: &[u64], sections: Sections, loops: [u64; 8]) -> bool
     requires { ⌜ Within sections (lengthOf (now words)) ⌝ }
     ensures { λ r. ⌜ r ≡ not (sameRepeats (now (words .entry)) sections loops) ⌝ }
 {
-    let letters = places.letters;
-    let repeats = places.repeats;
-    let width = places.width;
+    let letters = sections.letters;
+    let repeats = sections.repeats;
+    let width = sections.width;
     let mut differ = false;
     let mut b: usize = 0;
     'search: while b < 256 {
@@ -73,7 +74,7 @@ fn masks_differ(
 // Whether the words are what is laid out for the tape: `letters` are the states that some letter's mask has.
 pub fn agrees(
     words: &[u64],
-    places: Places,
+    sections: Sections,
     letters: [u64; 8],
     tape: Tape,
     places: &[u64; 16],
@@ -86,8 +87,8 @@ pub fn agrees(
     requires laid { ⌜ Laid tape (now places) (now scatters) (now gathers) (now propagates) (now backs) ⌝ }
     ensures { λ r. ⌜ r ≡ sameAll (now (words .entry)) sections letters tape ⌝ }
 {
-    let width = places.width;
-    let depth = places.depth;
+    let width = sections.width;
+    let depth = sections.depth;
     let letter_places = row_of(places, 0);
     if !same_rows(letters, letter_places) {
         return false;
@@ -96,14 +97,14 @@ pub fn agrees(
     if repeats_differ(words, sections, loop_places) {
         return false;
     }
-    if masks_differ(words, places.scatter, width, depth, 0, 3, scatters) {
+    if masks_differ(words, sections.scatter, width, depth, 0, 3, scatters) {
         return false;
     }
-    if masks_differ(words, places.gather, width, depth, 0, 3, gathers) {
+    if masks_differ(words, sections.gather, width, depth, 0, 3, gathers) {
         return false;
     }
-    if masks_differ(words, places.propagate, width, depth + 1, 0, 3, propagates) {
+    if masks_differ(words, sections.propagate, width, depth + 1, 0, 3, propagates) {
         return false;
     }
-    !masks_differ(words, places.back, width, depth, 1, 2, backs)
+    !masks_differ(words, sections.back, width, depth, 1, 2, backs)
 }

@@ -1,4 +1,4 @@
--- What the proofs of the functions cite, and whoever reads or writes words by their places.
--- Header is what the tests of the header say; Within that every section lies within the words.
+-- Header is what the tests of the header say; Within that every section lies within the words; OfTree that the image of a tree has the tree's places.
 pub mod Header
 pub mod Within
+pub mod OfTree

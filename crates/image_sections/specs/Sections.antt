@@ -1,4 +1,4 @@
--- THE PLACES OF AN IMAGE as one record: those of m states and depth d; and of words that have a shape, their own.
+-- THE PLACES OF AN IMAGE as one record: for W words to a mask, those of m states and depth d; and of words that have a shape, their own.
 use mathlib.Core.Path.{_≡_}
 use mathlib.Core.List.{List}
 use Prim.Native.Nat.{ℕ, _+_, _*_, _≤_}
@@ -7,19 +7,22 @@ use Rattle.model.specs.Image.{width}
 use Rattle.model.specs.Models.Sections.{backAt, depthWord, gatherAt, imageLength, lettersAt, propagateAt, repeatsAt, scatterAt, stateWord}
 use Rattle.image_sections.specs.declared.Sections.{Sections}
 
-abbrev pub sectionsOf : (m d : ℕ) → Sections
-sectionsOf m d = record {
+abbrev pub sectionsFor : (m W d : ℕ) → Sections
+sectionsFor m W d = record {
   states = m;
-  width = width m;
+  width = W;
   depth = d;
   letters = lettersAt;
-  repeats = repeatsAt (width m);
-  scatter = scatterAt (width m);
-  gather = gatherAt (width m) d;
-  propagate = propagateAt (width m) d;
-  back = backAt (width m) d;
-  length = imageLength (width m) d;
+  repeats = repeatsAt W;
+  scatter = scatterAt W;
+  gather = gatherAt W d;
+  propagate = propagateAt W d;
+  back = backAt W d;
+  length = imageLength W d;
 }
+
+abbrev pub sectionsOf : (m d : ℕ) → Sections
+sectionsOf m d = sectionsFor m (width m) d
 
 abbrev pub sectionsIn : List ℕ → Sections
 sectionsIn ws = sectionsOf (stateWord ws) (depthWord ws)

@@ -8,6 +8,7 @@ use image_check::Verdict;
 use image_check::check;
 use image_sections::Sections;
 use run_edges::work;
+ghost use Rattle.image_sections.specs.Sections.{Placed};
 ghost use Rattle.model.specs.Spelling.{CheckSays};
 ghost use Rattle.spelling.specs.Answers.{checkedNumber, checkedYes};
 ghost use Rattle.spelling.specs.Work.{IsImage, RightSays};
@@ -45,7 +46,7 @@ pub fn check_spelling(
     Judged::No
 }
 
-// Sections and length first, and then the states. One pass for each byte: a short proposal costs little.
+// Places and length first, and then the states. One pass for each byte: a short proposal costs little.
 fn is_right(
     image: &[u64],
     sections: Sections,

@@ -1,4 +1,4 @@
-// The sets of earlier sections, which go back from an end place.
+// The sets of earlier places, which go back from an end place.
 use crate::origins::Origins;
 use crate::origins::into;
 use crate::sets::with_state;

@@ -17,7 +17,7 @@ ghost use Rattle.image_sections.specs.Sections.{Placed};
 ghost use Rattle.run_edges.specs.Reach.{WorkOf};
 ghost use Rattle.spelling_propose.specs.Work.{ChooseSays, FillSays, SetSays, StopSays, Stretch, WalkAsks, WalkSays, WriteAsks, WriteSays};
 
-// The sets of the sections after lo up to hi, from that of hi.
+// The sets of the places after lo up to hi, from that of hi.
 fn fill(
     image: &[u64],
     sections: Sections,

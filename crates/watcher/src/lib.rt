@@ -63,7 +63,7 @@ pub enum Matched {
     Done(usize),
 }
 
-// Match: from an image and a text to the sections of the ends, rising, as far as what is lent reaches. The image is checked in this same call: what
+// Match: from an image and a text to the places of the ends, rising, as far as what is lent reaches. The image is checked in this same call: what
 // was checked is what runs.
 pub fn match_ends(image: &[u64], text: &[u8], ends: &mut [u32]) -> Matched
     ensures { λ r. ⌜ MatchSays (now (image .entry)) (now (text .entry)) (now (ends .entry)) (matchedAnswer r (now (ends .exit))) ⌝ }

@@ -12,7 +12,7 @@ use Rattle.model.specs.Image.{width}
 use Rattle.model.specs.Models.Sections.{backCount, Counted, depthWord, gatherCount, imageLength, lettersCount, propagateCount, repeatsCount, scatterCount, stateWord, widthWord}
 use Rattle.model.proofs.Laws.Bool.{and-both, and-split, is-not, is-true}
 use Rattle.image_sections.specs.Header.{countsFit, Headed, headerFits, headerIf, holds, shapeFits}
-use Rattle.image_sections.specs.Sections.{Placed, sectionsIn, sectionsOf}
+use Rattle.image_sections.specs.Sections.{Placed, sectionsFor, sectionsIn, sectionsOf}
 use Rattle.image_sections.specs.declared.Header.{Header}
 use Rattle.image_sections.specs.declared.Header.the-variants.{Other, Sound}
 use Rattle.image_sections.specs.declared.Sections.{Sections}
@@ -193,6 +193,10 @@ header-is ws = (there, back)
           long = C .long;
           counts = counts-fit ws (stateWord ws) (depthWord ws) C;
         })
+
+-- the places by the words' own width
+pub own-words : {ws : List ℕ} → Headed ws → sectionsIn ws ≡ sectionsFor (stateWord ws) (widthWord ws) (depthWord ws)
+own-words {ws} H = ap (λ (w : ℕ). sectionsFor (stateWord ws) w (depthWord ws)) (sym (H .width-word))
 
 -- ---- the answer, by a test
 pub refused : (b : Bool) (ws : List ℕ) → (T b → ⊥) → Other ≡ headerIf b ws

@@ -1,5 +1,4 @@
--- THE MASKS OF WORK HOLD THE TREE'S SETS, for words that are the tree's image: they are the image's own masks with zeros above. And such words
--- have its places.
+-- THE MASKS OF WORK HOLD THE TREE'S SETS, for words that are the tree's image: they are the image's own masks with zeros above.
 use mathlib.Core.Path.{_≡_, refl, sym, ap, _∙_, subst}
 use mathlib.Core.Bool.{Bool, false}
 use mathlib.Core.List.{List, [], _∷_, _++_}
@@ -12,23 +11,18 @@ use Rattle.model.specs.Answers.{ImageOf}
 use Rattle.model.specs.Bits.{bit}
 use Rattle.model.specs.Edges.{depth, states}
 use Rattle.model.specs.Image.{width}
-use Rattle.model.specs.Models.Sections.{backAt, backIn, chunk, gatherAt, gatherIn, letterPlace, lettersAt, lettersIn, propagateAt, propagateIn, repeatPlace, repeatsAt, repeatsIn, scatterAt, scatterIn, stateWord}
+use Rattle.model.specs.Models.Sections.{backAt, backIn, chunk, gatherAt, gatherIn, letterPlace, lettersAt, lettersIn, propagateAt, propagateIn, repeatPlace, repeatsAt, repeatsIn, scatterAt, scatterIn}
 use Rattle.model.specs.Models.Words.{value}
 use Rattle.model.specs.Tree.{Tree}
 use Rattle.model.proofs.Ends.Run.{letterSet, loopSet, startSet}
 use Rattle.model.proofs.Image.Address.{chunk-at, three-at, two-at}
-use Rattle.model.proofs.Image.OfEdges.{image-is}
-use Rattle.model.proofs.Image.Sections.{length-assembled}
-use Rattle.model.proofs.Image.Sets.{arcImage, treeSet}
+use Rattle.model.proofs.Image.Sets.{arcImage}
 use Rattle.model.proofs.Language.Arcs.{arcs}
-use Rattle.model.proofs.Language.Languages.{two-states}
 use Rattle.model.proofs.Laws.Bits.{bit-zero}
-use Rattle.model.proofs.Laws.Trees.{NonEmpty}
-use Rattle.model.proofs.Reading.WellFormed.{rule-well}
 use Rattle.model.proofs.Words.Holds.{Holds, pad-holds}
 use Rattle.model.proofs.Words.ImageRun.{image-carry}
 use Rattle.model.proofs.Words.Run.{Carry}
-use Rattle.image_sections.specs.Sections.{Placed, sectionsOf}
+use Rattle.image_sections.proofs.Laws.OfTree.{as-arcs}
 use Rattle.run_moves.specs.Less.{startWords}
 use Rattle.run.specs.Work.{masksOf, rowAt}
 
@@ -107,27 +101,7 @@ module _ (t : Tree) where
           start = start-holds m (omega arith);
         }
 
-  arc-placed : NonEmpty t → m ≤ 512 → d ≤ 8 → Placed A (sectionsOf m d)
-  arc-placed f h k = record {
-    own = refl;
-    some = two-states t f;
-    few = h;
-    shallow = k;
-    long = length-assembled m W d (letterSet (arcs t 0 0)) (loopSet (arcs t 0 0)) (treeSet t);
-  }
-
 -- ---- words that are an image
 module _ (ws : List ℕ) (t : Tree) (I : ImageOf ws t) where
-  -- they are the image by the arcs
-  pub as-arcs : ws ≡ arcImage t
-  as-arcs = I .laid ∙ image-is t
-
-  -- the number of states that they show is the tree's
-  pub states-is : stateWord ws ≡ states t
-  states-is = ap stateWord as-arcs
-
   pub carried : Carry (states t) 8 t (masksOf ws)
-  carried = subst (λ (z : List ℕ). Carry (states t) 8 t (masksOf z)) (sym as-arcs) (arc-carry t (I .few))
-
-  pub image-placed : Placed ws (sectionsOf (states t) (depth t))
-  image-placed = subst (λ (z : List ℕ). Placed z (sectionsOf (states t) (depth t))) (sym as-arcs) (arc-placed t (rule-well (I .is-rule) .full) (I .few) (I .shallow))
+  carried = subst (λ (z : List ℕ). Carry (states t) 8 t (masksOf z)) (sym (as-arcs ws t I)) (arc-carry t (I .few))

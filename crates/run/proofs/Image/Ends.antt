@@ -16,10 +16,11 @@ use Rattle.model.proofs.Image.Decided.{rule-full}
 use Rattle.model.proofs.Laws.Stores.{sets-fit}
 use Rattle.model.proofs.Watch.Stretch.{whole-ends}
 use Rattle.model.proofs.Words.Run.{Bytes}
+use Rattle.image_sections.proofs.Laws.OfTree.{states-is}
 use Rattle.run.specs.Says.{FindSays}
 use Rattle.run_word.specs.Ends.{Written}
 use Rattle.run.specs.Work.{masksOf}
-use Rattle.run.proofs.Image.Carry.{carried, states-is}
+use Rattle.run.proofs.Image.Carry.{carried}
 use Rattle.run.proofs.Image.Live.{depth-is}
 
 -- ---- words that are an image

@@ -19,10 +19,11 @@ use Rattle.model.proofs.Words.Full.{Full}
 use Rattle.model.proofs.Words.Holds.{Holds}
 use Rattle.model.proofs.Words.Rounds.{closed}
 use Rattle.model.proofs.Words.Run.{rounds-words}
+use Rattle.image_sections.proofs.Laws.OfTree.{as-arcs}
 use Rattle.run.specs.Says.{BeginSays, StatesAre}
 use Rattle.run_moves.specs.Less.{startWords}
 use Rattle.run.specs.Work.{masksOf}
-use Rattle.run.proofs.Image.Carry.{as-arcs, carried}
+use Rattle.run.proofs.Image.Carry.{carried}
 
 -- a row that holds a set has exactly the states of what the set means
 states-are : (t : Tree) (xs : List ℕ) (f : ℕ → Bool) (S : ℕ → Type 0) → ((q : ℕ) → T (f q) ↔ S q) → Holds (states t) 8 xs f → StatesAre t xs S

@@ -37,9 +37,10 @@ use Rattle.run_word.specs.One.{oneMasks}
 use Rattle.image_sections.specs.Sections.{Placed, widthOf}
 use Rattle.image_sections.specs.declared.Sections.{Sections}
 use Rattle.image_sections.proofs.Laws.Within.{own-depth, own-placed, own-states, own-width}
+use Rattle.image_sections.proofs.Laws.OfTree.{as-arcs, image-placed, states-is}
 use Rattle.run.specs.Says.{Gone, StatesAre}
 use Rattle.run.specs.Work.{masksOf, rowAt, ruleMasks, Tabled}
-use Rattle.run.proofs.Image.Carry.{as-arcs, carried, image-placed, states-is}
+use Rattle.run.proofs.Image.Carry.{carried}
 use Rattle.run.proofs.Image.Live.{depth-is}
 use Rattle.run.proofs.Laws.One.{mask-back, mask-cut, one as one-wide}
 use Rattle.run.proofs.Laws.Table.{back-cut, work-cut}

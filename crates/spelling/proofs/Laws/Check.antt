@@ -8,7 +8,7 @@ use lib.ListN.{drop, length, take}
 use Rattle.model.specs.Edges.{states}
 use Rattle.model.specs.Models.Sections.{stateWord}
 use Rattle.model.specs.Spelling.{Follow}
-use Rattle.run.proofs.Image.Carry.{states-is}
+use Rattle.image_sections.proofs.Laws.OfTree.{states-is}
 use Rattle.spelling.specs.Work.{FollowSays, RightSays}
 
 module _ (words text : List ℕ) (start end : ℕ) (list : List ℕ) where

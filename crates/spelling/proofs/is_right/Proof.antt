@@ -1,6 +1,6 @@
 -- `is_right`: each way out is one of the wish's conditions.
 use native.Mathlib.Omega.{arith}
-use Rattle.run.proofs.Image.Carry.{states-is}
+use Rattle.image_sections.proofs.Laws.OfTree.{states-is}
 use Rattle.spelling.proofs.Laws.Check.{followed, outside, turned, uneven}
 use borrow.Author.Needs.{needs}
 use Rattle.spelling.proofs.is_right.Statement.{statement}

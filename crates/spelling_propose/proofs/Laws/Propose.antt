@@ -14,7 +14,7 @@ use Rattle.model.proofs.Laws.Bool.{le-or-lt}
 use Rattle.model.specs.Models.Leads.{Leads}
 use Rattle.model.specs.Spelling.{between, Latest, no-end, no-room, Proposal, proposed, ProposeSays, refused, Spelled}
 use Rattle.model.proofs.Spelling.Ends.{spelled-end, spelled-leads}
-use Rattle.run.proofs.Image.Carry.{states-is}
+use Rattle.image_sections.proofs.Laws.OfTree.{states-is}
 use Rattle.spelling_propose.specs.Work.{Ready, StartSays, WriteSays}
 use Rattle.spelling_propose.specs.declared.search.Found.{Found}
 use Rattle.spelling_propose.specs.declared.search.Found.the-variants as search

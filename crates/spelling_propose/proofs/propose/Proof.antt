@@ -2,7 +2,7 @@
 use Prim.Native.Nat.{_-_}
 use mathlib.Core.Path.{refl}
 use native.Mathlib.Omega.{arith}
-use Rattle.run.proofs.Image.Carry.{states-is}
+use Rattle.image_sections.proofs.Laws.OfTree.{states-is}
 use Rattle.spelling_propose.proofs.Laws.Back.{ready}
 use Rattle.spelling_propose.proofs.Laws.Propose.{last-is, nowhere, ordered, too-short, written}
 use borrow.Author.Needs.{needs}

@@ -24,7 +24,7 @@ use Rattle.model.proofs.Watch.Ends.{ends-zero}
 use Rattle.model.proofs.Watch.Masks.{mask-test}
 use Rattle.run.specs.Says as run
 use Rattle.run.specs.Work.{Goes}
-use Rattle.run.proofs.Image.Carry.{as-arcs, image-shaped, states-is}
+use Rattle.image_sections.proofs.Laws.OfTree.{as-arcs, image-placed, states-is}
 use Rattle.run.proofs.Image.Stretch.{states-mask}
 use Rattle.image_check.specs.Says.{CheckSays}
 use Rattle.image_check.specs.declared.Checked.{Checked}

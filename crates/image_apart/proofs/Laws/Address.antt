@@ -2,10 +2,9 @@
 use mathlib.Core.Path.{_≡_, sym, ap, _∙_}
 use mathlib.Core.List.{List}
 use Prim.Native.Nat.{ℕ, _+_, _*_, _≤_}
-use native.Mathlib.Omega.{arith}
 use lib.ListN.{drop, take}
 use lib.Seq.{drop-drop}
-use Rattle.model.specs.Models.Sections.{chunk, repeatsIn, widthWord}
+use Rattle.model.specs.Models.Sections.{chunk}
 use Rattle.model.proofs.Image.Address as model
 use Rattle.image_apart.specs.Work.{wordsAt}
 
@@ -22,6 +21,3 @@ module _ (ws S : List ℕ) (a W : ℕ) (e : S ≡ drop a ws) where
       ∙ ap (λ (l : List ℕ). take W (drop (W * j) l)) (drop-drop (n * W * k) a ws)
       ∙ ap (take W) (drop-drop (W * j) (a + n * W * k) ws)
       ∙ ap (λ (n : ℕ). wordsAt ws n W) (sym q))
-
-pub repeats-at : (ws : List ℕ) → repeatsIn ws ≡ drop (6 + 256 * widthWord ws) ws
-repeats-at ws = model.repeats-at ws ∙ ap (λ (n : ℕ). drop n ws) (let e : 6 + widthWord ws * 256 ≡ 6 + 256 * widthWord ws = omega arith in e)

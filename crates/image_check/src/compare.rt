@@ -103,7 +103,15 @@ pub fn agrees(
     if masks_differ(words, sections.gather, width, depth, 0, 3, gathers) {
         return false;
     }
-    if masks_differ(words, sections.propagate, width, depth + 1, 0, 3, propagates) {
+    if masks_differ(
+        words,
+        sections.propagate,
+        width,
+        depth + 1,
+        0,
+        3,
+        propagates,
+    ) {
         return false;
     }
     !masks_differ(words, sections.back, width, depth, 1, 2, backs)

@@ -4,12 +4,13 @@ use mathlib.Core.Path.{_≡_, refl, sym, ap, ap₂, _∙_, subst}
 use mathlib.Core.Logic.{_⊎_, inl, inr}
 use mathlib.Core.List.{List, _++_, map}
 use Prim.Native.Nat.{ℕ, _+_, _*_, _≤_, _<_}
-use native.Mathlib.Nat.{zero-add}
+use native.Mathlib.Nat.{mul-add, mul-assoc, mul-left-comm, mul-suc, zero-add}
 use native.Mathlib.Omega.{arith}
 use lib.ListN.{drop, length, length-map}
 use lib.Seq.{drop-at, sets, sets-eq}
 use Rattle.model.specs.Edges.{depth, states}
 use Rattle.model.specs.Image.{image, width}
+use Rattle.model.specs.Models.Sections.{imageLength}
 use Rattle.model.specs.Tree as tree
 use Rattle.model.proofs.Laws.Bool.{le-or-lt}
 use Rattle.tokens_masks.specs.Says.{ShapeSays, TreeOnTape}
@@ -27,6 +28,10 @@ not-other d e = let z : _≡_ {A = ℕ} 0 1 = cc in omega arith
 
 same-told : (d e : ℕ) → Tree d ≡ Tree e → d ≡ e
 same-told d e p = cc
+
+-- "The length is 9 + W(515 + 9d) words", and "lengths grow by 1 + 2Wd".
+as-model : (W d : ℕ) → 10 + W * (515 + 11 * d) ≡ imageLength W d
+as-model W d = omega (arith, mul-add W 515 (11 * d), mul-left-comm W 11 d, mul-assoc 3 W d, mul-assoc 2 W d, mul-suc (3 * W) d)
 
 -- words written from the first on
 written-first : (before ws : List ℕ) → length ws ≤ length before → sets before 0 ws ≡ ws ++ drop (length ws) before
@@ -89,7 +94,7 @@ module _ {row : List ℕ} {n : ℕ} {tape : Tape} {shape : Shape} (T : Taped row
       width-is t P = wide ∙ ap width (states-told t P)
 
       size-is : (t : tree.Tree) → TreeOnTape t tape → size ≡ length (image t)
-      size-is t P = sized ∙ ap₂ (λ (w k : ℕ). 10 + w * (515 + 11 * k)) (width-is t P) (sym (depth-told t P)) ∙ sym (length-image t)
+      size-is t P = sized ∙ as-model W d ∙ ap₂ imageLength (width-is t P) (sym (depth-told t P)) ∙ sym (length-image t)
 
       words-as : (t : tree.Tree) → TreeOnTape t tape → imageWords W d row tape ≡ imageWords (width (states t)) (depth t) row tape
       words-as t P = ap₂ (λ (w k : ℕ). imageWords w k row tape) (width-is t P) (sym (depth-told t P))

@@ -10,6 +10,7 @@ use Rattle.model.specs.Bits.{bit}
 use Rattle.model.specs.Edges.{depth, states}
 use Rattle.model.specs.Image.{backSource, backTarget, gatherBlock, gatherSource, gatherTarget, image, join, letters, propagateBlock, propagateSource, propagateTarget, repeats, scatterBlock, scatterSource, scatterTarget, section, width}
 use Rattle.model.specs.Models.LayOut.{assemble, back-source, back-target, begin, gather-block, gather-source, gather-target, layOut, loop-place, scatter-block, scatter-source, scatter-target, set, three, tokenLetters, two}
+use Rattle.model.specs.Models.Sections.{imageLength}
 use Rattle.model.specs.Models.Tokens.{tokens}
 use Rattle.model.specs.Models.Words.{andWords, Fit, value}
 use Rattle.model.specs.Tree.{Tree}
@@ -108,7 +109,7 @@ module _ (row : List ℕ) (tape : Tape) (s : Tree) (O : TreeOnTape s tape) where
       (propagateTarget s) (propagate-block-says tape s O) (propagate-source-says tape s O) (propagate-target-says tape s O))
       (two-rows (depth s) (tableOf tape back-source) (tableOf tape back-target) (backSource s) (backTarget s) (back-source-says tape s O) (back-target-says tape s O))
 
-  pub length-written : length (imageWords W (depth s) row tape) ≡ 10 + W * (515 + 11 * depth s)
+  pub length-written : length (imageWords W (depth s) row tape) ≡ imageLength W (depth s)
   length-written = ap length written ∙ length-assembled m W (depth s) (leads row) looped (edgeSet s)
 
   -- ---- and with the tree's own classes
@@ -128,6 +129,5 @@ module _ (row : List ℕ) (tape : Tape) (s : Tree) (O : TreeOnTape s tape) where
         ∙ assemble-same m W (depth s) (leads row) looped (letters s) (repeats s) (edgeSet s) (edgeSet s) letters-lead
         (λ b x h l. ap (λ (a : Bool). a && bit (value loops) x) (letters-lead b x h l) ∙ loops-say tape s O b x l) (λ w k x. refl)
 
--- "The length is 9 + W(515 + 9d) words", and "lengths grow by 1 + 2Wd".
-pub length-image : (s : Tree) → length (image s) ≡ 10 + width (states s) * (515 + 11 * depth s)
+pub length-image : (s : Tree) → length (image s) ≡ imageLength (width (states s)) (depth s)
 length-image s = length-assembled (states s) (width (states s)) (depth s) (letters s) (repeats s) (edgeSet s)

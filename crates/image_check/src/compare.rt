@@ -14,7 +14,7 @@ ghost use Rattle.image_check.specs.Work.{sameAll, sameMasks, sameRepeats
 // Each mask of the repeats is the byte's mask of the letters at the loops' places.
 fn repeats_differ(words: &[u64], sections: Sections, loops: [u64; 8]) -> bool
     requires { ⌜ Within sections (lengthOf (now words)) ⌝ }
-    ensures { λ r. ⌜ r ≡ not (sameRepeats (now (words .entry)) sections loops) ⌝ }
+    ensures { λ r. ⌜ r ≡ not (sameRepeats (now (words .entry)) (sections .letters) (sections .repeats) (sections .width) loops) ⌝ }
 {
     let letters = sections.letters;
     let repeats = sections.repeats;

@@ -2,15 +2,10 @@
 use mathlib.Core.Path.{_≡_, sym, ap, _∙_}
 use mathlib.Core.List.{List}
 use Prim.Native.Nat.{ℕ, _+_, _*_, _≤_}
-use native.Mathlib.Nat.{mul-add, mul-assoc, mul-comm}
-use native.Mathlib.Omega.{arith}
 use lib.ListN.{drop, take}
 use lib.Seq.{drop-drop}
 use Rattle.model.specs.Models.Sections.{chunk}
 use Rattle.model.proofs.Image.Address as model
-use Rattle.image_sections.specs.Sections.{Within}
-use Rattle.image_sections.specs.declared.Sections.{Sections}
-use Rattle.image_sections.proofs.Laws.Within.{propagates-in}
 use Rattle.image_apart.specs.Work.{wordsAt}
 
 module _ (ws S : List ℕ) (a W : ℕ) (e : S ≡ drop a ws) where
@@ -26,18 +21,3 @@ module _ (ws S : List ℕ) (a W : ℕ) (e : S ≡ drop a ws) where
       ∙ ap (λ (l : List ℕ). take W (drop (W * j) l)) (drop-drop (n * W * k) a ws)
       ∙ ap (take W) (drop-drop (W * j) (a + n * W * k) ws)
       ∙ ap (λ (n : ℕ). wordsAt ws n W) (sym q))
-
--- ---- the masks of all depths lie within the words
-module _ {p : Sections} {n : ℕ} (I : Within p n) where
-  -- masks of k words to each depth
-  spread : (k d : ℕ) → k * p .width * d ≡ p .width * (k * d)
-  spread k d = ap (λ (j : ℕ). j * d) (mul-comm k (p .width)) ∙ mul-assoc (p .width) k d
-
-  entered-in : p .propagate + 3 * p .width * (p .depth + 1) ≤ n
-  entered-in = omega (arith, propagates-in I, spread 3 (p .depth + 1))
-
-  pub closes-in : p .gather + 2 * p .width + 3 * p .width * p .depth ≤ n
-  closes-in = omega (arith, I .gathers, entered-in, spread 3 (p .depth), mul-add (3 * p .width) (p .depth) 1)
-
-  pub opens-in : p .scatter + p .width + 3 * p .width * p .depth ≤ n
-  opens-in = omega (arith, I .scatters, closes-in, spread 3 (p .depth))

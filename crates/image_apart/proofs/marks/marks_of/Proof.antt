@@ -3,8 +3,8 @@ use mathlib.Core.Path.{_∙_, ap}
 use native.Mathlib.Numerals.{add-one}
 use native.Mathlib.Omega.{arith}
 use borrow.Author.Needs.{needs}
+use Rattle.image_sections.proofs.Laws.Within.{past-gather, past-scatter}
 use Rattle.image_apart.specs.Work.{enteredRow}
-use Rattle.image_apart.proofs.Laws.Address.{closes-in, opens-in}
 use Rattle.image_apart.proofs.marks.marks_of.Statement.{statement}
 use Rattle.image_apart.proofs.marks.marks_of.Tie as tie
 
@@ -32,7 +32,7 @@ mul-some-row-2 c = search needs
 some-row-requires-3 : tie.Need-some-row-requires-3
 some-row-requires-3 c κs =
     let I = c .before .before .before .before .before .pre in
-    (I .narrow, omega (arith, I .narrow), omega (arith, I .deep), closes-in I, omega arith)
+    (I .narrow, omega (arith, I .narrow), omega (arith, I .deep), past-gather I, omega arith)
 
 add-some-row-2 : tie.Need-add-some-row-2
 add-some-row-2 c = search needs
@@ -43,7 +43,7 @@ mul-some-row-3 c = search needs
 some-row-requires-4 : tie.Need-some-row-requires-4
 some-row-requires-4 c κs =
     let I = c .before .before .before .before .before .before .before .pre in
-    (I .narrow, omega (arith, I .narrow), omega (arith, I .deep), opens-in I, omega arith)
+    (I .narrow, omega (arith, I .narrow), omega (arith, I .deep), past-scatter I, omega arith)
 
 mul-some-row-4 : tie.Need-mul-some-row-4
 mul-some-row-4 c = search needs

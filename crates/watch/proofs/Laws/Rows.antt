@@ -14,7 +14,6 @@ use Rattle.model.specs.Bits.{bit}
 use Rattle.model.specs.Edges.{accepting, states}
 use Rattle.model.specs.Image.{width}
 use Rattle.model.specs.Live.{Before}
-use Rattle.model.specs.Models.Sections.{stateWord}
 use Rattle.model.specs.Models.Run.{noted}
 use Rattle.model.specs.Models.Words.{Fit, isMask, value}
 use Rattle.model.specs.Tree.{Tree}
@@ -24,21 +23,18 @@ use Rattle.model.proofs.Watch.Ends.{ends-zero}
 use Rattle.model.proofs.Watch.Masks.{mask-test}
 use Rattle.run.specs.Says as run
 use Rattle.run.specs.Work.{Goes}
-use Rattle.image_sections.proofs.Laws.OfTree.{as-arcs, image-placed, states-is}
+use Rattle.image_sections.specs.Sections.{Placed}
+use Rattle.image_sections.specs.declared.Sections.{Sections}
+use Rattle.image_sections.proofs.Laws.Within.{own-states, within}
 use Rattle.run.proofs.Image.Stretch.{states-mask}
 use Rattle.image_check.specs.Says.{CheckSays}
 use Rattle.image_check.specs.declared.Checked.{Checked}
 use Rattle.image_check.specs.declared.Verdict.the-variants.{Image, Other}
 use Rattle.image_check.proofs.Laws.Found.{Found, found, not-found}
-use Rattle.run_word.specs.Shape.{widthOf}
 use Rattle.run_word.proofs.Laws.Stretch.{noted-few}
-use Rattle.run_word.proofs.Laws.Shape.{shape-of}
 
-wide-is : (ws : List ℕ) (t : Tree) → ImageOf ws t → widthOf ws ≡ width (states t)
-wide-is ws t I = ap widthOf (as-arcs ws t I)
-
-module _ (ws : List ℕ) {r : Checked} (C : CheckSays ws r) {w : ℕ} (g : r .verdict ≡ Image w) where
-  abbrev F : Found ws w (r .tape)
+module _ (ws : List ℕ) {r : Checked} (C : CheckSays ws r) {p : Sections} (g : r .verdict ≡ Image p) where
+  abbrev F : Found ws p (r .tape)
   F = found ws r C g
 
   abbrev t : Tree
@@ -47,32 +43,41 @@ module _ (ws : List ℕ) {r : Checked} (C : CheckSays ws r) {w : ℕ} (g : r .ve
   abbrev I : ImageOf ws t
   I = F .image-of
 
-  -- ---- the numbers that were read
-  pub some-states : {count : ℕ} → count ≡ stateWord ws → 1 ≤ count
-  some-states e = omega (arith, e, shape-of ws (image-shaped ws t I) .some-states)
+  -- ---- the numbers that the check hands on
+  pub placed : Placed ws p
+  placed = F .placed
 
-  pub narrow : w ≤ 8
-  narrow = omega (arith, F .width-is, I .few)
+  width-is : p .width ≡ width (states t)
+  width-is = ap (λ (q : Sections). q .width) (F .sections-are)
+
+  states-are : p .states ≡ states t
+  states-are = ap (λ (q : Sections). q .states) (F .sections-are)
+
+  pub some-states : 1 ≤ p .states
+  some-states = omega (arith, own-states placed, placed .some)
+
+  pub narrow : p .width ≤ 8
+  narrow = within placed .narrow
 
   -- ---- BEGIN
   module _ (mask : List ℕ) (place : ℕ) (ends : List ℕ) where
-    pub begin-words : (length mask ≡ w → ⊥) → BeginSays ws mask place ends (stays 9 mask place ends)
-    begin-words f = not-a-mask t I (λ e. f (e ∙ sym (F .width-is))) refl
+    pub begin-words : (length mask ≡ p .width → ⊥) → BeginSays ws mask place ends (stays 9 mask place ends)
+    begin-words f = not-a-mask t I (λ e. f (e ∙ sym width-is)) refl
 
-    pub begin-done : length mask ≡ w → (words : List ℕ) → length words ≡ 8 → Fit words → run.BeginSays ws words → {count : ℕ} → count ≡ stateWord ws
-        → (hit : Bool) → hit ≡ bit (value words) (count - 1) → {total : ℕ} → total ≡ (0 + length (noted hit 0)) % 2 ^ 64 → {after new : List ℕ}
-        → after ≡ sets ends 0 (noted hit 0) → new ≡ take w words
+    pub begin-done : length mask ≡ p .width → (words : List ℕ) → length words ≡ 8 → Fit words → run.BeginSays ws words
+        → (hit : Bool) → hit ≡ bit (value words) (p .states - 1) → {total : ℕ} → total ≡ (0 + length (noted hit 0)) % 2 ^ 64 → {after new : List ℕ}
+        → after ≡ sets ends 0 (noted hit 0) → new ≡ take (p .width) words
         → BeginSays ws mask place ends (record { number = 0; count = total; mask = new; place = 0; ends = after })
-    begin-done long words eight fits B {count} em hit looked {total} counts {after} {new} writes laid =
-        begun t (take (width (states t)) words) (noted hit 0) I (long ∙ F .width-is) (states-mask t (I .few) words (Before t) eight fits A) (ends-zero t (I .is-rule) hit is)
+    begin-done long words eight fits B hit looked {total} counts {after} {new} writes laid =
+        begun t (take (width (states t)) words) (noted hit 0) I (long ∙ width-is) (states-mask t (I .few) words (Before t) eight fits A) (ends-zero t (I .is-rule) hit is)
         (ap₂ (λ (n : ℕ) (e : List ℕ). record { number = 0; count = n; mask = new; place = 0; ends = e }) total-is (writes ∙ sets-fit ends (noted hit 0))
-        ∙ ap (λ (m : List ℕ). goes-on m 0 (noted hit 0) ends) (laid ∙ ap (λ (n : ℕ). take n words) (F .width-is)))
+        ∙ ap (λ (m : List ℕ). goes-on m 0 (noted hit 0) ends) (laid ∙ ap (λ (n : ℕ). take n words) width-is))
       where
         A : run.StatesAre t words (Before t)
         A = B t I
 
-        last-is : count - 1 ≡ accepting t
-        last-is = omega (arith, em, states-is ws t I)
+        last-is : p .states - 1 ≡ accepting t
+        last-is = omega (arith, states-are)
 
         same : hit ≡ bit (value words) (accepting t)
         same = looked ∙ ap (bit (value words)) last-is
@@ -91,13 +96,10 @@ module _ (ws : List ℕ) {r : Checked} (C : CheckSays ws r) {w : ℕ} (g : r .ve
     pub step-long : 65535 < length stretch → Says (stays 7 mask place ends)
     step-long l = stretch-too-long t I l refl
 
-    module _ (small : length stretch ≤ 65535) {count : ℕ} (em : count ≡ stateWord ws) (fits : Fit mask) {b : Bool} (test : b ≡ isMask count mask) where
-      e : count ≡ states t
-      e = em ∙ states-is ws t I
-
+    module _ (small : length stretch ≤ 65535) (fits : Fit mask) {b : Bool} (test : b ≡ isMask (p .states) mask) where
       is : T b ↔ IsMask (states t) mask
       is =
-          let k : b ≡ isMask (states t) mask = test ∙ ap (λ (m : ℕ). isMask m mask) e in
+          let k : b ≡ isMask (states t) mask = test ∙ ap (λ (m : ℕ). isMask m mask) states-are in
           let h = mask-test (states t) (omega arith) mask fits in
           (λ y. h .0 (subst T k y), λ M. subst T (sym k) (h .1 M))
 
@@ -116,23 +118,23 @@ module _ (ws : List ℕ) {r : Checked} (C : CheckSays ws r) {w : ℕ} (g : r .ve
             yes true p = tt
             yes false p = subst T p tt
 
-        pub its-words : length mask ≡ w
-        its-words = M .long ∙ sym (F .width-is)
+        pub its-words : length mask ≡ p .width
+        its-words = M .long ∙ sym width-is
 
         pub step-past : 4294967295 - length stretch < place → Says (stays 10 mask place ends)
         step-past l = text-too-long t I small M (omega arith) refl
 
         module _ (near : place ≤ 4294967295 - length stretch) where
-          pub goes : Goes ws mask place stretch
-          goes = record { shape = image-shaped ws t I; long = M .long ∙ sym (wide-is ws t I); limits = record { small = small; near = omega arith; few = omega arith } }
+          pub goes : Goes ws p mask place stretch
+          goes = record { placed = placed; long = its-words; limits = record { small = small; near = omega arith; few = omega arith } }
 
-          pub step-done : {words : List ℕ} {total : ℕ} {after new : List ℕ} → run.GoOnSays ws mask place stretch ends words total after → new ≡ take w words
+          pub step-done : {words : List ℕ} {total : ℕ} {after new : List ℕ} → run.GoOnSays ws mask place stretch ends words total after → new ≡ take (p .width) words
               → Says (record { number = 0; count = total; mask = new; place = place + length stretch; ends = after })
           step-done {words} {total} {after} {new} G laid =
               let R = G t I M in
               stepped t (take (width (states t)) words) (R .found) I small M (omega arith) (R .live) (R .ends)
               (ap₂ (λ (n : ℕ) (l : List ℕ). record { number = 0; count = n; mask = new; place = place + length stretch; ends = l }) (R .counted) (R .stored)
-              ∙ ap (λ (m : List ℕ). goes-on m (place + length stretch) (R .found) ends) (laid ∙ ap (λ (n : ℕ). take n words) (F .width-is)))
+              ∙ ap (λ (m : List ℕ). goes-on m (place + length stretch) (R .found) ends) (laid ∙ ap (λ (n : ℕ). take n words) width-is))
 
 pub begin-other : (ws mask : List ℕ) (place : ℕ) (ends : List ℕ) {r : Checked} → CheckSays ws r → r .verdict ≡ Other → BeginSays ws mask place ends (stays 6 mask place ends)
 begin-other ws mask place ends {r} C g = not-an-image (not-found ws r C g) refl

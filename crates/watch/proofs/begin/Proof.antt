@@ -4,9 +4,16 @@ use Prim.Native.Nat.{ℕ}
 use borrow.Author.Needs.{length-unmapped, needs}
 use lib.ListN.{length}
 use Rattle.mask.proofs.Laws.Bits.{fit-row}
-use Rattle.watch.proofs.Laws.Rows.{begin-done, begin-other, begin-words, narrow, some-states}
+use Rattle.watch.proofs.Laws.Rows.{begin-done, begin-other, begin-words, narrow, placed, some-states}
 use Rattle.watch.proofs.begin.Statement.{statement}
 use Rattle.watch.proofs.begin.Tie as tie
+
+-- where the function began, from the check; the verdict, from the states that were read
+abbrev start : tie.After-check → tie.Start
+start c = c .before .before .before .before
+
+abbrev verdict-of : tie.After-struct-known → tie.After-verdict
+verdict-of c = c .before .before
 
 check-requires : tie.Need-check-requires
 check-requires c κs = search needs
@@ -19,25 +26,28 @@ enum-told c = search needs
 
 returns : tie.Need-returns
 returns c =
-    let a = c .before .before .before .before .before .before .args in
-    begin-other (a .image .now) (a .mask .now) (a .place .now) (a .ends .now) (c .before .before .check .ensures) (c .enum-told .given .1)
-
-returns-2 : tie.Need-returns-2
-returns-2 c =
-    let a = c .before .before .before .before .before .before .before .before .args in
-    begin-words (a .image .now) (c .before .before .before .before .check .ensures) (c .before .before .verdict .given .1) (a .mask .now) (a .place .now) (a .ends .now) (c .if1 .taken)
-
-states-requires : tie.Need-states-requires
-states-requires c κs = search needs
+    let k = c .before .before in
+    let a = start k .args in
+    begin-other (a .image .now) (a .mask .now) (a .place .now) (a .ends .now) (k .check .ensures) (c .enum-told .given .1)
 
 sub-last : tie.Need-sub-last
 sub-last c =
-    let v = c .before .before .before in
+    let v = c .before .before in
     let k = v .before .before in
-    some-states (k .before .before .before .before .args .image .now) (k .check .ensures) (v .verdict .given .1) (c .states .ensures)
+    some-states (start k .args .image .now) (k .check .ensures) (v .verdict .given .1)
+
+returns-2 : tie.Need-returns-2
+returns-2 c =
+    let v = verdict-of (c .before) in
+    let k = v .before .before in
+    let a = start k .args in
+    begin-words (a .image .now) (k .check .ensures) (v .verdict .given .1) (a .mask .now) (a .place .now) (a .ends .now) (c .if1 .taken)
 
 begin-requires : tie.Need-begin-requires
-begin-requires c κs = search needs
+begin-requires c κs =
+    let v = verdict-of (c .before) in
+    let k = v .before .before in
+    placed (start k .args .image .now) (k .check .ensures) (v .verdict .given .1)
 
 row-has-bit-requires : tie.Need-row-has-bit-requires
 row-has-bit-requires c κs = search needs
@@ -47,10 +57,10 @@ note-requires c κs = search needs
 
 put-words-requires : tie.Need-put-words-requires
 put-words-requires c κs =
-    let f = c .before .before .before .before .before .before .before .before .before in
-    let v = f .before .before in
+    let f = c .before .before .before .before .before .before .before .before in
+    let v = verdict-of (f .before) in
     let k = v .before .before in
-    (f .if1 .left, narrow (k .before .before .before .before .args .image .now) (k .check .ensures) (v .verdict .given .1))
+    (f .if1 .left, narrow (start k .args .image .now) (k .check .ensures) (v .verdict .given .1))
 
 same-length : tie.Need-same-length
 same-length c = search needs
@@ -64,15 +74,14 @@ returns-3 c =
     let n = p .before .before .before .before in
     let h = n .before in
     let b = h .before .before .before in
-    let s = b .before in
-    let f = s .before in
-    let v = f .before .before in
+    let f = b .before in
+    let v = verdict-of (f .before) in
     let k = v .before .before in
-    let a = k .before .before .before .before .args in
+    let a = start k .args in
     let ok = b .begin .ok in
     let eight : length (b .begin .result .words) ≡ 8 = length-unmapped ℕ (b .begin .result .words) 8 (ok .1 .1 .0 .1 .0 .1) in
     begin-done (a .image .now) (k .check .ensures) (v .verdict .given .1) (a .mask .now) (a .place .now) (a .ends .now) (f .if1 .left) (b .begin .result .words) eight
-    (fit-row (b .begin .result .words) (λ i. search (needs, ok))) (b .begin .ensures .1) (s .states .ensures) (h .row-has-bit .result) (h .row-has-bit .ensures) (n .note .ensures .0)
+    (fit-row (b .begin .result .words) (λ i. search (needs, ok))) (b .begin .ensures) (h .row-has-bit .result) (h .row-has-bit .ensures) (n .note .ensures .0)
     (n .note .ensures .1) (p .put-words .ensures)
 
 pub begin-spec : {M : Type 1} → statement M
@@ -83,9 +92,8 @@ begin-spec =
     enum-known-verdict
     enum-told
     returns
-    returns-2
-    states-requires
     sub-last
+    returns-2
     begin-requires
     row-has-bit-requires
     note-requires

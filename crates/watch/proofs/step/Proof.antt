@@ -5,6 +5,13 @@ use Rattle.watch.proofs.Laws.Rows.{goes, its-words, narrow, some-states
 use Rattle.watch.proofs.step.Statement.{statement}
 use Rattle.watch.proofs.step.Tie as tie
 
+-- where the function began, from the check; the verdict, from the test of the stretch's length
+abbrev start : tie.After-check → tie.Start
+start c = c .before .before .before .before .before
+
+abbrev verdict-of : tie.Else1 → tie.After-verdict
+verdict-of c = c .before .before
+
 check-requires : tie.Need-check-requires
 check-requires c κs = search needs
 
@@ -16,25 +23,22 @@ enum-told c = search needs
 
 returns : tie.Need-returns
 returns c =
-    let a = c .before .before .before .before .before .before .before .args in
-    step-other (a .image .now) (a .mask .now) (a .place .now) (a .stretch .now) (a .ends .now) (c .before .before .check .ensures) (c .enum-told .given .1)
+    let k = c .before .before in
+    let a = start k .args in
+    step-other (a .image .now) (a .mask .now) (a .place .now) (a .stretch .now) (a .ends .now) (k .check .ensures) (c .enum-told .given .1)
 
 returns-2 : tie.Need-returns-2
 returns-2 c =
     let v = c .before .before in
     let k = v .before .before in
-    let a = k .before .before .before .before .before .args in
+    let a = start k .args in
     step-long (a .image .now) (k .check .ensures) (v .verdict .given .1) (a .mask .now) (a .place .now) (a .stretch .now) (a .ends .now) (c .if1 .taken)
-
-states-requires : tie.Need-states-requires
-states-requires c κs = search needs
 
 is-mask-requires : tie.Need-is-mask-requires
 is-mask-requires c κs =
-    let s = c .before in
-    let v = s .before .before .before in
+    let v = verdict-of (c .before) in
     let k = v .before .before in
-    some-states (k .before .before .before .before .before .args .image .now) (k .check .ensures) (v .verdict .given .1) (s .states .ensures)
+    some-states (start k .args .image .now) (k .check .ensures) (v .verdict .given .1)
 
 same-length : tie.Need-same-length
 same-length c = search needs
@@ -43,11 +47,11 @@ returns-3 : tie.Need-returns-3
 returns-3 c =
     let m = c .before in
     let s = m .before .before in
-    let v = s .before .before .before in
+    let v = verdict-of s in
     let k = v .before .before in
-    let a = k .before .before .before .before .before .args in
-    step-mask (a .image .now) (k .check .ensures) (v .verdict .given .1) (a .mask .now) (a .place .now) (a .stretch .now) (a .ends .now) (s .before .if1 .left) (s .states .ensures)
-    (fit-row (a .mask .now) (k .before .before .before .slice-known .given)) (m .is-mask .ensures) (c .if2 .taken)
+    let a = start k .args in
+    step-mask (a .image .now) (k .check .ensures) (v .verdict .given .1) (a .mask .now) (a .place .now) (a .stretch .now) (a .ends .now) (s .if1 .left) (fit-row (a .mask .now) (k .before .before .before .slice-known .given))
+    (m .is-mask .ensures) (c .if2 .taken)
 
 sub-if3 : tie.Need-sub-if3
 sub-if3 c = search needs
@@ -60,11 +64,11 @@ returns-4 c =
     let f = c .before .before in
     let m = f .before in
     let s = m .before .before in
-    let v = s .before .before .before in
+    let v = verdict-of s in
     let k = v .before .before in
-    let a = k .before .before .before .before .before .args in
-    step-past (a .image .now) (k .check .ensures) (v .verdict .given .1) (a .mask .now) (a .place .now) (a .stretch .now) (a .ends .now) (s .before .if1 .left) (s .states .ensures)
-    (fit-row (a .mask .now) (k .before .before .before .slice-known .given)) (m .is-mask .ensures) (f .if2 .left) (c .if3 .taken)
+    let a = start k .args in
+    step-past (a .image .now) (k .check .ensures) (v .verdict .given .1) (a .mask .now) (a .place .now) (a .stretch .now) (a .ends .now) (s .if1 .left) (fit-row (a .mask .now) (k .before .before .before .slice-known .given))
+    (m .is-mask .ensures) (f .if2 .left) (c .if3 .taken)
 
 go-on-requires : tie.Need-go-on-requires
 go-on-requires c κs =
@@ -72,11 +76,11 @@ go-on-requires c κs =
     let f = e .before .before in
     let m = f .before in
     let s = m .before .before in
-    let v = s .before .before .before in
+    let v = verdict-of s in
     let k = v .before .before in
-    let a = k .before .before .before .before .before .args in
-    goes (a .image .now) (k .check .ensures) (v .verdict .given .1) (a .mask .now) (a .place .now) (a .stretch .now) (a .ends .now) (s .before .if1 .left) (s .states .ensures)
-    (fit-row (a .mask .now) (k .before .before .before .slice-known .given)) (m .is-mask .ensures) (f .if2 .left) (e .if3 .left)
+    let a = start k .args in
+    goes (a .image .now) (k .check .ensures) (v .verdict .given .1) (a .mask .now) (a .place .now) (a .stretch .now) (a .ends .now) (s .if1 .left) (fit-row (a .mask .now) (k .before .before .before .slice-known .given))
+    (m .is-mask .ensures) (f .if2 .left) (e .if3 .left)
 
 put-words-requires : tie.Need-put-words-requires
 put-words-requires c κs =
@@ -84,11 +88,12 @@ put-words-requires c κs =
     let f = e .before .before in
     let m = f .before in
     let s = m .before .before in
-    let v = s .before .before .before in
+    let v = verdict-of s in
     let k = v .before .before in
-    let a = k .before .before .before .before .before .args in (
-      its-words (a .image .now) (k .check .ensures) (v .verdict .given .1) (a .mask .now) (a .place .now) (a .stretch .now) (a .ends .now) (s .before .if1 .left) (s .states .ensures)
-          (fit-row (a .mask .now) (k .before .before .before .slice-known .given)) (m .is-mask .ensures) (f .if2 .left),
+    let a = start k .args in
+    (
+      its-words (a .image .now) (k .check .ensures) (v .verdict .given .1) (a .mask .now) (a .place .now) (a .stretch .now) (a .ends .now) (s .if1 .left) (fit-row (a .mask .now) (k .before .before .before .slice-known .given))
+          (m .is-mask .ensures) (f .if2 .left),
       narrow (a .image .now) (k .check .ensures) (v .verdict .given .1),
     )
 
@@ -109,11 +114,11 @@ returns-5 c =
     let f = e .before .before in
     let m = f .before in
     let s = m .before .before in
-    let v = s .before .before .before in
+    let v = verdict-of s in
     let k = v .before .before in
-    let a = k .before .before .before .before .before .args in
-    step-done (a .image .now) (k .check .ensures) (v .verdict .given .1) (a .mask .now) (a .place .now) (a .stretch .now) (a .ends .now) (s .before .if1 .left) (s .states .ensures)
-    (fit-row (a .mask .now) (k .before .before .before .slice-known .given)) (m .is-mask .ensures) (f .if2 .left) (e .if3 .left) (g .go-on .ensures) (p .put-words .ensures)
+    let a = start k .args in
+    step-done (a .image .now) (k .check .ensures) (v .verdict .given .1) (a .mask .now) (a .place .now) (a .stretch .now) (a .ends .now) (s .if1 .left) (fit-row (a .mask .now) (k .before .before .before .slice-known .given))
+    (m .is-mask .ensures) (f .if2 .left) (e .if3 .left) (g .go-on .ensures) (p .put-words .ensures)
 
 pub step-spec : {M : Type 1} → statement M
 step-spec =
@@ -124,7 +129,6 @@ step-spec =
     enum-told
     returns
     returns-2
-    states-requires
     is-mask-requires
     same-length
     returns-3

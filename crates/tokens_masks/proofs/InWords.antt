@@ -1,7 +1,7 @@
 -- MASKS IN A ROW OF WORDS: a state that is marked in one row is marked in the table that has this row, and no other table changes. So the strokes of a
 -- token, painted one after another into the words, are painted into the table of each kind.
 use mathlib.Core.Path.{_≡_, refl, sym, ap, _∙_, subst}
-use mathlib.Core.Bool.{Bool, true, false}
+use mathlib.Core.Bool.{Bool, true, false, cond}
 use mathlib.Core.List.{List, [], _∷_}
 use Prim.Native.Nat.{ℕ, zero, suc, _+_, _-_, _*_, _/_, _%_, _^_, _≤_, _<_}
 use native.Mathlib.Nat.{le-of-suc-le-suc, not-suc-le-zero, zero-add}
@@ -11,12 +11,12 @@ use lib.Bits.{bitOr}
 use lib.Dec.{eqb}
 use lib.ListN.{drop, getD, length, length-drop, length-replicate, length-set, replicate}
 use lib.Seq.{ext-getD, getD-drop, getD-set-other, getD-set-same, getD-take, length-take-le}
-use Rattle.model.specs.Models.LayOut.{back-source, back-target, entering, gather-block, gather-source, gather-target, leaving, letter-place, loop-place, scatter-block, scatter-source, scatter-target, Which}
+use Rattle.model.specs.Models.LayOut.{back-source, back-target, entering, gather-block, gather-source, gather-target, leaving, letter-place, loop-place, number, sameKind, scatter-block, scatter-source, scatter-target, Stroke, Which}
+use Rattle.model.specs.Lists.{All}
 use Rattle.model.specs.Models.Words.{putBit}
-use Rattle.tokens_masks.specs.Masks.{Blank, heldIn, markRow, Painted, paintThree, placesIn, rowIn, rowsFrom, runRow, Sized, strokeIn, tableIn}
-use Rattle.tokens_masks.specs.Strokes.{noStroke, Stroke}
-use Rattle.tokens_masks.specs.Tables.{blank, markRun, markState, paintStroke, Table}
-use Rattle.tokens_masks.proofs.Within.{none-within, Within}
+use Rattle.tokens_masks.specs.Masks.{Blank, bufferOf, heldIn, kindOf, markRow, Painted, paintIn, placesIn, rowIn, rowsFrom, runIn, runRow, Sized, tableIn}
+use Rattle.tokens_masks.specs.Tables.{blank, markRun, markState, paintKind, paintStroke, Table}
+use Rattle.tokens_masks.proofs.Within.{Within}
 
 -- ---- rows
 pub row-long : (ms : List ℕ) (r : ℕ) → 8 * r + 8 ≤ length ms → length (rowIn ms r) ≡ 8
@@ -120,8 +120,8 @@ pub run-long : (n : ℕ) (ms : List ℕ) (r x : ℕ) → length (runRow n ms r x
 run-long zero ms r x = refl
 run-long (suc n) ms r x = run-long n (markRow ms r x) r (suc x) ∙ length-set ms (8 * r + x / 64) _
 
-pub one-run : (ms : List ℕ) (r x : ℕ) → runRow (x + 1 - x) ms r x ≡ markRow ms r x
-one-run ms r x = let e : x + 1 - x ≡ 1 = omega arith in ap (λ (n : ℕ). runRow n ms r x) e
+pub one-run : (ms : List ℕ) (r x : ℕ) → runRow (suc x - x) ms r x ≡ markRow ms r x
+one-run ms r x = let e : suc x - x ≡ 1 = omega arith in ap (λ (n : ℕ). runRow n ms r x) e
 
 pub run-step : (ms : List ℕ) (r x z : ℕ) → x < z → runRow (z - (x + 1)) (markRow ms r x) r (x + 1) ≡ runRow (z - x) ms r x
 run-step ms r x z h =
@@ -148,52 +148,6 @@ module _ (i k : ℕ) (hi : i < 3) (hk : k < 9) where
       run-other n (markRow ms (3 * k + i) x) (suc x) (length-set ms _ _ ∙ l) (λ y a b. h y (omega arith) (omega arith)) v hv d
       ∙ mark-other ms l i k x hi hk (h x (omega arith) (omega arith)) v hv d
 
--- ---- strokes
-pub stroke-long : (ms : List ℕ) (i : ℕ) (s : Stroke) → length (strokeIn ms i s) ≡ length ms
-stroke-long ms i s = run-long (s .to - s .from) ms (3 * s .row + i) (s .from)
-
-module _ (ms : List ℕ) (long : length ms ≡ 216) (i : ℕ) (hi : i < 3) (s : Stroke) (W : Within s) where
-  stroke-same : tableIn (strokeIn ms i s) i ≡ paintStroke (tableIn ms i) s
-  stroke-same = run-same i (s .row) hi (W .0) (s .to - s .from) ms (s .from) long (λ y a b. omega (arith, W .1))
-
-  stroke-other : (v : ℕ) → v < 3 → (v ≡ i → ⊥) → tableIn (strokeIn ms i s) v ≡ tableIn ms v
-  stroke-other = run-other i (s .row) hi (W .0) (s .to - s .from) ms (s .from) long (λ y a b. omega (arith, W .1))
-
-module _ (ms : List ℕ) (long : length ms ≡ 216) (a b c : Stroke) (A : Within a) (B : Within b) (C : Within c) where
-  abbrev one : List ℕ
-  one = strokeIn ms 0 a
-
-  abbrev two : List ℕ
-  two = strokeIn one 1 b
-
-  one-long : length one ≡ 216
-  one-long = stroke-long ms 0 a ∙ long
-
-  two-long : length two ≡ 216
-  two-long = stroke-long one 1 b ∙ one-long
-
-  pub three-long : length (paintThree ms a b c) ≡ 216
-  three-long = stroke-long two 2 c ∙ two-long
-
-  pub three-0 : tableIn (paintThree ms a b c) 0 ≡ paintStroke (tableIn ms 0) a
-  three-0 =
-      stroke-other two two-long 2 (omega arith) c C 0 (omega arith) (λ q. omega arith)
-      ∙ stroke-other one one-long 1 (omega arith) b B 0 (omega arith) (λ q. omega arith)
-      ∙ stroke-same ms long 0 (omega arith) a A
-
-  pub three-1 : tableIn (paintThree ms a b c) 1 ≡ paintStroke (tableIn ms 1) b
-  three-1 =
-      stroke-other two two-long 2 (omega arith) c C 1 (omega arith) (λ q. omega arith)
-      ∙ stroke-same one one-long 1 (omega arith) b B
-      ∙ ap (λ (t : Table). paintStroke t b) (stroke-other ms long 0 (omega arith) a A 1 (omega arith) (λ q. omega arith))
-
-  pub three-2 : tableIn (paintThree ms a b c) 2 ≡ paintStroke (tableIn ms 2) c
-  three-2 =
-      stroke-same two two-long 2 (omega arith) c C
-      ∙ ap (λ (t : Table). paintStroke t c)
-      (stroke-other one one-long 1 (omega arith) b B 2 (omega arith) (λ q. omega arith)
-      ∙ stroke-other ms long 0 (omega arith) a A 2 (omega arith) (λ q. omega arith))
-
 -- ---- letter and loop places
 module _ (i : ℕ) (hi : i < 2) where
   place-run : (n : ℕ) (ms : List ℕ) (x : ℕ) → length ms ≡ 16 → States n x → placesIn (runRow n ms i x) i ≡ markRun n (placesIn ms i) 0 x
@@ -210,63 +164,92 @@ module _ (i : ℕ) (hi : i < 2) where
       place-else n (markRow ms i x) (suc x) (length-set ms _ _ ∙ l) (λ y a b. h y (omega arith) (omega arith)) v hv d
       ∙ ap (λ (row : List ℕ). row ∷ replicate 8 (replicate 8 0)) (row-other ms i x (h x (omega arith) (omega arith)) (omega arith) v d (omega arith))
 
--- a stroke at depth 0
-module _ (ms : List ℕ) (long : length ms ≡ 16) (i : ℕ) (hi : i < 2) (s : Stroke) (W : Within s) (flat : s .row ≡ 0) where
-  here : strokeIn ms i s ≡ runRow (s .to - s .from) ms i (s .from)
-  here = let e : 3 * s .row + i ≡ i = omega (arith, flat) in ap (λ (r : ℕ). runRow (s .to - s .from) ms r (s .from)) e
+-- ---- strokes
+-- the stroke s, if it is one of buffer n
+abbrev paintOne : ℕ → Stroke → List ℕ → List ℕ
+paintOne n s ms = cond (eqb (bufferOf (s .which)) n) (runIn ms (kindOf (s .which)) (s .row) (s .from) (s .to)) ms
 
-  place-same : placesIn (strokeIn ms i s) i ≡ paintStroke (placesIn ms i) s
-  place-same =
-      ap (λ (z : List ℕ). placesIn z i) here
-      ∙ place-run i hi (s .to - s .from) ms (s .from) long (λ y a b. omega (arith, W .1))
-      ∙ ap (λ (k : ℕ). markRun (s .to - s .from) (placesIn ms i) k (s .from)) (sym flat)
+pub paint-long : (n : ℕ) (ss : List Stroke) (ms : List ℕ) → length (paintIn n ss ms) ≡ length ms
+paint-long n [] ms = refl
+paint-long n (s ∷ ss) ms = paint-long n ss (paintOne n s ms) ∙ go (eqb (bufferOf (s .which)) n)
+  where
+    go : (b : Bool) → length (cond b (runIn ms (kindOf (s .which)) (s .row) (s .from) (s .to)) ms) ≡ length ms
+    go true = run-long (s .to - s .from) ms (3 * s .row + kindOf (s .which)) (s .from)
+    go false = refl
 
-  place-other : (v : ℕ) → v < 2 → (v ≡ i → ⊥) → placesIn (strokeIn ms i s) v ≡ placesIn ms v
-  place-other v hv d =
-      ap (λ (z : List ℕ). placesIn z v) here
-      ∙ place-else i hi (s .to - s .from) ms (s .from) long (λ y a b. omega (arith, W .1)) v hv d
+-- the table of kind w in words of buffer n: a stroke of this kind is painted there, and no other of the buffer changes it
+module _ (n size : ℕ) (w : Which) (table : List ℕ → Table) (home : bufferOf w ≡ n)
+    (same : (s : Stroke) (ms : List ℕ) → length ms ≡ size → Within s → number (s .which) ≡ number w
+    → table (runIn ms (kindOf (s .which)) (s .row) (s .from) (s .to)) ≡ paintStroke (table ms) s)
+    (other : (s : Stroke) (ms : List ℕ) → length ms ≡ size → Within s → bufferOf (s .which) ≡ n → (number (s .which) ≡ number w → ⊥)
+    → table (runIn ms (kindOf (s .which)) (s .row) (s .from) (s .to)) ≡ table ms) where
+  one-held : (s : Stroke) (ms : List ℕ) → length ms ≡ size → Within s → table (paintOne n s ms) ≡ cond (sameKind (s .which) w) (paintStroke (table ms) s) (table ms)
+  one-held s ms l W = go (eqb (bufferOf v) n) (sameKind v w) (eqb-true (bufferOf v) n) (eqb-false (bufferOf v) n) (eqb-true (number v) (number w)) (eqb-false (number v) (number w))
+    where
+      v : Which
+      v = s .which
+
+      go : (b c : Bool) → (b ≡ true → bufferOf v ≡ n) → (b ≡ false → bufferOf v ≡ n → ⊥) → (c ≡ true → number v ≡ number w) → (c ≡ false → number v ≡ number w → ⊥)
+          → table (cond b (runIn ms (kindOf v) (s .row) (s .from) (s .to)) ms) ≡ cond c (paintStroke (table ms) s) (table ms)
+      go true true h k e d = same s ms l W (e refl)
+      go true false h k e d = other s ms l W (h refl) (d refl)
+      go false true h k e d = absurd (k refl (ap (λ (m : ℕ). m / 3) (e refl) ∙ home))
+      go false false h k e d = refl
+
+  paint-held : (ss : List Stroke) (ms : List ℕ) → length ms ≡ size → All Within ss → table (paintIn n ss ms) ≡ paintKind w ss (table ms)
+  paint-held [] ms l W = refl
+  paint-held (s ∷ ss) ms l W =
+      paint-held ss (paintOne n s ms) (paint-long n (s ∷ []) ms ∙ l) (W .1) ∙ ap (paintKind w ss) (one-held s ms l (W .0))
+
+table-held : (n : ℕ) (w : Which) → bufferOf w ≡ n → (ss : List Stroke) (ms : List ℕ) → length ms ≡ 216 → All Within ss
+    → tableIn (paintIn n ss ms) (kindOf w) ≡ paintKind w ss (tableIn ms (kindOf w))
+table-held n w home = paint-held n 216 w (λ ms. tableIn ms (kindOf w)) home
+    (λ s ms l W e. ap (λ (i : ℕ). tableIn (runIn ms i (s .row) (s .from) (s .to)) (kindOf w)) (ap (λ (m : ℕ). m % 3) e)
+    ∙ run-same (kindOf w) (s .row) (omega arith) (W .row) (s .to - s .from) ms (s .from) l (λ y a b. omega (arith, W .to)))
+    (λ s ms l W h d. run-other (kindOf (s .which)) (s .row) (omega arith) (W .row) (s .to - s .from) ms (s .from) l (λ y a b. omega (arith, W .to)) (kindOf w) (omega arith)
+    (λ q. d (omega arith)))
+
+-- letter and loop places, whose strokes have row 0
+place-held : (w : Which) → number w < 2 → (ss : List Stroke) (ms : List ℕ) → length ms ≡ 16 → All Within ss
+    → placesIn (paintIn 0 ss ms) (number w) ≡ paintKind w ss (placesIn ms (number w))
+place-held w home = paint-held 0 16 w (λ ms. placesIn ms (number w)) (omega arith)
+    (λ s ms l W e. let f = W .flat (omega arith) in
+    ap (λ (z : List ℕ). placesIn z (number w)) (here s ms f)
+    ∙ ap (λ (i : ℕ). placesIn (runRow (s .to - s .from) ms i (s .from)) (number w)) e
+    ∙ place-run (number w) home (s .to - s .from) ms (s .from) l (λ y a b. omega (arith, W .to))
+    ∙ ap (λ (k : ℕ). markRun (s .to - s .from) (placesIn ms (number w)) k (s .from)) (sym (f .1)))
+    (λ s ms l W h d. let f = W .flat (omega arith) in
+    ap (λ (z : List ℕ). placesIn z (number w)) (here s ms f)
+    ∙ place-else (number (s .which)) (f .0) (s .to - s .from) ms (s .from) l (λ y a b. omega (arith, W .to)) (number w) home (λ q. d (sym q)))
+  where
+    here : (s : Stroke) (ms : List ℕ) → (number (s .which) < 2) × (s .row ≡ 0)
+        → runIn ms (kindOf (s .which)) (s .row) (s .from) (s .to) ≡ runRow (s .to - s .from) ms (number (s .which)) (s .from)
+    here s ms f = let e : 3 * s .row + kindOf (s .which) ≡ number (s .which) = omega (arith, f) in ap (λ (r : ℕ). runRow (s .to - s .from) ms r (s .from)) e
 
 -- ---- ALL KINDS
-module _ {p s g r b p′ s′ g′ r′ b′ : List ℕ} {f : Which → Stroke} (P : Painted p s g r b p′ s′ g′ r′ b′ f) (Z : Sized p s g r b) (W : (w : Which) → Within (f w))
-    (letter-flat : f letter-place .row ≡ 0) (loop-flat : f loop-place .row ≡ 0) where
-  first-long : length (strokeIn p 0 (f letter-place)) ≡ 16
-  first-long = stroke-long p 0 (f letter-place) ∙ Z .places
-
+module _ {p s g r b p′ s′ g′ r′ b′ : List ℕ} {ss : List Stroke} (P : Painted p s g r b p′ s′ g′ r′ b′ ss) (Z : Sized p s g r b) where
   pub sized-after : Sized p′ s′ g′ r′ b′
   sized-after = record {
-    places = ap length (P .places) ∙ stroke-long (strokeIn p 0 (f letter-place)) 1 (f loop-place) ∙ first-long;
-    scatter = ap length (P .scatter) ∙ three-long s (Z .scatter) _ _ _ (W scatter-block) (W scatter-source) (W scatter-target);
-    gather = ap length (P .gather) ∙ three-long g (Z .gather) _ _ _ (W gather-block) (W gather-source) (W gather-target);
-    propagate = ap length (P .propagate) ∙ three-long r (Z .propagate) noStroke (f leaving) (f entering) none-within (W leaving) (W entering);
-    back = ap length (P .back) ∙ three-long b (Z .back) noStroke (f back-source) (f back-target) none-within (W back-source) (W back-target);
+    places = ap length (P .places) ∙ paint-long 0 ss p ∙ Z .places;
+    scatter = ap length (P .scatter) ∙ paint-long 1 ss s ∙ Z .scatter;
+    gather = ap length (P .gather) ∙ paint-long 2 ss g ∙ Z .gather;
+    propagate = ap length (P .propagate) ∙ paint-long 3 ss r ∙ Z .propagate;
+    back = ap length (P .back) ∙ paint-long 4 ss b ∙ Z .back;
   }
 
-  pub held-after : (w : Which) → heldIn p′ s′ g′ r′ b′ w ≡ paintStroke (heldIn p s g r b w) (f w)
-  held-after letter-place =
-      ap (λ (z : List ℕ). placesIn z 0) (P .places)
-      ∙ place-other (strokeIn p 0 (f letter-place)) first-long 1 (omega arith) (f loop-place) (W loop-place) loop-flat 0 (omega arith) (λ q. omega arith)
-      ∙ place-same p (Z .places) 0 (omega arith) (f letter-place) (W letter-place) letter-flat
-  held-after loop-place =
-      ap (λ (z : List ℕ). placesIn z 1) (P .places)
-      ∙ place-same (strokeIn p 0 (f letter-place)) first-long 1 (omega arith) (f loop-place) (W loop-place) loop-flat
-      ∙ ap (λ (t : Table). paintStroke t (f loop-place))
-      (place-other p (Z .places) 0 (omega arith) (f letter-place) (W letter-place) letter-flat 1 (omega arith) (λ q. omega arith))
-  held-after scatter-block =
-      ap (λ (z : List ℕ). tableIn z 0) (P .scatter) ∙ three-0 s (Z .scatter) _ _ _ (W scatter-block) (W scatter-source) (W scatter-target)
-  held-after scatter-source =
-      ap (λ (z : List ℕ). tableIn z 1) (P .scatter) ∙ three-1 s (Z .scatter) _ _ _ (W scatter-block) (W scatter-source) (W scatter-target)
-  held-after scatter-target =
-      ap (λ (z : List ℕ). tableIn z 2) (P .scatter) ∙ three-2 s (Z .scatter) _ _ _ (W scatter-block) (W scatter-source) (W scatter-target)
-  held-after gather-block =
-      ap (λ (z : List ℕ). tableIn z 0) (P .gather) ∙ three-0 g (Z .gather) _ _ _ (W gather-block) (W gather-source) (W gather-target)
-  held-after gather-source =
-      ap (λ (z : List ℕ). tableIn z 1) (P .gather) ∙ three-1 g (Z .gather) _ _ _ (W gather-block) (W gather-source) (W gather-target)
-  held-after gather-target =
-      ap (λ (z : List ℕ). tableIn z 2) (P .gather) ∙ three-2 g (Z .gather) _ _ _ (W gather-block) (W gather-source) (W gather-target)
-  held-after leaving = ap (λ (z : List ℕ). tableIn z 1) (P .propagate) ∙ three-1 r (Z .propagate) noStroke (f leaving) (f entering) none-within (W leaving) (W entering)
-  held-after entering = ap (λ (z : List ℕ). tableIn z 2) (P .propagate) ∙ three-2 r (Z .propagate) noStroke (f leaving) (f entering) none-within (W leaving) (W entering)
-  held-after back-source = ap (λ (z : List ℕ). tableIn z 1) (P .back) ∙ three-1 b (Z .back) noStroke (f back-source) (f back-target) none-within (W back-source) (W back-target)
-  held-after back-target = ap (λ (z : List ℕ). tableIn z 2) (P .back) ∙ three-2 b (Z .back) noStroke (f back-source) (f back-target) none-within (W back-source) (W back-target)
+  pub held-after : All Within ss → (w : Which) → heldIn p′ s′ g′ r′ b′ w ≡ paintKind w ss (heldIn p s g r b w)
+  held-after W letter-place = ap (λ (z : List ℕ). placesIn z 0) (P .places) ∙ place-held letter-place (omega arith) ss p (Z .places) W
+  held-after W loop-place = ap (λ (z : List ℕ). placesIn z 1) (P .places) ∙ place-held loop-place (omega arith) ss p (Z .places) W
+  held-after W scatter-block = ap (λ (z : List ℕ). tableIn z 0) (P .scatter) ∙ table-held 1 scatter-block refl ss s (Z .scatter) W
+  held-after W scatter-source = ap (λ (z : List ℕ). tableIn z 1) (P .scatter) ∙ table-held 1 scatter-source refl ss s (Z .scatter) W
+  held-after W scatter-target = ap (λ (z : List ℕ). tableIn z 2) (P .scatter) ∙ table-held 1 scatter-target refl ss s (Z .scatter) W
+  held-after W gather-block = ap (λ (z : List ℕ). tableIn z 0) (P .gather) ∙ table-held 2 gather-block refl ss g (Z .gather) W
+  held-after W gather-source = ap (λ (z : List ℕ). tableIn z 1) (P .gather) ∙ table-held 2 gather-source refl ss g (Z .gather) W
+  held-after W gather-target = ap (λ (z : List ℕ). tableIn z 2) (P .gather) ∙ table-held 2 gather-target refl ss g (Z .gather) W
+  held-after W leaving = ap (λ (z : List ℕ). tableIn z 1) (P .propagate) ∙ table-held 3 leaving refl ss r (Z .propagate) W
+  held-after W entering = ap (λ (z : List ℕ). tableIn z 2) (P .propagate) ∙ table-held 3 entering refl ss r (Z .propagate) W
+  held-after W back-source = ap (λ (z : List ℕ). tableIn z 1) (P .back) ∙ table-held 4 back-source refl ss b (Z .back) W
+  held-after W back-target = ap (λ (z : List ℕ). tableIn z 2) (P .back) ∙ table-held 4 back-target refl ss b (Z .back) W
 
 -- ---- no state
 pub blank-held : {p s g r b p′ s′ g′ r′ b′ : List ℕ} → Sized p s g r b → p′ ≡ replicate (length p) 0 → s′ ≡ replicate (length s) 0

@@ -19,9 +19,8 @@ pub mod Scanning
 pub mod Filling
 pub mod Joins
 pub mod Joining
--- The bits of a table after a stroke, and those that lay out marks.
+-- The bits of a table after strokes.
 pub mod TableBits
-pub mod Marks
 -- The tokens of a tape and those of a tree; how deep lay out marks.
 pub mod Bare
 pub mod Deep

@@ -7,7 +7,7 @@ use native.Mathlib.Omega.{arith}
 use lib.Bits.{bitAnd}
 use lib.Dec.{T, leb, leb→le}
 use lib.ListN.{getD, length, length-take, take}
-use Rattle.model.specs.Models.LayOut.{begin, blockOf, check, entering, layOut, leaving, mark, Scan, set, sourceOf, step, targetOf, valid, Which}
+use Rattle.model.specs.Models.LayOut.{begin, blockOf, check, entering, layOut, leaving, mark, Scan, set, sourceOf, step, strokes, targetOf, valid, Which}
 use Rattle.model.specs.Models.Tokens.{Token}
 use Rattle.model.specs.Models.Words.{andWords, eachWord, notWords}
 use Rattle.model.proofs.Image.LetterPlaces.{position-step}
@@ -22,16 +22,14 @@ use Rattle.model.proofs.Words.Holds.{Holds, set-holds}
 use Rattle.model.proofs.Words.Operations.{holds-and-l, holds-or, near-not}
 use Rattle.tokens_masks.specs.Joins.{Either, joinTables, joinWord, Only}
 use Rattle.tokens.specs.Scans.{Sane}
-use Rattle.tokens_masks.specs.Strokes.{strokeOf}
-use Rattle.tokens_masks.specs.Tables.{blank, paintAll, paintStroke, Table}
+use Rattle.tokens_masks.specs.Tables.{blank, paintAll, paintKind, Table}
 use Rattle.tokens_masks.specs.Tapes.{isTree, propagateBlockTable, propagateSourceTable, propagateTargetTable, tableOf, tokensOf}
 use Rattle.tokens_masks.specs.declared.Tape.{Tape}
 use Rattle.tokens_masks.proofs.Joins.{joined-at}
-use Rattle.tokens_masks.proofs.Marks.{stroke-marks}
 use Rattle.tokens.proofs.Sane.{sane-begin, sane-step}
-use Rattle.tokens_masks.proofs.TableBits.{Adds, bitAt, blank-bit, blank-rows, Rows, stroke-adds}
+use Rattle.tokens_masks.proofs.TableBits.{Adds, bitAt, blank-bit, blank-rows, kind-adds, Rows}
 use Rattle.tokens_masks.proofs.Tokens.{read-length}
-use Rattle.tokens_masks.proofs.Within.{stroke-within}
+use Rattle.tokens_masks.proofs.Within.{strokes-within}
 
 -- ---- all tokens
 paint-all : (l : List Token) (q : Scan) (w : Which) (a : Table) → Rows a → Sane q → q .position + length l ≤ 511 → T (valid l q)
@@ -39,12 +37,12 @@ paint-all : (l : List Token) (q : Scan) (w : Which) (a : Table) → Rows a → S
 paint-all [] q w a R S h v = record { rows = R; bits = λ k x. sym (or-false (bitAt a k x)) }
 paint-all (y ∷ ys) q w a R S h v =
     let c = and-split (check y q) (valid ys (step y q)) v in
-    let A = stroke-adds a (strokeOf y q w) R (stroke-within y q w S (omega arith)) in
-    let B = paint-all ys (step y q) w (paintStroke a (strokeOf y q w)) (A .rows) (sane-step y q S (c .0)) (omega (arith, position-step y q)) (c .1) in
+    let A = kind-adds w (strokes y q) a R (strokes-within y q S (omega arith)) in
+    let B = paint-all ys (step y q) w (paintKind w (strokes y q) a) (A .rows) (sane-step y q S (c .0)) (omega (arith, position-step y q)) (c .1) in
     record {
       rows = B .rows;
       bits = λ k x. B .bits k x
-          ∙ ap (λ (b : Bool). b || layOut ys (step y q) w k x) (A .bits k x ∙ ap (λ (b : Bool). bitAt a k x || b) (stroke-marks k x y q w))
+          ∙ ap (λ (b : Bool). b || layOut ys (step y q) w k x) (A .bits k x)
           ∙ or-assoc (bitAt a k x) (mark y q w k x) (layOut ys (step y q) w k x);
     }
 

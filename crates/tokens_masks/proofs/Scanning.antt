@@ -2,19 +2,14 @@
 -- the masks of every kind what is marked and what is still to come make the whole.
 use mathlib.Core.Path.{_≡_, refl, sym, ap, ap₂, _∙_, subst}
 use mathlib.Core.Bool.{Bool, true, false, cond}
-use mathlib.Core.List.{List, [], _∷_}
+use mathlib.Core.List.{List}
 use Prim.Native.Nat.{ℕ, _+_, _-_, _≤_, _<_}
 use native.Mathlib.Omega.{arith}
 use lib.Dec.{T}
 use lib.ListN.{getD, length, length-set, set}
-use Rattle.model.specs.Models.LayOut.{begin, check, letter-place, loop-place, reach, Which}
-use Rattle.model.specs.Models.LayOut as model
-use Rattle.model.specs.Models.Tokens.{aBar, aClose, aLetter, anOpen}
-use Rattle.model.specs.Models.Tokens as tokens
-use Rattle.model.specs.Tree.{canLoop}
+use Rattle.model.specs.Models.LayOut.{begin, check, reach, strokes, Which}
 use Rattle.tokens_masks.specs.Masks.{Blank, heldIn, Painted, Sized}
 use Rattle.tokens.specs.Scans.{Innermost, isEnded, noFrame, ReadyAt, scanOf, StepSays, withFrames}
-use Rattle.tokens_masks.specs.Strokes.{barStrokeIn, closeStrokeIn, noStroke, oneState, strokeOf}
 use Rattle.tokens_masks.specs.Tables.{blank, paintAll}
 use Rattle.tokens_masks.specs.Tapes.{deeperBy, isTree, Kinds, ScanLays, shapeOf, tokensOf}
 use Rattle.tokens.specs.Kinds.{readKind}
@@ -30,40 +25,7 @@ use Rattle.tokens_masks.proofs.Along.{Along, along-begin, along-depth, 
 use Rattle.tokens_masks.proofs.InWords.{held-after, sized-after}
 use Rattle.tokens_masks.proofs.Painting.{Painting, painting-begin, painting-end, painting-step}
 use Rattle.tokens_masks.proofs.Reaching.{Reaching, reaching-begin, reaching-end, reaching-step}
-use Rattle.tokens_masks.proofs.Within.{stroke-within, Within}
-
--- ---- letter and loop places have depth 0
-if-flat : (b : Bool) (x : ℕ) → cond b (oneState 0 x) noStroke .row ≡ 0
-if-flat true x = refl
-if-flat false x = refl
-
-letter-flat : (y : tokens.Token) (q : model.Scan) → strokeOf y q letter-place .row ≡ 0
-letter-flat (aLetter c r) q = refl
-letter-flat anOpen q = refl
-letter-flat aBar q = go (q .stack)
-  where
-    go : (st : List model.Frame) → barStrokeIn (q .position) st letter-place .row ≡ 0
-    go [] = refl
-    go (f ∷ st) = refl
-letter-flat (aClose m) q = go (q .stack)
-  where
-    go : (st : List model.Frame) → closeStrokeIn m (q .position) st letter-place .row ≡ 0
-    go [] = refl
-    go (f ∷ st) = refl
-
-loop-flat : (y : tokens.Token) (q : model.Scan) → strokeOf y q loop-place .row ≡ 0
-loop-flat (aLetter c r) q = if-flat (canLoop r) (q .position + 1)
-loop-flat anOpen q = refl
-loop-flat aBar q = go (q .stack)
-  where
-    go : (st : List model.Frame) → barStrokeIn (q .position) st loop-place .row ≡ 0
-    go [] = refl
-    go (f ∷ st) = refl
-loop-flat (aClose m) q = go (q .stack)
-  where
-    go : (st : List model.Frame) → closeStrokeIn m (q .position) st loop-place .row ≡ 0
-    go [] = refl
-    go (f ∷ st) = refl
+use Rattle.tokens_masks.proofs.Within.{strokes-within}
 
 -- ---- the loop
 pub record Scanning (t : Tape) (p₀ s₀ g₀ r₀ b₀ p s g r b : List ℕ) (fs : List Frame) (q : Scan) (deepest i : ℕ) : Type 0 where
@@ -125,24 +87,22 @@ module _ {t : Tape} {p₀ s₀ g₀ r₀ b₀ p s g r b : List ℕ} {fs : List F
       scanning-ready = record { frames = fs; top = I; ready = along-ready t (withFrames q fs) i (S .along) y h f }
 
       pub scanning-step : {n : Next} {d : ℕ} {p′ s′ g′ r′ b′ : List ℕ} → StepSays q top (tokenOf y) n → d ≡ deeperBy deepest (q .depth) (tokenOf y)
-          → Painted p s g r b p′ s′ g′ r′ b′ (strokeOf (tokenOf y) (scanOf (withFrames q fs)))
+          → Painted p s g r b p′ s′ g′ r′ b′ (strokes (tokenOf y) (scanOf (withFrames q fs)))
           → Scanning t p₀ s₀ g₀ r₀ b₀ p′ s′ g′ r′ b′ (set fs (n .place) (n .frame)) (n .scan) d (i + 1)
       scanning-step {n} {d} {p′} {s′} {g′} {r′} {b′} N D P =
           let known = withFrames q fs in
           let next = withFrames (n .scan) (set fs (n .place) (n .frame)) in
           let stepped = N .steps fs (S .nine) I in
           let A = S .along in
-          let W : (w : Which) → Within (strokeOf (tokenOf y) (scanOf known) w) = λ w. stroke-within (tokenOf y) (scanOf known) w (A .sane) (omega (arith, A .at, A .short)) in
-          let flat = letter-flat (tokenOf y) (scanOf known) in
-          let loops-flat = loop-flat (tokenOf y) (scanOf known) in
+          let W = strokes-within (tokenOf y) (scanOf known) (A .sane) (omega (arith, A .at, A .short)) in
           record {
             nine = length-set fs (n .place) (n .frame) ∙ S .nine;
             before = S .before;
-            sized = sized-after P (S .sized) W flat loops-flat;
+            sized = sized-after P (S .sized);
             along = along-step t known i A y h e next f stepped;
             reaching = reaching-step t known i A deepest (S .reaching) y h e next stepped d D;
             painting = λ w. painting-step t known i A w (heldIn p s g r b w) (S .painting w) y h e next stepped (heldIn p′ s′ g′ r′ b′ w)
-                (held-after P (S .sized) W flat loops-flat w);
+                (held-after P (S .sized) W w);
           }
 
 -- ---- what the scan told

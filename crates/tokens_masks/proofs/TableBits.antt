@@ -1,8 +1,8 @@
--- The bits of a table after a stroke: those that it had, and those that the stroke covers.
+-- The bits of a table after strokes: those that it had, and those that a stroke of the table's kind covers.
 use mathlib.Core.Path.{_≡_, refl, sym, ap, _∙_, subst}
 use mathlib.Core.Logic.{_⊎_, inl, inr}
-use mathlib.Core.Bool.{Bool, true, false, _&&_, _||_, and-false, and-true, and-or-distrib-right, or-assoc, or-false}
-use mathlib.Core.List.{List, []}
+use mathlib.Core.Bool.{Bool, true, false, _&&_, _||_, cond, and-false, and-true, and-or-distrib-right, or-assoc, or-false}
+use mathlib.Core.List.{List, [], _∷_}
 use Prim.Native.Nat.{ℕ, zero, suc, _+_, _-_, _^_, _≤_, _<_}
 use native.Mathlib.Nat.{eq-or-lt-of-le}
 use native.Mathlib.Omega.{arith}
@@ -11,12 +11,13 @@ use lib.Dec.{T, eqb, eqb-refl, eqb→eq, le→leb, leb, leb→le, lt→ltb, ltb,
 use lib.ListN.{getD, getD-replicate, length, length-set, replicate}
 use lib.Seq.{getD-set-other, getD-set-same}
 use Rattle.model.specs.Bits.{bit}
+use Rattle.model.specs.Lists.{All, any}
+use Rattle.model.specs.Models.LayOut.{covers, marks, sameKind, Stroke, Which}
 use Rattle.model.specs.Models.Words.{Fit, putBit, value}
 use Rattle.model.proofs.Laws.Bits.{bit-zero}
 use Rattle.model.proofs.Laws.Bool.{and-both, and-split, is-not, or-left, or-right, or-split, same-truth}
 use Rattle.model.proofs.Words.Put.{put-bit, put-fit}
-use Rattle.tokens_masks.specs.Strokes.{Stroke}
-use Rattle.tokens_masks.specs.Tables.{blank, markRun, markState, paintStroke, Table}
+use Rattle.tokens_masks.specs.Tables.{blank, markRun, markState, paintKind, paintStroke, Table}
 use Rattle.tokens_masks.proofs.Within.{Within}
 
 -- nine rows of eight words; bit x of row k
@@ -26,10 +27,6 @@ pub record Rows (a : Table) : Type 0 where
 
 abbrev pub bitAt : Table → ℕ → ℕ → Bool
 bitAt a k x = bit (value (getD a k [])) x
-
--- the places of a stroke
-abbrev pub covers : Stroke → ℕ → ℕ → Bool
-covers s k x = (leb (s .from) x && ltb x (s .to)) && eqb (s .row) k
 
 -- ---- one state
 module _ (a : Table) (R : Rows a) (k x : ℕ) (hk : k < 9) (hx : x < 512) where
@@ -114,7 +111,7 @@ run-adds (suc n) a k x R hk h =
 -- A STROKE
 pub stroke-adds : (a : Table) (s : Stroke) → Rows a → Within s → Adds a (paintStroke a s) (covers s)
 stroke-adds a s R W =
-    let A = run-adds (s .to - s .from) a (s .row) (s .from) R (W .0) (λ y h l. omega (arith, W .1)) in
+    let A = run-adds (s .to - s .from) a (s .row) (s .from) R (W .row) (λ y h l. omega (arith, W .to)) in
     record { rows = A .rows; bits = λ j y. A .bits j y ∙ ap (λ (b : Bool). bitAt a j y || (b && eqb (s .row) j)) (same y) }
   where
     z : ℕ
@@ -124,6 +121,21 @@ stroke-adds a s R W =
     same y = same-truth (between (s .from) z y) (between (s .from) (s .to) y)
         (λ t. let q = between-fact (s .from) z y t in fact-between (s .from) (s .to) y (q .0) (omega arith))
         (λ t. let q = between-fact (s .from) (s .to) y t in fact-between (s .from) z y (q .0) (omega arith))
+
+-- ALL STROKES OF A KIND
+pub kind-adds : (w : Which) (ss : List Stroke) (a : Table) → Rows a → All Within ss → Adds a (paintKind w ss a) (λ k x. any (marks w k x) ss)
+kind-adds w [] a R W = record { rows = R; bits = λ k x. sym (or-false (bitAt a k x)) }
+kind-adds w (s ∷ ss) a R W =
+    let A = first (sameKind (s .which) w) in
+    let B = kind-adds w ss (cond (sameKind (s .which) w) (paintStroke a s) a) (A .rows) (W .1) in
+    record {
+      rows = B .rows;
+      bits = λ k x. B .bits k x ∙ ap (λ (b : Bool). b || any (marks w k x) ss) (A .bits k x) ∙ or-assoc (bitAt a k x) (marks w k x s) (any (marks w k x) ss);
+    }
+  where
+    first : (b : Bool) → Adds a (cond b (paintStroke a s) a) (λ k x. b && covers s k x)
+    first true = stroke-adds a s R (W .0)
+    first false = record { rows = R; bits = λ k x. sym (or-false (bitAt a k x)) }
 
 -- ---- the blank table
 pub blank-rows : Rows blank

@@ -1,97 +1,88 @@
--- The stroke of a token before a state below 511 lies within nine rows of 512 states, in every sane scan.
+-- The strokes of a token before a state below 511 lie within nine rows of 512 states, in every sane scan.
+use mathlib.Core.Path.{_≡_, refl}
 use mathlib.Core.Bool.{Bool, true, false, cond}
-use mathlib.Core.List.{List, [], _∷_}
-use Prim.Native.Nat.{ℕ, _+_, _≤_, _<_}
+use mathlib.Core.List.{List, [], _∷_, _++_}
+use Prim.Native.Nat.{ℕ, suc, _≤_, _<_}
 use native.Mathlib.Omega.{arith}
 use lib.ListN.{length}
+use Rattle.model.specs.Lists.{All}
 use Rattle.model.specs.Tree.{canLoop, canOmit, canReturn, canSkip, Mark, Repeat}
-use Rattle.model.specs.Models.LayOut.{back-source, back-target, entering, Frame, gather-block, gather-source, gather-target, leaving, letter-place, loop-place, Scan, scatter-block, scatter-source, scatter-target, Which}
+use Rattle.model.specs.Models.LayOut.{back-source, back-target, backStrokes, barStrokesIn, closeStrokes, closeStrokesIn, endStrokes, entering, Frame, gather-source, gather-target, leaving, letter-place, letterStrokes, loop-place, number, oneState, propagateStrokes, Scan, scatter-block, scatter-source, scatter-target, Stroke, strokes, Which}
 use Rattle.model.specs.Models.Tokens.{aBar, aClose, aLetter, anOpen, Token}
+use Rattle.model.proofs.Laws.Lists.{all-app}
 use Rattle.tokens.specs.Scans.{Behind, Sane}
-use Rattle.tokens_masks.specs.Strokes.{barStroke, barStrokeIn, closeStroke, closeStrokeIn, letterStroke, noStroke, oneState, openStroke, Stroke, strokeOf}
 
-abbrev pub Within : Stroke → Type 0
-Within s = (s .row < 9) × (s .to ≤ 512)
+-- ---- what holds for all strokes of a letter, and of a close, where some are there only if a test passes
+module _ (Q : Stroke → Type 0) where
+  all-if : (b : Bool) (ss : List Stroke) → All Q ss → All Q (cond b ss [])
+  all-if true ss A = A
+  all-if false ss A = tt
 
-pub none-within : Within noStroke
-none-within = omega arith
+  pub letter-all : (r : Repeat) (t d : ℕ) → Q (oneState letter-place 0 (suc t)) → Q (oneState loop-place 0 (suc t)) → All Q (propagateStrokes d t (suc t))
+      → All Q (letterStrokes r t d)
+  letter-all r t d place loop skips =
+      let ls = oneState loop-place 0 (suc t) ∷ [] in
+      let ss = propagateStrokes d t (suc t) in
+      (place, all-app Q (cond (canLoop r) ls []) (cond (canSkip r) ss []) (all-if (canLoop r) ls (loop, tt)) (all-if (canSkip r) ss skips))
 
-one-within : (d x : ℕ) → d < 9 → x < 512 → Within (oneState d x)
-one-within d x h l = omega arith
+  pub close-all : (m : Mark) (f : Frame) (z d : ℕ) → All Q (endStrokes f z d) → All Q (propagateStrokes d (f .start) (suc z)) → All Q (backStrokes d z (suc (f .start)))
+      → All Q (closeStrokes m f z d)
+  close-all m f z d ends over back =
+      let os = propagateStrokes d (f .start) (suc z) in
+      let bs = backStrokes d z (suc (f .start)) in
+      all-app Q (endStrokes f z d) (cond (canOmit m) os [] ++ cond (canReturn m) bs []) ends
+      (all-app Q (cond (canOmit m) os []) (cond (canReturn m) bs []) (all-if (canOmit m) os over) (all-if (canReturn m) bs back))
 
-if-within : (b : Bool) (d x : ℕ) → d < 9 → x < 512 → Within (cond b (oneState d x) noStroke)
-if-within true d x h l = one-within d x h l
-if-within false d x h l = none-within
+-- letter and loop places have row 0 alone
+pub record Within (s : Stroke) : Type 0 where
+  pub row : s .row < 9
+  pub to : s .to ≤ 512
+  pub flat : number (s .which) < 3 → (number (s .which) < 2) × (s .row ≡ 0)
 
--- before state t at depth d
-module _ (t d : ℕ) (ht : t < 511) (hd : d < 9) where
-  letter-within : (r : Repeat) (w : Which) → Within (letterStroke r t d w)
-  letter-within r letter-place = one-within 0 (t + 1) (omega arith) (omega arith)
-  letter-within r loop-place = if-within (canLoop r) 0 (t + 1) (omega arith) (omega arith)
-  letter-within r scatter-block = none-within
-  letter-within r scatter-source = none-within
-  letter-within r scatter-target = none-within
-  letter-within r gather-block = none-within
-  letter-within r gather-source = none-within
-  letter-within r gather-target = none-within
-  letter-within r leaving = if-within (canSkip r) d t hd (omega arith)
-  letter-within r entering = if-within (canSkip r) d (t + 1) hd (omega arith)
-  letter-within r back-source = none-within
-  letter-within r back-target = none-within
+place-within : (w : Which) (x : ℕ) → number w < 2 → x < 512 → Within (oneState w 0 x)
+place-within w x h l = record { row = omega arith; to = l; flat = λ n. (h, refl) }
 
-  open-within : (w : Which) → Within (openStroke t d w)
-  open-within letter-place = none-within
-  open-within loop-place = none-within
-  open-within scatter-block = none-within
-  open-within scatter-source = one-within d t hd (omega arith)
-  open-within scatter-target = one-within d (t + 1) hd (omega arith)
-  open-within gather-block = none-within
-  open-within gather-source = none-within
-  open-within gather-target = none-within
-  open-within leaving = none-within
-  open-within entering = none-within
-  open-within back-source = none-within
-  open-within back-target = none-within
+-- at depth d
+module _ (d : ℕ) (hd : d < 9) where
+  one-within : (w : Which) (x : ℕ) → 2 < number w → x < 512 → Within (oneState w d x)
+  one-within w x h l = record { row = hd; to = l; flat = λ n. absurd (omega arith) }
 
-  bar-within : (w : Which) → Within (barStroke t d w)
-  bar-within letter-place = none-within
-  bar-within loop-place = none-within
-  bar-within scatter-block = none-within
-  bar-within scatter-source = none-within
-  bar-within scatter-target = one-within d (t + 1) hd (omega arith)
-  bar-within gather-block = none-within
-  bar-within gather-source = one-within d t hd (omega arith)
-  bar-within gather-target = none-within
-  bar-within leaving = none-within
-  bar-within entering = none-within
-  bar-within back-source = none-within
-  bar-within back-target = none-within
+  two-within : (u w : Which) (x y : ℕ) → 2 < number u → 2 < number w → x < 512 → y < 512 → All Within (oneState u d x ∷ oneState w d y ∷ [])
+  two-within u w x y hu hw hx hy = (one-within u x hu hx, (one-within w y hw hy, tt))
 
-  close-within : (f : Frame) (m : Mark) → f .start ≤ t → f .alternative ≤ t → (w : Which) → Within (closeStroke f t d m w)
-  close-within f m hs ha letter-place = none-within
-  close-within f m hs ha loop-place = none-within
-  close-within f m hs ha scatter-block = one-within d (f .alternative + 1) hd (omega arith)
-  close-within f m hs ha scatter-source = none-within
-  close-within f m hs ha scatter-target = none-within
-  close-within f m hs ha gather-block = (hd, omega arith)
-  close-within f m hs ha gather-source = one-within d t hd (omega arith)
-  close-within f m hs ha gather-target = one-within d (t + 1) hd (omega arith)
-  close-within f m hs ha leaving = if-within (canOmit m) d (f .start) hd (omega arith)
-  close-within f m hs ha entering = if-within (canOmit m) d (t + 1) hd (omega arith)
-  close-within f m hs ha back-source = if-within (canReturn m) d t hd (omega arith)
-  close-within f m hs ha back-target = if-within (canReturn m) d (f .start + 1) hd (omega arith)
+  end-within : (f : Frame) (z : ℕ) → z < 511 → f .alternative ≤ z → All Within (endStrokes f z d)
+  end-within f z h a = (
+    one-within scatter-block (suc (f .alternative)) (omega arith) (omega arith),
+    (record { row = hd; to = omega arith; flat = λ n. absurd (omega arith) }, two-within gather-source gather-target z (suc z) (omega arith) (omega arith) (omega arith) (omega arith)),
+  )
 
--- EVERY TOKEN'S STROKE LIES WITHIN
-pub stroke-within : (y : Token) (q : Scan) (w : Which) → Sane q → q .position < 511 → Within (strokeOf y q w)
-stroke-within (aLetter c r) q w S h = letter-within (q .position) (length (q .stack)) h (omega (arith, S .shallow)) r w
-stroke-within anOpen q w S h = open-within (q .position) (length (q .stack)) h (omega (arith, S .shallow)) w
-stroke-within aBar q w S h = go (q .stack) (S .shallow)
+-- EVERY TOKEN'S STROKES LIE WITHIN
+pub strokes-within : (y : Token) (q : Scan) → Sane q → q .position < 511 → All Within (strokes y q)
+strokes-within (aLetter c r) q S h =
+    let t = q .position in
+    letter-all Within r t (length (q .stack)) (place-within letter-place (suc t) (omega arith) (omega arith)) (place-within loop-place (suc t) (omega arith) (omega arith))
+    (two-within (length (q .stack)) (omega (arith, S .shallow)) leaving entering t (suc t) (omega arith) (omega arith) (omega arith) (omega arith))
+strokes-within anOpen q S h =
+    let t = q .position in
+    two-within (length (q .stack)) (omega (arith, S .shallow)) scatter-source scatter-target t (suc t) (omega arith) (omega arith) (omega arith) (omega arith)
+strokes-within aBar q S h = go (q .stack) (S .shallow)
   where
-    go : (st : List Frame) → length st ≤ 8 → Within (barStrokeIn (q .position) st w)
-    go [] l = none-within
-    go (f ∷ st) l = bar-within (q .position) (length st) h (omega arith) w
-stroke-within (aClose m) q w S h = go (q .stack) (S .behind) (S .shallow)
+    z : ℕ
+    z = q .position
+
+    go : (st : List Frame) → length st ≤ 8 → All Within (barStrokesIn z st)
+    go [] l = tt
+    go (f ∷ st) l = two-within (length st) (omega arith) scatter-target gather-source (suc z) z (omega arith) (omega arith) (omega arith) (omega arith)
+strokes-within (aClose m) q S h = go (q .stack) (S .behind) (S .shallow)
   where
-    go : (st : List Frame) → Behind (q .position) st → length st ≤ 8 → Within (closeStrokeIn m (q .position) st w)
-    go [] B l = none-within
-    go (f ∷ st) B l = close-within (q .position) (length st) h (omega arith) f m (B .0) (B .2) w
+    z : ℕ
+    z = q .position
+
+    go : (st : List Frame) → Behind z st → length st ≤ 8 → All Within (closeStrokesIn m z st)
+    go [] B l = tt
+    go (f ∷ st) B l =
+        let d = length st in
+        let hd : d < 9 = omega arith in
+        close-all Within m f z d (end-within d hd f z h (B .2))
+        (two-within d hd leaving entering (f .start) (suc z) (omega arith) (omega arith) (omega (arith, B .0)) (omega arith))
+        (two-within d hd back-source back-target z (suc (f .start)) (omega arith) (omega arith) (omega arith) (omega (arith, B .0)))

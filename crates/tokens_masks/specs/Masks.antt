@@ -1,14 +1,15 @@
 -- MASKS IN A ROW OF WORDS: rows of eight words. Letter and loop places are two rows; the masks of scatter, of gather and of propagate are three rows
 -- for each of nine depths: block, source, target. So are those of the back edges, which have no block.
 use mathlib.Core.Path.{_≡_}
+use mathlib.Core.Bool.{cond}
 use mathlib.Core.List.{List, [], _∷_}
 use Prim.Native.Nat.{ℕ, zero, suc, _+_, _-_, _*_, _/_, _%_, _^_, _≤_, _<_}
 use lib.Bits.{bitOr}
+use lib.Dec.{eqb}
 use lib.ListN.{drop, getD, length, replicate, set, take}
-use Rattle.model.specs.Models.LayOut.{back-source, back-target, entering, gather-block, gather-source, gather-target, leaving, letter-place, loop-place, scatter-block, scatter-source, scatter-target, Which}
+use Rattle.model.specs.Models.LayOut.{back-source, back-target, entering, gather-block, gather-source, gather-target, leaving, letter-place, loop-place, number, scatter-block, scatter-source, scatter-target, Stroke, strokes, Which}
 use Rattle.tokens_masks.specs.Joins.{Either, joinTables, Only}
 use Rattle.tokens.specs.Scans.{Innermost, scanOf, withFrames}
-use Rattle.tokens_masks.specs.Strokes.{noStroke, Stroke, strokeOf}
 use Rattle.tokens_masks.specs.Tables.{blank, Table}
 use Rattle.tokens.specs.Tokens.{tokenOf}
 use Rattle.tokens.specs.declared.Frame.{Frame}
@@ -32,7 +33,7 @@ unfoldable pub placesIn : List ℕ → ℕ → Table
 placesIn ms i = rowIn ms i ∷ replicate 8 (replicate 8 0)
 
 -- ---- marks
--- state x in row r; the n states from x on; a stroke in the masks i
+-- state x in row r; the n states from x on; the states from a on and before z, in the masks i of depth k
 abbrev pub markRow : List ℕ → ℕ → ℕ → List ℕ
 markRow ms r x = set ms (8 * r + x / 64) (bitOr (getD ms (8 * r + x / 64) 0) (2 ^ (x % 64)))
 
@@ -40,14 +41,23 @@ abbrev pub runRow : ℕ → List ℕ → ℕ → ℕ → List ℕ
 runRow zero ms r x = ms
 runRow (suc n) ms r x = runRow n (markRow ms r x) r (suc x)
 
-abbrev pub strokeIn : List ℕ → ℕ → Stroke → List ℕ
-strokeIn ms i s = runRow (s .to - s .from) ms (3 * s .row + i) (s .from)
+abbrev pub runIn : List ℕ → (i k a z : ℕ) → List ℕ
+runIn ms i k a z = runRow (z - a) ms (3 * k + i) a
 
-abbrev pub paintTwo : List ℕ → Stroke → Stroke → List ℕ
-paintTwo ms a b = strokeIn (strokeIn ms 0 a) 1 b
+-- an edge of depth k: the state that it leaves and the one that it enters
+abbrev pub edgeIn : List ℕ → (k from to : ℕ) → List ℕ
+edgeIn ms k from to = runIn (runIn ms 1 k from (suc from)) 2 k to (suc to)
 
-abbrev pub paintThree : List ℕ → Stroke → Stroke → Stroke → List ℕ
-paintThree ms a b c = strokeIn (strokeIn (strokeIn ms 0 a) 1 b) 2 c
+-- of the strokes those in buffer n: 0 is that of letter and loop places, 1 scatter's, 2 gather's, 3 propagate's, 4 the back edges'
+abbrev pub bufferOf : Which → ℕ
+bufferOf w = number w / 3
+
+abbrev pub kindOf : Which → ℕ
+kindOf w = number w % 3
+
+abbrev pub paintIn : ℕ → List Stroke → List ℕ → List ℕ
+paintIn n [] ms = ms
+paintIn n (s ∷ ss) ms = paintIn n ss (cond (eqb (bufferOf (s .which)) n) (runIn ms (kindOf (s .which)) (s .row) (s .from) (s .to)) ms)
 
 -- the table of each kind of masks; until propagate's are joined, its sources are the states that edges leave, its targets those that they enter
 abbrev pub heldIn : (places scatter gather propagate back : List ℕ) → Which → Table
@@ -76,17 +86,17 @@ pub record Blank (p s g r b : List ℕ) : Type 0 where
   pub sized : Sized p s g r b
   pub none : (w : Which) → heldIn p s g r b w ≡ blank
 
--- what a token marks: of each kind w the stroke f w
-pub record Painted (p s g r b p′ s′ g′ r′ b′ : List ℕ) (f : Which → Stroke) : Type 0 where
-  pub places : p′ ≡ paintTwo p (f letter-place) (f loop-place)
-  pub scatter : s′ ≡ paintThree s (f scatter-block) (f scatter-source) (f scatter-target)
-  pub gather : g′ ≡ paintThree g (f gather-block) (f gather-source) (f gather-target)
-  pub propagate : r′ ≡ paintThree r noStroke (f leaving) (f entering)
-  pub back : b′ ≡ paintThree b noStroke (f back-source) (f back-target)
+-- what a token marks
+pub record Painted (p s g r b p′ s′ g′ r′ b′ : List ℕ) (ss : List Stroke) : Type 0 where
+  pub places : p′ ≡ paintIn 0 ss p
+  pub scatter : s′ ≡ paintIn 1 ss s
+  pub gather : g′ ≡ paintIn 2 ss g
+  pub propagate : r′ ≡ paintIn 3 ss r
+  pub back : b′ ≡ paintIn 4 ss b
 
 abbrev pub MarkSays : Scan → Frame → Token → (p s g r b p′ s′ g′ r′ b′ : List ℕ) → Type 0
 MarkSays q f y p s g r b p′ s′ g′ r′ b′ =
-    (fs : List Frame) → Innermost q f fs → Painted p s g r b p′ s′ g′ r′ b′ (strokeOf (tokenOf y) (scanOf (withFrames q fs)))
+    (fs : List Frame) → Innermost q f fs → Painted p s g r b p′ s′ g′ r′ b′ (strokes (tokenOf y) (scanOf (withFrames q fs)))
 
 -- propagate's block, source and target from the states that edges leave and those that they enter
 pub record Joined (r r′ : List ℕ) : Type 0 where

@@ -1,11 +1,11 @@
 -- TABLES: the masks of one kind, nine rows of eight words, and the tokens painted into them one after another.
+use mathlib.Core.Bool.{cond}
 use mathlib.Core.List.{List, [], _∷_}
 use Prim.Native.Nat.{ℕ, zero, suc, _-_}
 use lib.ListN.{getD, replicate, set}
-use Rattle.model.specs.Models.LayOut.{Scan, step, Which}
+use Rattle.model.specs.Models.LayOut.{sameKind, Scan, step, Stroke, strokes, Which}
 use Rattle.model.specs.Models.Tokens.{Token}
 use Rattle.model.specs.Models.Words.{putBit}
-use Rattle.tokens_masks.specs.Strokes.{Stroke, strokeOf}
 
 abbrev pub Table : Type 0
 Table = List (List ℕ)
@@ -24,7 +24,12 @@ markRun (suc n) a k x = markRun n (markState a k x) k (suc x)
 abbrev pub paintStroke : Table → Stroke → Table
 paintStroke a s = markRun (s .to - s .from) a (s .row) (s .from)
 
+-- of the strokes those of kind w
+abbrev pub paintKind : Which → List Stroke → Table → Table
+paintKind w [] a = a
+paintKind w (s ∷ ss) a = paintKind w ss (cond (sameKind (s .which) w) (paintStroke a s) a)
+
 -- ALL TOKENS, from the scan q on, painted into the table of the masks of kind w
 abbrev pub paintAll : List Token → Scan → Which → Table → Table
 paintAll [] q w a = a
-paintAll (y ∷ ys) q w a = paintAll ys (step y q) w (paintStroke a (strokeOf y q w))
+paintAll (y ∷ ys) q w a = paintAll ys (step y q) w (paintKind w (strokes y q) a)

@@ -3,10 +3,9 @@
 // of which there is no block.
 ghost use mathlib.Core.Path.{_≡_};
 ghost use mathlib.Core.Bool.{cond};
-ghost use Prim.Native.Nat.{_+_, _*_, _≤_, _<_};
+ghost use Prim.Native.Nat.{suc, _+_, _*_, _≤_, _<_};
 ghost use lib.ListN.{length, replicate};
-ghost use Rattle.tokens_masks.specs.Masks.{Blank, Joined, paintThree, Sized, strokeIn};
-ghost use Rattle.tokens_masks.specs.Strokes.{noStroke, oneState, stroke};
+ghost use Rattle.tokens_masks.specs.Masks.{Blank, edgeIn, Joined, runIn, Sized};
 
 // No state in any mask.
 fn blank(masks: &mut [u64])
@@ -39,7 +38,7 @@ pub fn blank_all(
 // One more state in the mask of a depth.
 pub fn mark(masks: &mut [u64], kind: usize, depth: usize, state: usize)
     requires { ⌜ (state < 512) × (kind < 3) × (depth < 9) × (8 * (3 * depth + kind) + 8 ≤ length (now masks)) ⌝ }
-    ensures { λ r. ⌜ now (masks .exit) ≡ strokeIn (now (masks .entry)) kind (oneState depth state) ⌝ }
+    ensures { λ r. ⌜ now (masks .exit) ≡ runIn (now (masks .entry)) kind depth state (suc state) ⌝ }
 {
     let at = 8 * (3 * depth + kind) + state / 64;
     masks[at] = masks[at] | (1u64 << (state % 64));
@@ -48,7 +47,7 @@ pub fn mark(masks: &mut [u64], kind: usize, depth: usize, state: usize)
 // The one state if the test passes, else none.
 pub fn mark_if(masks: &mut [u64], kind: usize, test: bool, depth: usize, state: usize)
     requires { ⌜ (state < 512) × (kind < 3) × (depth < 9) × (8 * (3 * depth + kind) + 8 ≤ length (now masks)) ⌝ }
-    ensures { λ r. ⌜ now (masks .exit) ≡ strokeIn (now (masks .entry)) kind (cond test (oneState depth state) noStroke) ⌝ }
+    ensures { λ r. ⌜ now (masks .exit) ≡ cond test (runIn (now (masks .entry)) kind depth state (suc state)) (now (masks .entry)) ⌝ }
 {
     if test {
         mark(masks, kind, depth, state);
@@ -58,7 +57,7 @@ pub fn mark_if(masks: &mut [u64], kind: usize, test: bool, depth: usize, state: 
 // The states from `from` up to `to` less 1.
 pub fn mark_run(masks: &mut [u64], kind: usize, depth: usize, from: usize, to: usize)
     requires { ⌜ (to ≤ 512) × (kind < 3) × (depth < 9) × (8 * (3 * depth + kind) + 8 ≤ length (now masks)) ⌝ }
-    ensures { λ r. ⌜ now (masks .exit) ≡ strokeIn (now (masks .entry)) kind (stroke depth from to) ⌝ }
+    ensures { λ r. ⌜ now (masks .exit) ≡ runIn (now (masks .entry)) kind depth from to ⌝ }
 {
     let mut state = from;
     while state < to {
@@ -70,7 +69,7 @@ pub fn mark_run(masks: &mut [u64], kind: usize, depth: usize, from: usize, to: u
 // If the test passes, an edge: the state that it leaves, in place of the sources, and the one that it enters, in place of the targets.
 pub fn bridge(masks: &mut [u64], test: bool, depth: usize, from: usize, to: usize)
     requires { ⌜ (from < 512) × (to < 512) × (depth < 9) × (length (now masks) ≡ 216) ⌝ }
-    ensures { λ r. ⌜ now (masks .exit) ≡ paintThree (now (masks .entry)) noStroke (cond test (oneState depth from) noStroke) (cond test (oneState depth to) noStroke) ⌝ }
+    ensures { λ r. ⌜ now (masks .exit) ≡ cond test (edgeIn (now (masks .entry)) depth from to) (now (masks .entry)) ⌝ }
 {
     mark_if(masks, 1, test, depth, from);
     mark_if(masks, 2, test, depth, to);

@@ -1,4 +1,4 @@
-// What one token marks: in each kind of mask a run of states at one depth, most often a single state or none.
+// The strokes of one token: each a run of states in the mask of one kind and depth, most often a single state.
 use crate::masks::bridge;
 use crate::masks::mark;
 use crate::masks::mark_if;
@@ -16,10 +16,9 @@ use tokens::token::can_skip;
 ghost use mathlib.Core.Path.{_≡_};
 ghost use Prim.Native.Nat.{_<_};
 ghost use lib.ListN.{length};
-ghost use Rattle.model.specs.Models.LayOut.{back-source, back-target, entering, gather-block, gather-source, gather-target, leaving, letter-place, loop-place, scatter-block, scatter-source, scatter-target};
-ghost use Rattle.tokens_masks.specs.Masks.{MarkSays, paintThree, paintTwo, Sized};
+ghost use Rattle.model.specs.Models.LayOut.{barStrokes, closeStrokes, letterStrokes, openStrokes};
+ghost use Rattle.tokens_masks.specs.Masks.{MarkSays, paintIn, Sized};
 ghost use Rattle.tokens.specs.Scans.{frameOf, ReadyAt};
-ghost use Rattle.tokens_masks.specs.Strokes.{barStroke, closeStroke, letterStroke, noStroke, openStroke};
 ghost use Rattle.tokens.specs.Tokens.{markOf, repeatOf};
 
 // A letter from `position` at `depth`: `*` and `+` have a loop, `?` and `*` a propagate edge over it.
@@ -31,8 +30,8 @@ fn mark_letter(
     depth: usize,
 )
     requires { ⌜ (position < 511) × (depth < 9) × (length (now places) ≡ 16) × (length (now propagate) ≡ 216) ⌝ }
-    ensures places { λ r. ⌜ now (places .exit) ≡ paintTwo (now (places .entry)) (letterStroke (repeatOf repeat) position depth letter-place) (letterStroke (repeatOf repeat) position depth loop-place) ⌝ }
-    ensures propagate { λ r. ⌜ now (propagate .exit) ≡ paintThree (now (propagate .entry)) noStroke (letterStroke (repeatOf repeat) position depth leaving) (letterStroke (repeatOf repeat) position depth entering) ⌝ }
+    ensures places { λ r. ⌜ now (places .exit) ≡ paintIn 0 (letterStrokes (repeatOf repeat) position depth) (now (places .entry)) ⌝ }
+    ensures propagate { λ r. ⌜ now (propagate .exit) ≡ paintIn 3 (letterStrokes (repeatOf repeat) position depth) (now (propagate .entry)) ⌝ }
 {
     mark(places, 0, 0, position + 1);
     mark_if(places, 1, can_loop(repeat), 0, position + 1);
@@ -42,7 +41,7 @@ fn mark_letter(
 // The open of a union that starts in `position` at `depth`: its first alternative starts in the next state.
 fn mark_open(scatter: &mut [u64], position: usize, depth: usize)
     requires { ⌜ (position < 511) × (depth < 9) × (length (now scatter) ≡ 216) ⌝ }
-    ensures { λ r. ⌜ now (scatter .exit) ≡ paintThree (now (scatter .entry)) (openStroke position depth scatter-block) (openStroke position depth scatter-source) (openStroke position depth scatter-target) ⌝ }
+    ensures { λ r. ⌜ now (scatter .exit) ≡ paintIn 1 (openStrokes position depth) (now (scatter .entry)) ⌝ }
 {
     mark(scatter, 1, depth, position);
     mark(scatter, 2, depth, position + 1);
@@ -51,8 +50,8 @@ fn mark_open(scatter: &mut [u64], position: usize, depth: usize)
 // A bar after the alternative that ends in `position`, of a union at `depth`: the next alternative starts in the next state.
 fn mark_bar(scatter: &mut [u64], gather: &mut [u64], position: usize, depth: usize)
     requires { ⌜ (position < 511) × (depth < 9) × (length (now scatter) ≡ 216) × (length (now gather) ≡ 216) ⌝ }
-    ensures scatter { λ r. ⌜ now (scatter .exit) ≡ paintThree (now (scatter .entry)) (barStroke position depth scatter-block) (barStroke position depth scatter-source) (barStroke position depth scatter-target) ⌝ }
-    ensures gather { λ r. ⌜ now (gather .exit) ≡ paintThree (now (gather .entry)) (barStroke position depth gather-block) (barStroke position depth gather-source) (barStroke position depth gather-target) ⌝ }
+    ensures scatter { λ r. ⌜ now (scatter .exit) ≡ paintIn 1 (barStrokes position depth) (now (scatter .entry)) ⌝ }
+    ensures gather { λ r. ⌜ now (gather .exit) ≡ paintIn 2 (barStrokes position depth) (now (gather .entry)) ⌝ }
 {
     mark(scatter, 2, depth, position + 1);
     mark(gather, 1, depth, position);
@@ -71,10 +70,10 @@ fn mark_close(
     shown: Mark,
 )
     requires { ⌜ (position < 511) × (depth < 9) × (frame .alternative < 511) × (frame .start < 511) × (length (now scatter) ≡ 216) × (length (now gather) ≡ 216) × (length (now propagate) ≡ 216) × (length (now back) ≡ 216) ⌝ }
-    ensures scatter { λ r. ⌜ now (scatter .exit) ≡ paintThree (now (scatter .entry)) (closeStroke (frameOf frame) position depth (markOf shown) scatter-block) (closeStroke (frameOf frame) position depth (markOf shown) scatter-source) (closeStroke (frameOf frame) position depth (markOf shown) scatter-target) ⌝ }
-    ensures gather { λ r. ⌜ now (gather .exit) ≡ paintThree (now (gather .entry)) (closeStroke (frameOf frame) position depth (markOf shown) gather-block) (closeStroke (frameOf frame) position depth (markOf shown) gather-source) (closeStroke (frameOf frame) position depth (markOf shown) gather-target) ⌝ }
-    ensures propagate { λ r. ⌜ now (propagate .exit) ≡ paintThree (now (propagate .entry)) noStroke (closeStroke (frameOf frame) position depth (markOf shown) leaving) (closeStroke (frameOf frame) position depth (markOf shown) entering) ⌝ }
-    ensures back { λ r. ⌜ now (back .exit) ≡ paintThree (now (back .entry)) noStroke (closeStroke (frameOf frame) position depth (markOf shown) back-source) (closeStroke (frameOf frame) position depth (markOf shown) back-target) ⌝ }
+    ensures scatter { λ r. ⌜ now (scatter .exit) ≡ paintIn 1 (closeStrokes (markOf shown) (frameOf frame) position depth) (now (scatter .entry)) ⌝ }
+    ensures gather { λ r. ⌜ now (gather .exit) ≡ paintIn 2 (closeStrokes (markOf shown) (frameOf frame) position depth) (now (gather .entry)) ⌝ }
+    ensures propagate { λ r. ⌜ now (propagate .exit) ≡ paintIn 3 (closeStrokes (markOf shown) (frameOf frame) position depth) (now (propagate .entry)) ⌝ }
+    ensures back { λ r. ⌜ now (back .exit) ≡ paintIn 4 (closeStrokes (markOf shown) (frameOf frame) position depth) (now (back .entry)) ⌝ }
 {
     mark(scatter, 0, depth, frame.alternative + 1);
     let first_end = first_end_of(frame, position);

@@ -10,13 +10,15 @@ use native.Mathlib.Omega.{arith}
 use lib.Dec.{T, eqb, eqb-refl}
 use lib.ListN.{length, getD}
 use Rattle.model.specs.Bits.{bit}
-use Rattle.model.specs.Tree.{canLoop, canOmit, canReturn, once, option, plus, star}
+use Rattle.model.specs.Lists.{any}
+use Rattle.model.specs.Tree.{canLoop, Mark, once, option, optional, plus, star, starred, unmarked}
 use Rattle.model.specs.Models.Apart.{anyBelow}
 use Rattle.model.specs.Models.Sections.{bitOf, lettersIn, stateWord, widthWord}
-use Rattle.model.specs.Models.LayOut.{afterBar, afterClose, barMarksIn, begin, closeMarksIn, Frame, layOut, letter-place, loop-place, mark, Scan, set, step, tokenLetters, tokenLoops, Which}
+use Rattle.model.specs.Models.LayOut.{afterBar, afterClose, barStrokesIn, begin, closeStrokesIn, Frame, layOut, letter-place, loop-place, mark, marks, number, oneState, sameKind, Scan, set, step, tokenLetters, tokenLoops, Which}
 use Rattle.model.specs.Models.Tokens.{aBar, aClose, aLetter, anOpen, classOf, loopClassOf, Token}
 use Rattle.model.specs.Models.Words.{value}
 use Rattle.model.proofs.Image.Classes.{AllFine, Fine, fine-at, no-bits, some-bit}
+use Rattle.model.proofs.Image.Marks.{one-marks}
 use Rattle.model.proofs.Image.Rows.{wide}
 use Rattle.model.proofs.Laws.Bits.{below-in, bit-zero}
 use Rattle.model.proofs.Laws.Bool.{is-not, is-true, unequal}
@@ -49,14 +51,22 @@ position-step (aClose m) q = go (q .stack)
     go [] = refl
     go (f ∷ st) = refl
 
+-- the one state of a stroke at depth 0
+one-place : (w : Which) (x y : ℕ) → (marks w 0 x (oneState w 0 y) || false) ≡ eqb x y
+one-place w x y =
+    or-false (marks w 0 x (oneState w 0 y))
+    ∙ one-marks w 0 x w 0 y
+    ∙ ap (λ (b : Bool). b && (eqb x y && true)) (is-true (sameKind w w) (eqb-refl (number w)))
+    ∙ and-true (eqb x y)
+
 -- ---- a mask in which each token that passes a test marks the state it leads to
 module _ (w : Which) (test : Token → Bool) (marks : (y : Token) (q : Scan) (x : ℕ) → mark y q w 0 x ≡ (test y && eqb x (suc (q .position)))) where
-  unmarked : (y : Token) (q : Scan) (x : ℕ) → (x ≡ suc (q .position) → ⊥) → mark y q w 0 x ≡ false
-  unmarked y q x h = marks y q x ∙ ap (λ (b : Bool). test y && b) (unequal x (suc (q .position)) h) ∙ and-false (test y)
+  elsewhere : (y : Token) (q : Scan) (x : ℕ) → (x ≡ suc (q .position) → ⊥) → mark y q w 0 x ≡ false
+  elsewhere y q x h = marks y q x ∙ ap (λ (b : Bool). test y && b) (unequal x (suc (q .position)) h) ∙ and-false (test y)
 
   none-before : (l : List Token) (q : Scan) (x : ℕ) → x ≤ q .position → layOut l q w 0 x ≡ false
   none-before [] q x h = refl
-  none-before (y ∷ ys) q x h = ap₂ _||_ (unmarked y q x (λ e. omega arith)) (none-before ys (step y q) x (omega (arith, position-step y q)))
+  none-before (y ∷ ys) q x h = ap₂ _||_ (elsewhere y q x (λ e. omega arith)) (none-before ys (step y q) x (omega (arith, position-step y q)))
 
   -- the state that token i leads to has the mark exactly if the token passes
   at-token : (l : List Token) (q : Scan) (i : ℕ) → i < length l → layOut l q w 0 (suc (q .position + i)) ≡ test (getD l i aBar)
@@ -70,7 +80,7 @@ module _ (w : Which) (test : Token → Bool) (marks : (y : Token) (q : Scan) (x 
       z : ℕ
       z = suc (q .position)
   at-token (y ∷ ys) q (suc i) h =
-      ap (λ (a : Bool). a || layOut ys (step y q) w 0 (suc (q .position + suc i))) (unmarked y q (suc (q .position + suc i)) (λ e. omega arith))
+      ap (λ (a : Bool). a || layOut ys (step y q) w 0 (suc (q .position + suc i))) (elsewhere y q (suc (q .position + suc i)) (λ e. omega arith))
       ∙ (let e : suc (q .position + suc i) ≡ suc (step y q .position + i) = omega (arith, position-step y q) in ap (λ (x : ℕ). layOut ys (step y q) w 0 x) e)
       ∙ at-token ys (step y q) i (le-of-suc-le-suc h)
 
@@ -79,18 +89,23 @@ module _ (w : Which) (test : Token → Bool) (marks : (y : Token) (q : Scan) (x 
 
 -- ---- the loop places
 loop-marks : (y : Token) (q : Scan) (x : ℕ) → mark y q loop-place 0 x ≡ (isLooping y && eqb x (suc (q .position)))
-loop-marks (aLetter c r) q x = ap (λ (b : Bool). canLoop r && b) (and-true (eqb x (suc (q .position))))
+loop-marks (aLetter c once) q x = refl
+loop-marks (aLetter c option) q x = refl
+loop-marks (aLetter c star) q x = one-place loop-place x (suc (q .position))
+loop-marks (aLetter c plus) q x = one-place loop-place x (suc (q .position))
 loop-marks anOpen q x = refl
 loop-marks aBar q x = go (q .stack)
   where
-    go : (st : List Frame) → barMarksIn (q .position) st loop-place 0 x ≡ false
+    go : (st : List Frame) → any (marks loop-place 0 x) (barStrokesIn (q .position) st) ≡ false
     go [] = refl
     go (f ∷ st) = refl
-loop-marks (aClose m) q x = go (q .stack)
+loop-marks (aClose m) q x = go m (q .stack)
   where
-    go : (st : List Frame) → closeMarksIn m (q .position) st loop-place 0 x ≡ false
-    go [] = refl
-    go (f ∷ st) = ap₂ _||_ (and-false (canOmit m)) (and-false (canReturn m))
+    go : (m : Mark) (st : List Frame) → any (marks loop-place 0 x) (closeStrokesIn m (q .position) st) ≡ false
+    go m [] = refl
+    go unmarked (f ∷ st) = refl
+    go optional (f ∷ st) = refl
+    go starred (f ∷ st) = refl
 
 loop-class : (y : Token) (b : ℕ) → (bit (classOf y) b && isLooping y) ≡ bit (loopClassOf y) b
 loop-class (aLetter c once) b = and-false (bit c b) ∙ sym (bit-zero b)
@@ -109,18 +124,23 @@ repeats-by-letters l b (suc i) h =
 
 -- ---- the letter places
 letter-marks : (y : Token) (q : Scan) (x : ℕ) → mark y q letter-place 0 x ≡ (isLetter y && eqb x (suc (q .position)))
-letter-marks (aLetter c r) q x = and-true (eqb x (suc (q .position)))
+letter-marks (aLetter c once) q x = one-place letter-place x (suc (q .position))
+letter-marks (aLetter c option) q x = one-place letter-place x (suc (q .position))
+letter-marks (aLetter c star) q x = one-place letter-place x (suc (q .position))
+letter-marks (aLetter c plus) q x = one-place letter-place x (suc (q .position))
 letter-marks anOpen q x = refl
 letter-marks aBar q x = go (q .stack)
   where
-    go : (st : List Frame) → barMarksIn (q .position) st letter-place 0 x ≡ false
+    go : (st : List Frame) → any (marks letter-place 0 x) (barStrokesIn (q .position) st) ≡ false
     go [] = refl
     go (f ∷ st) = refl
-letter-marks (aClose m) q x = go (q .stack)
+letter-marks (aClose m) q x = go m (q .stack)
   where
-    go : (st : List Frame) → closeMarksIn m (q .position) st letter-place 0 x ≡ false
-    go [] = refl
-    go (f ∷ st) = ap₂ _||_ (and-false (canOmit m)) (and-false (canReturn m))
+    go : (m : Mark) (st : List Frame) → any (marks letter-place 0 x) (closeStrokesIn m (q .position) st) ≡ false
+    go m [] = refl
+    go unmarked (f ∷ st) = refl
+    go optional (f ∷ st) = refl
+    go starred (f ∷ st) = refl
 
 pub no-letter-at-zero : (l : List Token) → layOut l begin letter-place 0 0 ≡ false
 no-letter-at-zero l = none-before letter-place isLetter letter-marks l begin 0 (le-refl 0)

@@ -10,11 +10,11 @@ use Rattle.model.specs.Tree.{canLoop, canSkip, Repeat, Seq}
 use Rattle.model.specs.Edges.{backEdge, byLetter, byLoop, depth, Edge, edge, edges, edgesOf, endsOf, gatherEdge, isBack, isPropagate, letterAt, letterEdge, loopEdge, Part, parts, propagateEdge, returnAt, scatterEdge, startsOf, states, unionAt, Way}
 use Rattle.model.specs.Edges.{when as whenEdge}
 use Rattle.model.specs.Image.{backSource, backTarget, enters, firstEnd, gatherBlock, gatherSource, gatherTarget, image, lastStart, leaves, letters, repeats, scatterBlock, scatterSource, scatterTarget, unionTest, width}
-use Rattle.model.specs.Models.LayOut.{back-source, back-target, entering, gather-block, gather-source, gather-target, leaving, letter-place, letterMarks, loop-place, scatter-block, scatter-source, scatter-target, Which}
+use Rattle.model.specs.Models.LayOut.{back-source, back-target, entering, gather-block, gather-source, gather-target, leaving, letter-place, loop-place, scatter-block, scatter-source, scatter-target, Which}
 use Rattle.model.proofs.Ends.Run.{letterSet, loopsByte, loopSet, takesByte}
 use Rattle.model.proofs.Image.ArcTests.{any-when, branchTest, letterTest}
 use Rattle.model.proofs.Image.Laid.{assemble-same}
-use Rattle.model.proofs.Image.Marks.{letter-marks, on}
+use Rattle.model.proofs.Image.Marks.{on}
 use Rattle.model.proofs.Image.Places.{arcs-set}
 use Rattle.model.proofs.Image.Sets.{arcImage, treeSet}
 use Rattle.model.proofs.Language.Arcs.{Arc, arc, arcs, backArc, forkArc, letterArc, loopArc, propagateArc, when}
@@ -109,13 +109,15 @@ back-targets-of s k x =
     (λ k i j. refl) (λ k i j. refl) (λ xs k i j. refl) (λ k i j. refl) s
 
 -- a mask of unions: no letter and no propagate edge marks a place, and a union passes as its fork does
-unions-of : (w : Which) (f : ℕ → List Way → ℕ → Bool) (s : Seq) (k x : ℕ) → ((r : Repeat) (d t : ℕ) → letterMarks r t d w k x ≡ false)
-    → ((d i j : ℕ) → on w k x (arc propagateArc d i j) ≡ false) → ((ws : List Way) (d i j : ℕ) → (f i ws j && eqb d k) ≡ on w k x (arc (forkArc ws) d i j))
+unions-of : (w : Which) (f : ℕ → List Way → ℕ → Bool) (s : Seq) (k x : ℕ) → ((c d i j : ℕ) → on w k x (arc (letterArc c) d i j) ≡ false)
+    → ((c d i j : ℕ) → on w k x (arc (loopArc c) d i j) ≡ false) → ((d i j : ℕ) → on w k x (arc propagateArc d i j) ≡ false) → ((ws : List Way) (d i j : ℕ) → (f i ws j && eqb d k) ≡ on w k x (arc (forkArc ws) d i j))
     → ((d i j : ℕ) → on w k x (arc backArc d i j) ≡ false) → any (unionTest k f) (parts s 0 0) ≡ treeSet s w k x
-unions-of w f s k x no-letter no-propagate at-fork no-back = parts-any (unionTest k f) (on w k x) at-letter at-union (λ d i j. sym (no-back d i j)) s ∙ arcs-set s w k x
+unions-of w f s k x no-letter no-loop no-propagate at-fork no-back = parts-any (unionTest k f) (on w k x) at-letter at-union (λ d i j. sym (no-back d i j)) s ∙ arcs-set s w k x
   where
     at-letter : (c : ℕ) (r : Repeat) (d i : ℕ) → false ≡ letterTest (on w k x) c r d i
-    at-letter c r d i = sym (no-letter r d i) ∙ letter-marks w k x d i c r
+    at-letter c r d i =
+        sym (ap₂ _||_ (no-letter c d i (suc i)) (ap₂ _||_ (ap (λ (v : Bool). canLoop r && v) (no-loop c d (suc i) (suc i)) ∙ and-false (canLoop r))
+        (ap (λ (v : Bool). canSkip r && v) (no-propagate d i (suc i)) ∙ and-false (canSkip r))))
 
     at-union : (b : Bool) (d t : ℕ) (ws : List Way) (u : ℕ) → (f t ws u && eqb d k) ≡ branchTest (on w k x) b d t ws u
     at-union b d t ws u =
@@ -140,13 +142,13 @@ pub edge-sets : (s : Seq) (w : Which) (k x : ℕ) → edgeSet s w k x ≡ treeSe
 edge-sets s letter-place k x = refl
 edge-sets s loop-place k x = refl
 edge-sets s scatter-block k x =
-    unions-of scatter-block (λ start ws close. eqb x (suc (lastStart ws))) s k x (λ r d t. refl) (λ d i j. refl) (λ ws d i j. refl) (λ d i j. refl)
-edge-sets s scatter-source k x = unions-of scatter-source (λ start ws close. eqb x start) s k x (λ r d t. refl) (λ d i j. refl) (λ ws d i j. refl) (λ d i j. refl)
-edge-sets s scatter-target k x = unions-of scatter-target (λ start ws close. within x (startsOf ws)) s k x (λ r d t. refl) (λ d i j. refl) (λ ws d i j. refl) (λ d i j. refl)
+    unions-of scatter-block (λ start ws close. eqb x (suc (lastStart ws))) s k x (λ c d i j. refl) (λ c d i j. refl) (λ d i j. refl) (λ ws d i j. refl) (λ d i j. refl)
+edge-sets s scatter-source k x = unions-of scatter-source (λ start ws close. eqb x start) s k x (λ c d i j. refl) (λ c d i j. refl) (λ d i j. refl) (λ ws d i j. refl) (λ d i j. refl)
+edge-sets s scatter-target k x = unions-of scatter-target (λ start ws close. within x (startsOf ws)) s k x (λ c d i j. refl) (λ c d i j. refl) (λ d i j. refl) (λ ws d i j. refl) (λ d i j. refl)
 edge-sets s gather-block k x =
-    unions-of gather-block (λ start ws close. leb (firstEnd ws) x && ltb x close) s k x (λ r d t. refl) (λ d i j. refl) (λ ws d i j. refl) (λ d i j. refl)
-edge-sets s gather-source k x = unions-of gather-source (λ start ws close. within x (endsOf ws)) s k x (λ r d t. refl) (λ d i j. refl) (λ ws d i j. refl) (λ d i j. refl)
-edge-sets s gather-target k x = unions-of gather-target (λ start ws close. eqb x close) s k x (λ r d t. refl) (λ d i j. refl) (λ ws d i j. refl) (λ d i j. refl)
+    unions-of gather-block (λ start ws close. leb (firstEnd ws) x && ltb x close) s k x (λ c d i j. refl) (λ c d i j. refl) (λ d i j. refl) (λ ws d i j. refl) (λ d i j. refl)
+edge-sets s gather-source k x = unions-of gather-source (λ start ws close. within x (endsOf ws)) s k x (λ c d i j. refl) (λ c d i j. refl) (λ d i j. refl) (λ ws d i j. refl) (λ d i j. refl)
+edge-sets s gather-target k x = unions-of gather-target (λ start ws close. eqb x close) s k x (λ c d i j. refl) (λ c d i j. refl) (λ d i j. refl) (λ ws d i j. refl) (λ d i j. refl)
 edge-sets s leaving k x = leaves-of s k x
 edge-sets s entering k x = enters-of s k x
 edge-sets s back-source k x = back-sources-of s k x

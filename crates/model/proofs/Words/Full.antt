@@ -40,7 +40,7 @@ non-empty (letter c r s) t h = seqEnd-le s (suc t)
 non-empty (union m a s) t h = omega (arith, altsEnd-lt a t, seqEnd-le s (suc (altsEnd a t)))
 
 -- ---- the starts of the alternatives after state p lie past p, the last one of them highest and, where none is empty, before the last end
-last-of : (a : Alts) (p z : ℕ) → lastStart ((suc p, z) ∷ ways a z) ≡ lastStart (ways a z)
+pub last-of : (a : Alts) (p z : ℕ) → lastStart ((suc p, z) ∷ ways a z) ≡ lastStart (ways a z)
 last-of (last s) p z = refl
 last-of (more s a) p z = refl
 

@@ -6,6 +6,7 @@ use Prim.Native.Nat.{ℕ, zero, suc, max}
 use lib.Dec.{leb, ltb, eqb}
 use lib.ListN.{length, getD}
 use Rattle.model.specs.Bits.{bit, mask}
+use Rattle.model.specs.Lists.{any}
 use Rattle.model.specs.Tree.{canLoop, canOmit, canReturn, canSkip, Mark, optional, Repeat, starred, unmarked}
 use Rattle.model.specs.Image.{join, section, width, words}
 use Rattle.model.specs.Models.Tokens.{aBar, aClose, aLetter, anOpen, classOf, kept, loopClassOf, Token}
@@ -63,118 +64,100 @@ step anOpen q = scan (suc (q .position)) true true (opened q ∷ q .stack)
 step aBar q = afterBar (q .position) (q .canBeEmpty) (q .stack)
 step (aClose m) q = afterClose m (q .position) (q .canBeEmpty) (q .stack)
 
--- ---- the places that a token marks: of the mask `w` of depth k, the state x
+-- ---- what a token marks
 -- the kinds of masks: letter and loop places (depth 0 alone), those of scatter and gather, the states where propagate edges start and end,
 -- and those where back edges do
 pub data Which : Type 0 where
   letter-place loop-place scatter-block scatter-source scatter-target gather-block gather-source gather-target leaving entering back-source back-target : Which
 
--- a propagate edge of depth d from i to j
-abbrev pub bridgeMarks : ℕ → ℕ → ℕ → Which → ℕ → ℕ → Bool
-bridgeMarks i j d letter-place k x = false
-bridgeMarks i j d loop-place k x = false
-bridgeMarks i j d scatter-block k x = false
-bridgeMarks i j d scatter-source k x = false
-bridgeMarks i j d scatter-target k x = false
-bridgeMarks i j d gather-block k x = false
-bridgeMarks i j d gather-source k x = false
-bridgeMarks i j d gather-target k x = false
-bridgeMarks i j d leaving k x = eqb x i && eqb d k
-bridgeMarks i j d entering k x = eqb x j && eqb d k
-bridgeMarks i j d back-source k x = false
-bridgeMarks i j d back-target k x = false
+-- a number for each kind: from 3 on three for scatter, for gather, for propagate and for the back edges, of which the last two have no block
+abbrev pub number : Which → ℕ
+number letter-place = 0
+number loop-place = 1
+number scatter-block = 3
+number scatter-source = 4
+number scatter-target = 5
+number gather-block = 6
+number gather-source = 7
+number gather-target = 8
+number leaving = 10
+number entering = 11
+number back-source = 13
+number back-target = 14
 
--- a back edge of depth d from i to j
-abbrev pub returnMarks : ℕ → ℕ → ℕ → Which → ℕ → ℕ → Bool
-returnMarks i j d letter-place k x = false
-returnMarks i j d loop-place k x = false
-returnMarks i j d scatter-block k x = false
-returnMarks i j d scatter-source k x = false
-returnMarks i j d scatter-target k x = false
-returnMarks i j d gather-block k x = false
-returnMarks i j d gather-source k x = false
-returnMarks i j d gather-target k x = false
-returnMarks i j d leaving k x = false
-returnMarks i j d entering k x = false
-returnMarks i j d back-source k x = eqb x i && eqb d k
-returnMarks i j d back-target k x = eqb x j && eqb d k
+abbrev pub sameKind : Which → Which → Bool
+sameKind v w = eqb (number v) (number w)
+
+-- A STROKE: in the mask of one kind of one depth, its row, the states from `from` on and before `to`
+pub record Stroke : Type 0 where
+  pub which : Which
+  pub row : ℕ
+  pub from : ℕ
+  pub to : ℕ
+
+abbrev pub stroke : Which → ℕ → ℕ → ℕ → Stroke
+stroke w k a z = record { which = w; row = k; from = a; to = z }
+
+abbrev pub oneState : Which → ℕ → ℕ → Stroke
+oneState w k x = stroke w k x (suc x)
+
+abbrev pub covers : Stroke → ℕ → ℕ → Bool
+covers s k x = (leb (s .from) x && ltb x (s .to)) && eqb (s .row) k
+
+-- a propagate edge, and a back edge, of depth d from i to j
+abbrev pub propagateStrokes : ℕ → ℕ → ℕ → List Stroke
+propagateStrokes d i j = oneState leaving d i ∷ oneState entering d j ∷ []
+
+abbrev pub backStrokes : ℕ → ℕ → ℕ → List Stroke
+backStrokes d i j = oneState back-source d i ∷ oneState back-target d j ∷ []
 
 -- a letter from state t at depth d
-abbrev pub letterMarks : Repeat → ℕ → ℕ → Which → ℕ → ℕ → Bool
-letterMarks r t d letter-place k x = eqb x (suc t) && eqb 0 k
-letterMarks r t d loop-place k x = canLoop r && (eqb x (suc t) && eqb 0 k)
-letterMarks r t d scatter-block k x = false
-letterMarks r t d scatter-source k x = false
-letterMarks r t d scatter-target k x = false
-letterMarks r t d gather-block k x = false
-letterMarks r t d gather-source k x = false
-letterMarks r t d gather-target k x = false
-letterMarks r t d leaving k x = canSkip r && bridgeMarks t (suc t) d leaving k x
-letterMarks r t d entering k x = canSkip r && bridgeMarks t (suc t) d entering k x
-letterMarks r t d back-source k x = false
-letterMarks r t d back-target k x = false
+abbrev pub letterStrokes : Repeat → ℕ → ℕ → List Stroke
+letterStrokes r t d =
+    oneState letter-place 0 (suc t) ∷ (cond (canLoop r) (oneState loop-place 0 (suc t) ∷ []) [] ++ cond (canSkip r) (propagateStrokes d t (suc t)) [])
 
--- the open of a union that starts in t at depth d
-abbrev pub openMarks : ℕ → ℕ → Which → ℕ → ℕ → Bool
-openMarks t d letter-place k x = false
-openMarks t d loop-place k x = false
-openMarks t d scatter-block k x = false
-openMarks t d scatter-source k x = eqb x t && eqb d k
-openMarks t d scatter-target k x = eqb x (suc t) && eqb d k
-openMarks t d gather-block k x = false
-openMarks t d gather-source k x = false
-openMarks t d gather-target k x = false
-openMarks t d leaving k x = false
-openMarks t d entering k x = false
-openMarks t d back-source k x = false
-openMarks t d back-target k x = false
+-- the open of a union that starts in t at depth d; a bar after the alternative that ends in z
+abbrev pub openStrokes : ℕ → ℕ → List Stroke
+openStrokes t d = oneState scatter-source d t ∷ oneState scatter-target d (suc t) ∷ []
 
--- a bar after the alternative that ends in z, of a union at depth d
-abbrev pub barMarks : ℕ → ℕ → Which → ℕ → ℕ → Bool
-barMarks z d letter-place k x = false
-barMarks z d loop-place k x = false
-barMarks z d scatter-block k x = false
-barMarks z d scatter-source k x = false
-barMarks z d scatter-target k x = eqb x (suc z) && eqb d k
-barMarks z d gather-block k x = false
-barMarks z d gather-source k x = eqb x z && eqb d k
-barMarks z d gather-target k x = false
-barMarks z d leaving k x = false
-barMarks z d entering k x = false
-barMarks z d back-source k x = false
-barMarks z d back-target k x = false
+abbrev pub barStrokes : ℕ → ℕ → List Stroke
+barStrokes z d = oneState scatter-target d (suc z) ∷ oneState gather-source d z ∷ []
 
--- a close after the alternative from a to z, of a union at depth d whose first alternative ends in f
-abbrev pub closeMarks : ℕ → ℕ → ℕ → ℕ → Which → ℕ → ℕ → Bool
-closeMarks z d f a letter-place k x = false
-closeMarks z d f a loop-place k x = false
-closeMarks z d f a scatter-block k x = eqb x (suc a) && eqb d k
-closeMarks z d f a scatter-source k x = false
-closeMarks z d f a scatter-target k x = false
-closeMarks z d f a gather-block k x = (leb f x && ltb x (suc z)) && eqb d k
-closeMarks z d f a gather-source k x = eqb x z && eqb d k
-closeMarks z d f a gather-target k x = eqb x (suc z) && eqb d k
-closeMarks z d f a leaving k x = false
-closeMarks z d f a entering k x = false
-closeMarks z d f a back-source k x = false
-closeMarks z d f a back-target k x = false
+-- the end of the union f at depth d after the alternative that ends in z; its close, which shows an edge over the union and one back, or none
+abbrev pub endStrokes : Frame → ℕ → ℕ → List Stroke
+endStrokes f z d =
+    oneState scatter-block d (suc (f .alternative))
+    ∷ stroke gather-block d (cond (f .barred) (f .firstEnd) z) (suc z)
+    ∷ oneState gather-source d z
+    ∷ oneState gather-target d (suc z)
+    ∷ []
 
--- by the open unions; a close also bridges its union, and leads back, if it shows so
-abbrev pub barMarksIn : ℕ → List Frame → Which → ℕ → ℕ → Bool
-barMarksIn z [] w k x = false
-barMarksIn z (f ∷ st) w k x = barMarks z (length st) w k x
+abbrev pub closeStrokes : Mark → Frame → ℕ → ℕ → List Stroke
+closeStrokes m f z d =
+    endStrokes f z d ++ (cond (canOmit m) (propagateStrokes d (f .start) (suc z)) [] ++ cond (canReturn m) (backStrokes d z (suc (f .start))) [])
 
-abbrev pub closeMarksIn : Mark → ℕ → List Frame → Which → ℕ → ℕ → Bool
-closeMarksIn m z [] w k x = false
-closeMarksIn m z (f ∷ st) w k x =
-    closeMarks z (length st) (cond (f .barred) (f .firstEnd) z) (f .alternative) w k x
-    || ((canOmit m && bridgeMarks (f .start) (suc z) (length st) w k x) || (canReturn m && returnMarks z (suc (f .start)) (length st) w k x))
+-- by the open unions
+abbrev pub barStrokesIn : ℕ → List Frame → List Stroke
+barStrokesIn z [] = []
+barStrokesIn z (f ∷ st) = barStrokes z (length st)
+
+abbrev pub closeStrokesIn : Mark → ℕ → List Frame → List Stroke
+closeStrokesIn m z [] = []
+closeStrokesIn m z (f ∷ st) = closeStrokes m f z (length st)
+
+-- THE STROKES OF A TOKEN
+abbrev pub strokes : Token → Scan → List Stroke
+strokes (aLetter c r) q = letterStrokes r (q .position) (length (q .stack))
+strokes anOpen q = openStrokes (q .position) (length (q .stack))
+strokes aBar q = barStrokesIn (q .position) (q .stack)
+strokes (aClose m) q = closeStrokesIn m (q .position) (q .stack)
+
+-- of the masks of kind w, the state x at depth k
+abbrev pub marks : Which → ℕ → ℕ → Stroke → Bool
+marks w k x s = sameKind (s .which) w && covers s k x
 
 abbrev pub mark : Token → Scan → Which → ℕ → ℕ → Bool
-mark (aLetter c r) q w k x = letterMarks r (q .position) (length (q .stack)) w k x
-mark anOpen q w k x = openMarks (q .position) (length (q .stack)) w k x
-mark aBar q w k x = barMarksIn (q .position) (q .stack) w k x
-mark (aClose m) q w k x = closeMarksIn m (q .position) (q .stack) w k x
+mark y q w k x = any (marks w k x) (strokes y q)
 
 -- LAY OUT: what the tokens that are still to come mark
 abbrev pub layOut : List Token → Scan → Which → ℕ → ℕ → Bool

@@ -1,18 +1,17 @@
 -- `stroke::mark_close`: scatter's block, gather's three one after another, and the edge over the union and the one back, where they are.
 use mathlib.Core.Bool.{Bool, cond}
 use mathlib.Core.List.{List}
-use mathlib.Core.Path.{ap, _∙_}
-use Prim.Native.Nat.{ℕ, _+_}
+use mathlib.Core.Path.{sym, ap, ap₂, _∙_}
+use Prim.Native.Nat.{ℕ, suc, _+_}
+use native.Mathlib.Numerals.{add-one}
 use native.Mathlib.Omega.{arith}
-use Rattle.tokens_masks.specs.Masks.{paintThree, strokeIn}
-use Rattle.tokens_masks.specs.Strokes.{noStroke, oneState, stroke}
+use Rattle.tokens.specs.Scans.{frameOf}
+use Rattle.tokens.specs.Tokens.{markOf}
+use Rattle.tokens_masks.proofs.Strokes.{close-in}
+use Rattle.tokens_masks.specs.Masks.{edgeIn, runIn}
 use borrow.Author.Needs.{needs}
 use Rattle.tokens_masks.proofs.stroke.mark_close.Statement.{statement}
 use Rattle.tokens_masks.proofs.stroke.mark_close.Tie as tie
-
--- an edge if there is one
-abbrev edge : List ℕ → Bool → (d i j : ℕ) → List ℕ
-edge ms o d i j = paintThree ms noStroke (cond o (oneState d i) noStroke) (cond o (oneState d j) noStroke)
 
 add-mark : tie.Need-add-mark
 add-mark c = search needs
@@ -70,16 +69,23 @@ same-length-4 c = search needs
 
 returns : tie.Need-returns
 returns c =
-    let a = c .before .before .before .before .before .before .before .before .before .before .before .before .before .before .before .before .before .before .before .before .before .before .before .before .before .before .before .before .before .before .before .before .before .args in (
-      c .before .before .before .before .before .before .before .before .before .before .before .before .before .before .before .before .before .before .before .before .before .before .before .before .before .before .mark .ensures,
+    let a = c .before .before .before .before .before .before .before .before .before .before .before .before .before .before .before .before .before .before .before .before .before .before .before .before .before .before .before .before .before .before .before .before .before .args in
+    let g = a .gather .now in
+    let d = a .depth in
+    let z = a .position in
+    let C = close-in (markOf (a .shown)) (frameOf (a .frame)) z d g (a .scatter .now) g (a .propagate .now) (a .back .now) in
+    let e = add-one z in (
+      c .before .before .before .before .before .before .before .before .before .before .before .before .before .before .before .before .before .before .before .before .before .before .before .before .before .before .mark .ensures ∙ ap (λ (x : ℕ). runIn (a .scatter .now) 0 d x (suc x)) (add-one (a .frame .alternative)) ∙ sym (C .scatter),
       (
         c .before .before .before .before .before .before .before .before .before .before .before .before .before .mark3 .ensures
-            ∙ ap (λ (ms : List ℕ). strokeIn ms 2 (oneState (a .depth) (a .position + 1))) (c .before .before .before .before .before .before .before .before .before .before .before .before .before .before .before .before .before .mark2 .ensures
-            ∙ ap (λ (ms : List ℕ). strokeIn ms 1 (oneState (a .depth) (a .position))) (c .before .before .before .before .before .before .before .before .before .before .before .before .before .before .before .before .before .before .before .before .before .mark-run .ensures
-            ∙ ap (λ (n : ℕ). strokeIn (a .gather .now) 0 (stroke (a .depth) n (a .position + 1))) (c .before .before .before .before .before .before .before .before .before .before .before .before .before .before .before .before .before .before .before .before .before .before .before .first-end-of .ensures))),
+            ∙ ap (λ (ms : List ℕ). runIn ms 2 d (z + 1) (suc (z + 1))) (c .before .before .before .before .before .before .before .before .before .before .before .before .before .before .before .before .before .mark2 .ensures
+            ∙ ap (λ (ms : List ℕ). runIn ms 1 d z (suc z)) (c .before .before .before .before .before .before .before .before .before .before .before .before .before .before .before .before .before .before .before .before .before .mark-run .ensures
+            ∙ ap (λ (n : ℕ). runIn g 0 d n (z + 1)) (c .before .before .before .before .before .before .before .before .before .before .before .before .before .before .before .before .before .before .before .before .before .before .before .first-end-of .ensures)))
+            ∙ ap (λ (x : ℕ). runIn (runIn (runIn g 0 d (cond (a .frame .barred) (a .frame .«first_end») z) x) 1 d z (suc z)) 2 d x (suc x)) e
+            ∙ sym (C .gather),
         (
-          c .before .before .before .before .before .before .before .before .bridge .ensures ∙ ap (λ (o : Bool). edge (a .propagate .now) o (a .depth) (a .frame .start) (a .position + 1)) (c .before .before .before .before .before .before .before .before .before .can-omit .ensures),
-          c .before .before .bridge2 .ensures ∙ ap (λ (o : Bool). edge (a .back .now) o (a .depth) (a .position) (a .frame .start + 1)) (c .before .before .before .before .can-return .ensures),
+          c .before .before .before .before .before .before .before .before .bridge .ensures ∙ ap₂ (λ (o : Bool) (x : ℕ). cond o (edgeIn (a .propagate .now) d (a .frame .start) x) (a .propagate .now)) (c .before .before .before .before .before .before .before .before .before .can-omit .ensures) e ∙ sym (C .propagate),
+          c .before .before .bridge2 .ensures ∙ ap₂ (λ (o : Bool) (x : ℕ). cond o (edgeIn (a .back .now) d z x) (a .back .now)) (c .before .before .before .before .can-return .ensures) (add-one (a .frame .start)) ∙ sym (C .back),
         ),
       ),
     )

@@ -1,9 +1,9 @@
 -- `stroke::mark_open`: the union's start, then its first alternative's.
 use mathlib.Core.List.{List}
-use mathlib.Core.Path.{ap, _∙_}
-use Prim.Native.Nat.{ℕ, _+_}
-use Rattle.tokens_masks.specs.Masks.{strokeIn}
-use Rattle.tokens_masks.specs.Strokes.{oneState}
+use mathlib.Core.Path.{ap₂, _∙_}
+use Prim.Native.Nat.{ℕ, suc}
+use native.Mathlib.Numerals.{add-one}
+use Rattle.tokens_masks.specs.Masks.{runIn}
 use borrow.Author.Needs.{needs}
 use Rattle.tokens_masks.proofs.stroke.mark_open.Statement.{statement}
 use Rattle.tokens_masks.proofs.stroke.mark_open.Tie as tie
@@ -23,7 +23,8 @@ same-length c = search needs
 returns : tie.Need-returns
 returns c =
     let a = c .before .before .before .before .before .before .before .before .before .args in
-    c .before .before .mark2 .ensures ∙ ap (λ (ms : List ℕ). strokeIn ms 2 (oneState (a .depth) (a .position + 1))) (c .before .before .before .before .before .before .mark .ensures)
+    c .before .before .mark2 .ensures
+    ∙ ap₂ (λ (ms : List ℕ) (x : ℕ). runIn ms 2 (a .depth) x (suc x)) (c .before .before .before .before .before .before .mark .ensures) (add-one (a .position))
 
 pub mark-open-spec : {M : Type 1} → statement M
 mark-open-spec = tie.close (tie.spec mark-requires add-mark mark-requires-2 same-length returns)

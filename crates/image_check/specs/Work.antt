@@ -15,9 +15,9 @@ use Rattle.image_sections.specs.declared.Sections.{Sections}
 use Rattle.image.specs.Work.{threeRows, twoRows}
 use Rattle.image_apart.specs.Work.{wordsAt}
 
-abbrev pub sameRepeats : List ℕ → Sections → List ℕ → Bool
-sameRepeats ws s loops =
-    sameWords (wordsAt ws (s .repeats) (s .width * 256)) (join 256 0 (λ b. andWords (wordsAt ws (s .letters + s .width * b) (s .width)) loops))
+-- the repeats, beside the letters at the loops' places
+abbrev pub sameRepeats : List ℕ → (letters repeats W : ℕ) → List ℕ → Bool
+sameRepeats ws letters repeats W loops = sameWords (wordsAt ws repeats (W * 256)) (join 256 0 (λ b. andWords (wordsAt ws (letters + W * b) W) loops))
 
 -- of the masks of one depth k, three to a depth, `count` from the one of number `first` on; and those of all depths, from a place on
 abbrev pub depthMasks : (W first count : ℕ) (masks : List ℕ) → ℕ → List ℕ
@@ -46,7 +46,7 @@ sameBack ws at W d t =
 abbrev pub sameAll : List ℕ → Sections → List ℕ → Tape → Bool
 sameAll ws s letters t =
     sameWords letters (getD (tableOf t letter-place) 0 [])
-    && (sameRepeats ws s (getD (tableOf t loop-place) 0 [])
+    && (sameRepeats ws (s .letters) (s .repeats) (s .width) (getD (tableOf t loop-place) 0 [])
     && (sameScatter ws (s .scatter) (s .width) (s .depth) t
     && (sameGather ws (s .gather) (s .width) (s .depth) t
     && (samePropagate ws (s .propagate) (s .width) (s .depth) t && sameBack ws (s .back) (s .width) (s .depth) t))))

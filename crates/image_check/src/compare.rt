@@ -14,7 +14,7 @@ ghost use Rattle.image_check.specs.Work.{sameAll, sameMasks, sameRepeats
 // Each mask of the repeats is the byte's mask of the letters at the loops' places.
 fn repeats_differ(words: &[u64], sections: Sections, loops: [u64; 8]) -> bool
     requires { ⌜ Within sections (lengthOf (now words)) ⌝ }
-    ensures { λ r. ⌜ r ≡ not (sameRepeats (now (words .entry)) sections loops) ⌝ }
+    ensures { λ r. ⌜ r ≡ not (sameRepeats (now (words .entry)) (sections .letters) (sections .repeats) (sections .width) loops) ⌝ }
 {
     let letters = sections.letters;
     let repeats = sections.repeats;
@@ -103,7 +103,15 @@ pub fn agrees(
     if masks_differ(words, sections.gather, width, depth, 0, 3, gathers) {
         return false;
     }
-    if masks_differ(words, sections.propagate, width, depth + 1, 0, 3, propagates) {
+    if masks_differ(
+        words,
+        sections.propagate,
+        width,
+        depth + 1,
+        0,
+        3,
+        propagates,
+    ) {
         return false;
     }
     !masks_differ(words, sections.back, width, depth, 1, 2, backs)

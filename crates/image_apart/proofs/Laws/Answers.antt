@@ -69,8 +69,8 @@ module _ {ws : List ℕ} {p : Sections} {marks : Marks} {t : Tape} (fit : Fit ws
 -- put together from what the parts have answered; h is how a kind lies in memory
 pub taken-says : {ws : List ℕ} {answer : Header} {p : Sections} {marks : Marks} {t : Tape} {A : Type 0} (h : ℕ → A) → Fit ws
     → answer ≡ headerIf (headerFits ws) ws → answer ≡ Sound p → marks ≡ marksOf ws p → ShownBy marks (p .states - 1) t
-    → length (map h (t .kinds)) ≡ 512 → ApartSays ws (record { header = answer; letters = marks .letters; tape = t })
+    → length (map h (t .kinds)) ≡ 512 → ApartSays ws (record { header = Sound p; letters = marks .letters; tape = t })
 taken-says {ws} {t = t} h f e g q s r =
     let D = told (headerFits ws) ws e g in
     let k : length (t .kinds) ≡ 512 = sym (length-map (t .kinds) h) ∙ r in
-    taken (header-is ws .0 (D .passed)) (g ∙ ap Sound (D .own)) (letters-are f D q s k) (tape-shown f D q s k)
+    taken (header-is ws .0 (D .passed)) (ap Sound (D .own)) (letters-are f D q s k) (tape-shown f D q s k)

@@ -80,6 +80,10 @@ module _ (ws : List ℕ) (fit : Fit ws) (m W d : ℕ) (narrow : W ≤ 8) (long :
   letters-long = rows-length (λ b. wordsAt ws (letterPlace W b) W) 256
 
 -- ---- the other rows, where the words say the width and the depth
+-- what the masks show, by the width that the words say
+abbrev pub shows : List ℕ → Marks
+shows ws = marksOf ws (sectionsFor (stateWord ws) (widthWord ws) (depthWord ws))
+
 module _ (ws : List ℕ) (fit : Fit ws) where
   abbrev W : ℕ
   W = widthWord ws
@@ -87,20 +91,17 @@ module _ (ws : List ℕ) (fit : Fit ws) where
   abbrev d : ℕ
   d = depthWord ws
 
-  abbrev shows : Marks
-  shows = marksOf ws (sectionsFor (stateWord ws) W d)
-
   module _ (narrow : W ≤ 8) (long : length ws ≡ imageLength W d) where
     masks : (at : ℕ) → at + W ≤ length ws → Mask (wordsAt ws at W)
     masks = words-mask ws fit (stateWord ws) W d narrow long
 
-    loops-row : (x : ℕ) → bit (value (shows .loops)) x ≡ anyBelow 256 (λ b. bitOf W (repeatsIn ws) b x)
+    loops-row : (x : ℕ) → bit (value (shows ws .loops)) x ≡ anyBelow 256 (λ b. bitOf W (repeatsIn ws) b x)
     loops-row x =
         row-bit 256 (λ b. wordsAt ws (repeatPlace W b) W) (λ b. bitOf W (repeatsIn ws) b x) x
         (λ b h. masks (repeatPlace W b) (omega (arith, part-fits W h)))
         (λ b h. mask-bit x (chunk-at ws (repeatsIn ws) (repeatsAt W) W refl b))
 
-    closes-row : (x : ℕ) → bit (value (shows .closes)) x ≡ anyBelow d (λ k. bitOfThree W (gatherIn ws) 2 k x)
+    closes-row : (x : ℕ) → bit (value (shows ws .closes)) x ≡ anyBelow d (λ k. bitOfThree W (gatherIn ws) 2 k x)
     closes-row x =
         row-bit d (λ k. wordsAt ws (at k) W) (λ k. bitOfThree W (gatherIn ws) 2 k x) x
         (λ k h. masks (at k) (omega (arith, part-fits (3 * W) h)))
@@ -109,7 +110,7 @@ module _ (ws : List ℕ) (fit : Fit ws) where
         at : ℕ → ℕ
         at k = gatherAt W d + 2 * W + 3 * W * k
 
-    opens-row : (x : ℕ) → bit (value (shows .opens)) x ≡ anyBelow d (λ k. bitOfThree W (scatterIn ws) 1 k x)
+    opens-row : (x : ℕ) → bit (value (shows ws .opens)) x ≡ anyBelow d (λ k. bitOfThree W (scatterIn ws) 1 k x)
     opens-row x =
         row-bit d (λ k. wordsAt ws (at k) W) (λ k. bitOfThree W (scatterIn ws) 1 k x) x
         (λ k h. masks (at k) (omega (arith, part-fits (3 * W) h)))
@@ -118,7 +119,7 @@ module _ (ws : List ℕ) (fit : Fit ws) where
         at : ℕ → ℕ
         at k = scatterAt W + W + 3 * W * k
 
-    returns-row : (x : ℕ) → bit (value (shows .returns)) x ≡ anyBelow d (λ k. bitOfTwo W (backIn ws) 0 k x)
+    returns-row : (x : ℕ) → bit (value (shows ws .returns)) x ≡ anyBelow d (λ k. bitOfTwo W (backIn ws) 0 k x)
     returns-row x =
         row-bit d (λ k. wordsAt ws (at k) W) (λ k. bitOfTwo W (backIn ws) 0 k x) x
         (λ k h. masks (at k) (omega (arith, part-fits (2 * W) h)))
@@ -128,7 +129,7 @@ module _ (ws : List ℕ) (fit : Fit ws) where
         at k = backAt W d + 2 * W * k
 
     -- in a block and not its source
-    entered-row : (x : ℕ) → bit (value (shows .entered)) x
+    entered-row : (x : ℕ) → bit (value (shows ws .entered)) x
         ≡ anyBelow (suc d) (λ k. bitOfThree W (propagateIn ws) 0 k x && not (bitOfThree W (propagateIn ws) 1 k x))
     entered-row x =
         row-bit (suc d) (λ k. enteredWords ws (at k) W) (λ k. bitOfThree W (propagateIn ws) 0 k x && not (bitOfThree W (propagateIn ws) 1 k x)) x
@@ -159,7 +160,7 @@ module _ (ws : List ℕ) (fit : Fit ws) where
         same-length : (k : ℕ) → k < suc d → length (wordsAt ws (at k) W) ≡ length (wordsAt ws (at k + W) W)
         same-length k h = words-long ws (at k) W (omega (arith, room k h)) ∙ sym (words-long ws (at k + W) W (omega (arith, room k h)))
 
-    kind-of-token : (i : ℕ) → kindAt shows i ≡ kindOf (tokenAt ws i)
+    kind-of-token : (i : ℕ) → kindAt (shows ws) i ≡ kindOf (tokenAt ws i)
     kind-of-token i =
         (λ j. cond (letters-row ws fit (stateWord ws) W d narrow long (suc i) j) (repeatKind (repeatOf (entered-row (suc i) j) (loops-row (suc i) j)))
         (cond (closes-row (suc i) j) (markKind (markOf (entered-row (suc i) j) (returns-row i j))) (cond (opens-row i j) openKind barKind)))

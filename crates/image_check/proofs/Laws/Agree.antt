@@ -15,7 +15,7 @@ use lib.Seq.{drop-append-add, length-take-le, take-at}
 use Rattle.model.specs.Bits.{bit, mask}
 use Rattle.model.specs.Image.{join}
 use Rattle.model.specs.Models.Apart.{anyBelow, tape}
-use Rattle.model.specs.Models.Sections.{backAt, backIn, bitOf, chunk, depthWord, gatherAt, gatherIn, lettersIn, propagateAt, propagateIn, repeatsIn, scatterAt, scatterIn, stateWord, widthWord}
+use Rattle.model.specs.Models.Sections.{backAt, backIn, bitOf, chunk, depthWord, gatherAt, gatherIn, letterPlace, lettersAt, lettersIn, propagateAt, propagateIn, repeatsAt, repeatsIn, scatterAt, scatterIn, stateWord, widthWord}
 use Rattle.model.specs.Models.LayOut.{back-source, back-target, begin, blockOf, gather-block, gather-source, gather-target, layOut, letter-place, loop-place, scatter-block, scatter-source, scatter-target, set, sourceOf, targetOf, three, tokenLetters, two, Which}
 use Rattle.model.specs.Models.Tokens.{Token}
 use Rattle.model.specs.Models.Verdict.{sameWords}
@@ -39,7 +39,7 @@ use Rattle.tokens_masks.proofs.Painted.{propagate-block-is, propagate-source-is
 use Rattle.image.specs.Work.{threeRows, twoRows}
 use Rattle.image_apart.specs.Work.{wordsAt}
 use Rattle.image_check.specs.Work.{sameBack, sameGather, samePropagate, sameRepeats, sameScatter, sameTables}
-use Rattle.model.proofs.Image.Address.{back-at, chunk-at, gather-at, part-fits, part-of-part, propagate-at, repeats-at, scatter-at}
+use Rattle.model.proofs.Image.Address.{chunk-at, part-fits, part-of-part}
 
 -- ---- a section and its parts
 chunk-below : (w n a : ℕ) (g : ℕ → List ℕ) → ((k : ℕ) → k < n → length (g (a + k)) ≡ w) → (k : ℕ) → k < n → chunk w k (join n a g) ≡ g (a + k)
@@ -71,7 +71,7 @@ module _ (w n : ℕ) (g : ℕ → List ℕ) (long : (k : ℕ) → k < n → leng
       → T (sameWords (take (w * n) S) (join n 0 f)) ↔ ((k : ℕ) → k < n → chunk w k S ≡ g k)
   section-is f r = (
     λ t. parts-of (same-words (take (w * n) S) (join n 0 f) t ∙ rows),
-    λ h. subst (λ (l : List ℕ). T (sameWords (take (w * n) S) l)) (whole w n g S h ∙ sym rows) (words-same (take (w * n) S)),
+    λ h. subst (λ (l : List ℕ). T (sameWords (take (w * n) S) l)) (whole S 0 w n g h ∙ sym rows) (words-same (take (w * n) S)),
   )
     where
       rows : join n 0 f ≡ join n 0 g
@@ -117,32 +117,31 @@ module _ (ws : List ℕ) (t : Tape) (taken : tokensOf t ≡ bares (tape ws)) (tr
 
   -- ---- scatter, gather and propagate
   -- three masks for each of n depths, from a place on
-  tables-is : (at n : ℕ) (block source target : Table) (f g h : ℕ → ℕ → Bool) (S : List ℕ) → S ≡ drop at ws
+  tables-is : (at n : ℕ) (block source target : Table) (f g h : ℕ → ℕ → Bool)
       → ((k : ℕ) → k < n → threeRows W (getD block k []) (getD source k []) (getD target k []) ≡ three m W (f k) (g k) (h k))
-      → T (sameTables ws at W n block source target) ↔ ((k : ℕ) → k < n → chunk (3 * W) k S ≡ three m W (f k) (g k) (h k))
-  tables-is at n block source target f g h S e r =
-      subst (λ (z : List ℕ). T (sameTables ws at W n block source target) ↔ ((k : ℕ) → k < n → chunk (3 * W) k z ≡ three m W (f k) (g k) (h k))) (sym e)
-      (section-is (3 * W) n (λ k. three m W (f k) (g k) (h k)) (λ k q. length-three m W (f k) (g k) (h k)) (drop at ws)
-      (λ k. threeRows W (getD block k []) (getD source k []) (getD target k [])) r)
+      → T (sameTables ws at W n block source target) ↔ ((k : ℕ) → k < n → chunk (3 * W) k (drop at ws) ≡ three m W (f k) (g k) (h k))
+  tables-is at n block source target f g h r =
+      section-is (3 * W) n (λ k. three m W (f k) (g k) (h k)) (λ k q. length-three m W (f k) (g k) (h k)) (drop at ws)
+      (λ k. threeRows W (getD block k []) (getD source k []) (getD target k [])) r
 
   module _ (shallow : d ≤ 8) where
     pub scatter-is : T (sameScatter ws (scatterAt W) W d t)
         ↔ ((k : ℕ) → k < d → chunk (3 * W) k (scatterIn ws) ≡ three m W (B scatter-block k) (B scatter-source k) (B scatter-target k))
     scatter-is =
         tables-is (scatterAt W) d (tableOf t scatter-block) (tableOf t scatter-source) (tableOf t scatter-target) (B scatter-block) (B scatter-source)
-        (B scatter-target) (scatterIn ws) (scatter-at ws) (λ k h. threes scatter-block scatter-source scatter-target k (omega arith))
+        (B scatter-target) (λ k h. threes scatter-block scatter-source scatter-target k (omega arith))
 
     pub gather-is : T (sameGather ws (gatherAt W d) W d t)
         ↔ ((k : ℕ) → k < d → chunk (3 * W) k (gatherIn ws) ≡ three m W (B gather-block k) (B gather-source k) (B gather-target k))
     gather-is =
         tables-is (gatherAt W d) d (tableOf t gather-block) (tableOf t gather-source) (tableOf t gather-target) (B gather-block) (B gather-source)
-        (B gather-target) (gatherIn ws) (gather-at ws) (λ k h. threes gather-block gather-source gather-target k (omega arith))
+        (B gather-target) (λ k h. threes gather-block gather-source gather-target k (omega arith))
 
     pub propagate-is : T (samePropagate ws (propagateAt W d) W d t)
         ↔ ((k : ℕ) → k < suc d → chunk (3 * W) k (propagateIn ws) ≡ three m W (blockOf B k) (sourceOf B k) (targetOf B k))
     propagate-is =
         tables-is (propagateAt W d) (suc d) (propagateBlockTable t) (propagateSourceTable t) (propagateTargetTable t) (blockOf B) (sourceOf B) (targetOf B)
-        (propagateIn ws) (propagate-at ws) rows
+        rows
       where
         bare : (w : Which) (k x : ℕ) → layOut (bares l) begin w k x ≡ B w k x
         bare w k x = bares-lay l begin w k x
@@ -158,13 +157,12 @@ module _ (ws : List ℕ) (t : Tape) (taken : tokensOf t ≡ bares (tape ws)) (tr
     -- two masks for each depth: the back edges
     pub back-is : T (sameBack ws (backAt W d) W d t) ↔ ((k : ℕ) → k < d → chunk (2 * W) k (backIn ws) ≡ two m W (B back-source k) (B back-target k))
     back-is =
-        subst (λ (z : List ℕ). T (sameBack ws (backAt W d) W d t) ↔ ((k : ℕ) → k < d → chunk (2 * W) k z ≡ two m W (B back-source k) (B back-target k))) (sym (back-at ws))
-        (section-is (2 * W) d (λ k. two m W (B back-source k) (B back-target k)) (λ k q. length-two m W (B back-source k) (B back-target k)) (drop (backAt W d) ws)
+        section-is (2 * W) d (λ k. two m W (B back-source k) (B back-target k)) (λ k q. length-two m W (B back-source k) (B back-target k)) (backIn ws)
         (λ k. twoRows W (getD (tableOf t back-source) k []) (getD (tableOf t back-target) k []))
-        (λ k h i. cut (B back-source k) (row back-source k (omega arith)) i ++ cut (B back-target k) (row back-target k (omega arith)) i))
+        (λ k h i. cut (B back-source k) (row back-source k (omega arith)) i ++ cut (B back-target k) (row back-target k (omega arith)) i)
 
   -- ---- repeats
-  module _ (room : 5 + W * 256 ≤ length ws) where
+  module _ (room : letterPlace W 256 ≤ length ws) where
     and-first : (n : ℕ) (xs ys : List ℕ) → length xs ≡ n → andWords xs ys ≡ andWords xs (take n ys)
     and-first zero [] ys e = refl
     and-first zero (x ∷ xs) ys e = absurd (omega arith)
@@ -180,34 +178,25 @@ module _ (ws : List ℕ) (t : Tape) (taken : tokensOf t ≡ bares (tape ws)) (tr
     letter-long : (b : ℕ) → b < 256 → length (chunk W b (lettersIn ws)) ≡ W
     letter-long b h =
         length-take-le W (drop (W * b) (lettersIn ws))
-        (omega (arith, room, length-drop (W * b) (lettersIn ws), length-drop 5 ws, mul-le-mul-left W h, mul-suc W b))
+        (omega (arith, room, length-drop (W * b) (lettersIn ws), length-drop lettersAt ws, mul-le-mul-left W h, mul-suc W b))
 
     abbrev loops : List ℕ
     loops = set m W (B loop-place 0)
 
-    pub repeats-is : T (sameRepeats ws W (getD (tableOf t loop-place) 0 []))
+    pub repeats-is : T (sameRepeats ws lettersAt (repeatsAt W) W (getD (tableOf t loop-place) 0 []))
         ↔ ((b : ℕ) → b < 256 → chunk W b (repeatsIn ws) ≡ andWords (chunk W b (lettersIn ws)) loops)
     repeats-is =
-        subst (λ (z : List ℕ). T (sameRepeats ws W row₀) ↔ ((b : ℕ) → b < 256 → chunk W b z ≡ andWords (chunk W b (lettersIn ws)) loops)) (sym (repeats-at ws))
-        (subst (λ (z : ℕ). T (sameWords (wordsAt ws z (256 * W)) rows₀) ↔ Parts) (let e : 6 + W * 256 ≡ 6 + 256 * W = omega arith in e)
-        (subst (λ (z : ℕ). T (sameWords (take z (drop (6 + W * 256) ws)) rows₀) ↔ Parts) (let e : W * 256 ≡ 256 * W = omega arith in e)
-        (section-is W 256 (λ b. andWords (chunk W b (lettersIn ws)) loops) long (drop (6 + W * 256) ws) (λ b. andWords (wordsAt ws (5 + W * b) W) row₀) row-of)))
+        section-is W 256 (λ b. andWords (chunk W b (lettersIn ws)) loops) long (repeatsIn ws) (λ b. andWords (wordsAt ws (letterPlace W b) W) row₀) row-of
       where
         row₀ : List ℕ
         row₀ = getD (tableOf t loop-place) 0 []
 
-        rows₀ : List ℕ
-        rows₀ = join 256 0 (λ b. andWords (wordsAt ws (5 + W * b) W) row₀)
-
-        Parts : Type 0
-        Parts = (b : ℕ) → b < 256 → chunk W b (drop (6 + W * 256) ws) ≡ andWords (chunk W b (lettersIn ws)) loops
-
         long : (b : ℕ) → b < 256 → length (andWords (chunk W b (lettersIn ws)) loops) ≡ W
         long b h = and-long (chunk W b (lettersIn ws)) loops (letter-long b h ∙ sym (length-set m W (B loop-place 0))) ∙ letter-long b h
 
-        row-of : (b : ℕ) → b < 256 → andWords (wordsAt ws (5 + W * b) W) row₀ ≡ andWords (chunk W b (lettersIn ws)) loops
+        row-of : (b : ℕ) → b < 256 → andWords (wordsAt ws (letterPlace W b) W) row₀ ≡ andWords (chunk W b (lettersIn ws)) loops
         row-of b h =
-            ap (λ (z : List ℕ). andWords z row₀) (sym (chunk-at W b 5 (lettersIn ws) ws refl))
+            ap (λ (z : List ℕ). andWords z row₀) (sym (chunk-at W b lettersAt (lettersIn ws) ws refl))
             ∙ and-first W (chunk W b (lettersIn ws)) row₀ (letter-long b h)
             ∙ ap (andWords (chunk W b (lettersIn ws))) (cut (B loop-place 0) (row loop-place 0 (omega arith)))
 

@@ -4,20 +4,16 @@ use mathlib.Core.Logic.{_↔_}
 use mathlib.Core.Bool.{Bool, true, false, _&&_, cond}
 use mathlib.Core.List.{List, [], _∷_}
 use Prim.Native.Nat.{ℕ, suc, _+_, _-_, _*_, _≤_}
-use native.Mathlib.Nat.{mul-assoc, mul-comm, mul-suc}
 use native.Mathlib.Omega.{arith}
 use lib.Dec.{T, leb, le→leb}
-use lib.ListN.{drop, getD, length}
-use lib.Seq.{getD-drop}
+use lib.ListN.{getD, length}
 use Rattle.model.specs.Answers.{ImageOf}
-use Rattle.model.specs.Bits.{bit}
-use Rattle.model.specs.Edges.{states}
-use Rattle.model.specs.Models.Apart.{anyBelow, tape, tokenAt}
-use Rattle.model.specs.Models.Sections.{backAt, bitOf, depthWord, gatherAt, gatherIn, lettersIn, propagateAt, propagateIn, repeatsIn, scatterAt, scatterIn, stateWord, widthWord}
+use Rattle.model.specs.Models.Apart.{tape, tokenAt}
+use Rattle.model.specs.Models.Sections.{backAt, depthWord, gatherAt, letterPlace, lettersAt, propagateAt, repeatsAt, scatterAt, stateWord, widthWord}
 use Rattle.model.specs.Models.LayOut.{begin, letter-place, loop-place, reach, valid}
 use Rattle.model.specs.Models.Tokens.{parse, Token, tokens}
 use Rattle.model.specs.Models.Verdict.{accepts, sameWords}
-use Rattle.model.specs.Models.Words.{Fit, value}
+use Rattle.model.specs.Models.Words.{Fit}
 use Rattle.model.specs.Tree as tree
 use Rattle.model.proofs.Image.Compare.{Compared, compared-is, length-between}
 use Rattle.model.proofs.Image.Decided.{tape-of, verdict-some}
@@ -30,18 +26,11 @@ use Rattle.tokens_masks.specs.Tapes.{bares, isTree, shapeOf, tableOf, TapeOf, t
 use Rattle.tokens_masks.specs.declared.Shape.the-variants.{Other, Tree}
 use Rattle.tokens_masks.specs.declared.Tape.{Tape}
 use Rattle.tokens_masks.proofs.Bare.{bares-reach, bares-valid}
-use Rattle.image_apart.specs.Says.{Headed}
+use Rattle.image_sections.specs.Header.{Headed}
+use Rattle.image_sections.specs.Sections.{sectionsFor}
+use Rattle.image_apart.specs.Says.{LettersOf, ShownTape}
 use Rattle.image_check.specs.Work.{sameAll, sameBack, sameGather, samePropagate, sameRepeats, sameScatter}
-use Rattle.model.proofs.Image.Address.{gather-at, propagate-at, repeats-at, scatter-at}
 use Rattle.image_check.proofs.Laws.Agree.{back-is, gather-is, letters-is, propagate-is, repeats-is, scatter-is}
-
--- the count that follows n words of a section
-count-at : (S ws : List ℕ) (a n k : ℕ) → S ≡ drop a ws → a + n ≡ k → getD (drop n S) 0 0 ≡ getD ws k 0
-count-at S ws a n k e p =
-    ap (λ (z : List ℕ). getD (drop n z) 0 0) e
-    ∙ getD-drop n (drop a ws) 0 0
-    ∙ getD-drop a ws (n + 0) 0
-    ∙ ap (λ (j : ℕ). getD ws j 0) (let q : a + (n + 0) ≡ k = omega (arith, p) in q)
 
 -- ---- what well_formed says
 pub shape-tree : (t : Tape) (k : ℕ) → shapeOf t ≡ Tree k → T (isTree t) × (reach (tokensOf t) begin ≡ k)
@@ -54,10 +43,8 @@ shape-tree t k e = go (isTree t) e
 pub tree-shape : (t : Tape) → T (isTree t) → shapeOf t ≡ Tree (reach (tokensOf t) begin)
 tree-shape t h = ap (λ (b : Bool). cond b (Tree (reach (tokensOf t) begin)) Other) (is-true (isTree t) h)
 
--- ---- words with a header, and a tape taken from them
-module _ (ws : List ℕ) (fit : Fit ws) (H : Headed ws) (t : Tape) (size : t .length ≡ stateWord ws - 1) (taken : tokensOf t ≡ bares (tape ws))
-    (letters : List ℕ) (eight : length letters ≡ 8) (fit-letters : Fit letters)
-    (bits : (x : ℕ) → bit (value letters) x ≡ anyBelow 256 (λ b. bitOf (widthWord ws) (lettersIn ws) b x)) where
+-- ---- words with a header, and what was taken from them
+module _ (ws : List ℕ) (fit : Fit ws) (H : Headed ws) {letters : List ℕ} (L : LettersOf ws letters) {t : Tape} (S : ShownTape ws t) where
   abbrev l : List Token
   l = tape ws
 
@@ -80,21 +67,21 @@ module _ (ws : List ℕ) (fit : Fit ws) (H : Headed ws) (t : Tape) (size : t .le
   tree-of-tape : T (isTree t) ↔ T (valid l begin)
   tree-of-tape = (
     λ h. subst T valid-same (and-split (leb (t .length) 511) (valid (tokensOf t) begin) h .1),
-    λ v. and-both (leb (t .length) 511) (valid (tokensOf t) begin) (le→leb (t .length) 511 (omega (arith, size, H .few))) (subst T (sym valid-same) v),
+    λ v. and-both (leb (t .length) 511) (valid (tokensOf t) begin) (le→leb (t .length) 511 (omega (arith, S .long, H .few))) (subst T (sym valid-same) v),
   )
     where
       valid-same : valid (tokensOf t) begin ≡ valid l begin
-      valid-same = ap (λ (y : List Token). valid y begin) taken ∙ bares-valid l begin
+      valid-same = ap (λ (y : List Token). valid y begin) (S .tokens-are) ∙ bares-valid l begin
 
   reach-same : reach (tokensOf t) begin ≡ reach l begin
-  reach-same = ap (λ (y : List Token). reach y begin) taken ∙ bares-reach l begin
+  reach-same = ap (λ (y : List Token). reach y begin) (S .tokens-are) ∙ bares-reach l begin
 
   -- the six comparisons
   abbrev letters-same : Bool
   letters-same = sameWords letters (getD (tableOf t letter-place) 0 [])
 
   abbrev repeats-same : Bool
-  repeats-same = sameRepeats ws W (getD (tableOf t loop-place) 0 [])
+  repeats-same = sameRepeats ws lettersAt (repeatsAt W) W (getD (tableOf t loop-place) 0 [])
 
   abbrev scatter-same : Bool
   scatter-same = sameScatter ws (scatterAt W) W d t
@@ -108,10 +95,13 @@ module _ (ws : List ℕ) (fit : Fit ws) (H : Headed ws) (t : Tape) (size : t .le
   abbrev back-same : Bool
   back-same = sameBack ws (backAt W d) W d t
 
+  long : letterPlace W 256 ≤ length ws
+  long = omega (arith, H .counted .long)
+
   -- YES: then the words are the image of a tree, whose tape it is
-  pub yes : T (isTree t) → reach (tokensOf t) begin ≡ d → T (sameAll ws W d letters t) → (s : tree.Tree) × ImageOf ws s × TapeOf s t
+  pub yes : T (isTree t) → reach (tokensOf t) begin ≡ d → T (sameAll ws (sectionsFor (stateWord ws) W d) letters t) → (s : tree.Tree) × ImageOf ws s × TapeOf s t
   yes grown deep all =
-      (s, verdict-some ws s .0 (is-image ws s .1 I), record { long = size ∙ count ∙ ap length (sym its-tokens); tokens-are = taken ∙ ap bares (sym its-tokens) })
+      (s, verdict-some ws s .0 (is-image ws s .1 I), record { long = S .long ∙ count ∙ ap length (sym its-tokens); tokens-are = S .tokens-are ∙ ap bares (sym its-tokens) })
     where
       v : T (valid l begin)
       v = tree-of-tape .0 grown
@@ -133,27 +123,17 @@ module _ (ws : List ℕ) (fit : Fit ws) (H : Headed ws) (t : Tape) (size : t .le
 
       compared : Compared ws l
       compared = record {
-        long = H .long;
-        shape-count = H .shape-count;
+        counted = H .counted;
         states = b;
         width-word = H .width-word;
         level = sym deep ∙ reach-same;
-        letters-count = H .letters-count ∙ mul-comm 256 W;
-        repeats-count = count-at (lettersIn ws) ws 5 (W * 256) (5 + 256 * W) refl (omega arith) ∙ H .repeats-count ∙ mul-comm 256 W;
-        scatter-count = count-at (repeatsIn ws) ws (6 + W * 256) (W * 256) (6 + 512 * W) (repeats-at ws) (omega arith) ∙ H .scatter-count;
-        gather-count = count-at (scatterIn ws) ws (scatterAt W) (3 * W * d) (7 + 512 * W + 3 * W * d) (scatter-at ws) (omega arith) ∙ H .gather-count;
-        propagate-count =
-            count-at (gatherIn ws) ws (gatherAt W d) (3 * W * d) (8 + 512 * W + 6 * W * d) (gather-at ws) (omega (arith, mul-assoc 3 W d, mul-assoc 6 W d)) ∙ H .propagate-count;
-        back-count =
-            count-at (propagateIn ws) ws (propagateAt W d) (3 * W * suc d) (9 + 515 * W + 9 * W * d) (propagate-at ws)
-            (omega (arith, mul-assoc 3 W d, mul-assoc 9 W d, mul-suc (3 * W) d)) ∙ H .back-count;
-        letters = letters-is ws t taken grown b narrow (H .few) fits letters eight fit-letters bits .0
+        letters = letters-is ws t (S .tokens-are) grown b narrow (H .few) fits letters (L .eight) (L .fit) (L .bits) .0
             (and-split letters-same (repeats-same && (scatter-same && (gather-same && (propagate-same && back-same)))) all .0);
-        repeats = repeats-is ws t taken grown b narrow (omega (arith, H .long)) .0 (and-split repeats-same (scatter-same && (gather-same && (propagate-same && back-same))) rest₁ .0);
-        scatter = scatter-is ws t taken grown b narrow (H .shallow) .0 (and-split scatter-same (gather-same && (propagate-same && back-same)) rest₂ .0);
-        gather = gather-is ws t taken grown b narrow (H .shallow) .0 (and-split gather-same (propagate-same && back-same) rest₃ .0);
-        propagate = propagate-is ws t taken grown b narrow (H .shallow) .0 (and-split propagate-same back-same rest₄ .0);
-        back = back-is ws t taken grown b narrow (H .shallow) .0 (and-split propagate-same back-same rest₄ .1);
+        repeats = repeats-is ws t (S .tokens-are) grown b narrow long .0 (and-split repeats-same (scatter-same && (gather-same && (propagate-same && back-same))) rest₁ .0);
+        scatter = scatter-is ws t (S .tokens-are) grown b narrow (H .shallow) .0 (and-split scatter-same (gather-same && (propagate-same && back-same)) rest₂ .0);
+        gather = gather-is ws t (S .tokens-are) grown b narrow (H .shallow) .0 (and-split gather-same (propagate-same && back-same) rest₃ .0);
+        propagate = propagate-is ws t (S .tokens-are) grown b narrow (H .shallow) .0 (and-split propagate-same back-same rest₄ .0);
+        back = back-is ws t (S .tokens-are) grown b narrow (H .shallow) .0 (and-split propagate-same back-same rest₄ .1);
       }
 
       accepted : T (accepts ws)
@@ -185,66 +165,47 @@ module _ (ws : List ℕ) (fit : Fit ws) (s : tree.Tree) (I : ImageOf ws s) where
 
   pub image-headed : Headed ws
   image-headed = record {
-    shape-count = C .shape-count;
     some = omega (arith, C .states, some-token (tape ws) (whole .1));
     few = whole .0;
     width-word = C .width-word;
     shallow = subst (λ (n : ℕ). n ≤ 8) (sym (ap depthWord (I .laid))) (I .shallow);
-    long = C .long;
-    letters-count = C .letters-count ∙ mul-comm (widthWord ws) 256;
-    repeats-count = sym (count-at (lettersIn ws) ws 5 (widthWord ws * 256) (5 + 256 * widthWord ws) refl (omega arith)) ∙ C .repeats-count ∙ mul-comm (widthWord ws) 256;
-    scatter-count = sym (count-at (repeatsIn ws) ws (6 + widthWord ws * 256) (widthWord ws * 256) (6 + 512 * widthWord ws) (repeats-at ws) (omega arith)) ∙ C .scatter-count;
-    gather-count =
-        sym (count-at (scatterIn ws) ws (scatterAt (widthWord ws)) (3 * widthWord ws * depthWord ws) (7 + 512 * widthWord ws + 3 * widthWord ws * depthWord ws) (scatter-at ws) (omega arith))
-        ∙ C .gather-count;
-    propagate-count =
-        sym (count-at (gatherIn ws) ws (gatherAt (widthWord ws) (depthWord ws)) (3 * widthWord ws * depthWord ws) (8 + 512 * widthWord ws + 6 * widthWord ws * depthWord ws)
-        (gather-at ws) (omega (arith, mul-assoc 3 (widthWord ws) (depthWord ws), mul-assoc 6 (widthWord ws) (depthWord ws))))
-        ∙ C .propagate-count;
-    back-count =
-        sym (count-at (propagateIn ws) ws (propagateAt (widthWord ws) (depthWord ws)) (3 * widthWord ws * suc (depthWord ws)) (9 + 515 * widthWord ws + 9 * widthWord ws * depthWord ws)
-        (propagate-at ws) (omega (arith, mul-assoc 3 (widthWord ws) (depthWord ws), mul-assoc 9 (widthWord ws) (depthWord ws), mul-suc (3 * widthWord ws) (depthWord ws))))
-        ∙ C .back-count;
+    counted = C .counted;
   }
 
-  module _ (t : Tape) (size : t .length ≡ stateWord ws - 1) (taken : tokensOf t ≡ bares (tape ws))
-      (letters : List ℕ) (eight : length letters ≡ 8) (fit-letters : Fit letters)
-      (bits : (x : ℕ) → bit (value letters) x ≡ anyBelow 256 (λ b. bitOf (widthWord ws) (lettersIn ws) b x)) where
+  module _ {letters : List ℕ} (L : LettersOf ws letters) {t : Tape} (S : ShownTape ws t) where
     H : Headed ws
     H = image-headed
 
     pub image-tree : T (isTree t)
-    image-tree = tree-of-tape ws fit H t size taken letters eight fit-letters bits .1 (whole .1)
+    image-tree = tree-of-tape ws fit H L S .1 (whole .1)
 
     pub image-deep : reach (tokensOf t) begin ≡ depthWord ws
-    image-deep = reach-same ws fit H t size taken letters eight fit-letters bits ∙ sym (C .level)
+    image-deep = reach-same ws fit H L S ∙ sym (C .level)
 
-    pub image-same : T (sameAll ws (widthWord ws) (depthWord ws) letters t)
+    pub image-same : T (sameAll ws (sectionsFor (stateWord ws) (widthWord ws) (depthWord ws)) letters t)
     image-same =
-        and-both (sameWords letters (getD (tableOf t letter-place) 0 [])) (R && (S && (G && (P && K)))) (letters-is ws t taken image-tree (C .states) n (H .few) f letters eight fit-letters bits .1 (C .letters))
-        (and-both R (S && (G && (P && K))) (repeats-is ws t taken image-tree (C .states) n (omega (arith, H .long)) .1 (C .repeats))
-        (and-both S (G && (P && K)) (scatter-is ws t taken image-tree (C .states) n (H .shallow) .1 (C .scatter))
-        (and-both G (P && K) (gather-is ws t taken image-tree (C .states) n (H .shallow) .1 (C .gather))
-        (and-both P K (propagate-is ws t taken image-tree (C .states) n (H .shallow) .1 (C .propagate))
-        (back-is ws t taken image-tree (C .states) n (H .shallow) .1 (C .back))))))
+        and-both (letters-same ws fit H L S) (R && (A && (G && (P && K))))
+        (letters-is ws t (S .tokens-are) image-tree (C .states) n (H .few) (fits ws fit H L S) letters (L .eight) (L .fit) (L .bits) .1 (C .letters))
+        (and-both R (A && (G && (P && K))) (repeats-is ws t (S .tokens-are) image-tree (C .states) n (long ws fit H L S) .1 (C .repeats))
+        (and-both A (G && (P && K)) (scatter-is ws t (S .tokens-are) image-tree (C .states) n (H .shallow) .1 (C .scatter))
+        (and-both G (P && K) (gather-is ws t (S .tokens-are) image-tree (C .states) n (H .shallow) .1 (C .gather))
+        (and-both P K (propagate-is ws t (S .tokens-are) image-tree (C .states) n (H .shallow) .1 (C .propagate))
+        (back-is ws t (S .tokens-are) image-tree (C .states) n (H .shallow) .1 (C .back))))))
       where
         R : Bool
-        R = sameRepeats ws (widthWord ws) (getD (tableOf t loop-place) 0 [])
+        R = repeats-same ws fit H L S
 
-        S : Bool
-        S = sameScatter ws (scatterAt (widthWord ws)) (widthWord ws) (depthWord ws) t
+        A : Bool
+        A = scatter-same ws fit H L S
 
         G : Bool
-        G = sameGather ws (gatherAt (widthWord ws) (depthWord ws)) (widthWord ws) (depthWord ws) t
+        G = gather-same ws fit H L S
 
         P : Bool
-        P = samePropagate ws (propagateAt (widthWord ws) (depthWord ws)) (widthWord ws) (depthWord ws) t
+        P = propagate-same ws fit H L S
 
         K : Bool
-        K = sameBack ws (backAt (widthWord ws) (depthWord ws)) (widthWord ws) (depthWord ws) t
+        K = back-same ws fit H L S
 
         n : widthWord ws ≤ 8
-        n = narrow ws fit H t size taken letters eight fit-letters bits
-
-        f : stateWord ws ≤ wide (widthWord ws)
-        f = fits ws fit H t size taken letters eight fit-letters bits
+        n = narrow ws fit H L S

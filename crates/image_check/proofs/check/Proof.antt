@@ -1,11 +1,38 @@
 -- Each way out is one of the laws of Laws/Answers, for what was taken from the words so far.
-use mathlib.Core.Path.{sym, _∙_}
+use mathlib.Core.Path.{_≡_, sym, _∙_}
 use Rattle.mask.proofs.Laws.Bits.{fit-row}
+use Rattle.tokens_masks.specs.Tapes.{shapeOf}
+use Rattle.tokens_masks.specs.declared.Shape.the-variants.{Tree}
 use Rattle.image_check.specs.Says.{is-other}
-use Rattle.image_check.proofs.Laws.Answers.{image-found, no-tree, not-false, not-headed, not-true, other-depth, room-taken, taken-of, words-differ}
+use Rattle.image_check.proofs.Laws.Answers.{image-found, no-tree, not-false, not-headed, not-true, other-depth, room-taken, Taken, taken-of, words-differ}
 use borrow.Author.Needs.{needs}
 use Rattle.image_check.proofs.check.Statement.{statement}
 use Rattle.image_check.proofs.check.Tie as tie
+
+-- what was taken from the words, once they are known to have a header
+parts : (c : tie.After-header)
+    → let r = c .before .before .take-apart .result in
+    Taken (c .before .before .before .before .args .words .now) (c .header .given .0 .0) (r .letters) (r .tape)
+parts c =
+    let ws = c .before .before .before .before .args .words .now in
+    taken-of (fit-row ws (c .before .before .before .shared-slice-known .given)) (c .before .before .take-apart .ensures) (c .header .given .1)
+
+-- the header, from what was laid out, and that from the tree told
+abbrev header-of : tie.After-lay-out → tie.After-header
+header-of c = c .before .before .before .before .before .before .before .before
+
+abbrev laid-of : tie.After-shape → tie.After-lay-out
+laid-of c = c .before .before
+
+abbrev shape-of : tie.Else1 → tie.After-shape
+shape-of c = c .before .before .before
+
+abbrev told-of : tie.After-agrees → tie.Else1
+told-of c = c .before .before .before .before .before .before .before
+
+-- the tape is a tree's
+grown : (c : tie.After-shape) → shapeOf (header-of (laid-of c) .before .before .take-apart .result .tape) ≡ Tree (c .shape .given .0 .0)
+grown c = sym (laid-of c .lay-out .ensures .0) ∙ c .shape .given .1
 
 take-apart-requires : tie.Need-take-apart-requires
 take-apart-requires c κs = search needs
@@ -38,43 +65,38 @@ refuse-requires-2 c κs = search needs
 
 returns-2 : tie.Need-returns-2
 returns-2 c =
-    let ws = c .before .before .before .before .before .before .before .before .before .before .before .before .before .before .before .args .words .now in
-    let K = taken-of (fit-row ws (c .before .before .before .before .before .before .before .before .before .before .before .before .before .before .shared-slice-known .given)) (c .before .before .before .before .before .before .before .before .before .before .before .before .before .take-apart .ensures) (c .before .before .before .before .before .before .before .before .before .before .before .header .given .1) in
-    is-other (no-tree K (sym (c .before .before .before .lay-out .ensures .0) ∙ c .before .enum-told2 .given .1)) (c .refuse2 .ensures)
+    let l = c .before .before .before in
+    is-other (no-tree (parts (header-of l)) (sym (l .lay-out .ensures .0) ∙ c .before .enum-told2 .given .1)) (c .refuse2 .ensures)
 
 refuse-requires-3 : tie.Need-refuse-requires-3
 refuse-requires-3 c κs = search needs
 
 returns-3 : tie.Need-returns-3
 returns-3 c =
-    let ws = c .before .before .before .before .before .before .before .before .before .before .before .before .before .before .before .before .before .args .words .now in
-    let K = taken-of (fit-row ws (c .before .before .before .before .before .before .before .before .before .before .before .before .before .before .before .before .shared-slice-known .given)) (c .before .before .before .before .before .before .before .before .before .before .before .before .before .before .before .take-apart .ensures) (c .before .before .before .before .before .before .before .before .before .before .before .before .before .header .given .1) in
-    let g = c .before .before .before .shape .given in
-    is-other (other-depth K (g .0 .0) (sym (c .before .before .before .before .before .lay-out .ensures .0) ∙ g .1) (c .before .if1 .taken)) (c .refuse3 .ensures)
+    let g = c .before .before .before .before in
+    is-other (other-depth (parts (header-of (laid-of g))) (g .shape .given .0 .0) (grown g) (c .before .if1 .taken)) (c .refuse3 .ensures)
 
 agrees-requires : tie.Need-agrees-requires
 agrees-requires c κs =
-    let ws = c .before .before .before .before .before .before .before .before .before .before .before .before .before .before .before .before .before .before .before .before .before .before .args .words .now in
-    let K = taken-of (fit-row ws (c .before .before .before .before .before .before .before .before .before .before .before .before .before .before .before .before .before .before .before .before .before .shared-slice-known .given)) (c .before .before .before .before .before .before .before .before .before .before .before .before .before .before .before .before .before .before .before .before .take-apart .ensures) (c .before .before .before .before .before .before .before .before .before .before .before .before .before .before .before .before .before .before .header .given .1) in
-    (room-taken K, c .before .before .before .before .before .before .before .before .before .before .lay-out .ensures .1 .1 .0)
+    let l = laid-of (shape-of (c .before .before .before .before .before .before)) in
+    (room-taken (parts (header-of l)), l .lay-out .ensures .1 .1 .0)
 
 refuse-requires-4 : tie.Need-refuse-requires-4
 refuse-requires-4 c κs = search needs
 
 returns-4 : tie.Need-returns-4
 returns-4 c =
-    let ws = c .before .before .before .before .before .before .before .before .before .before .before .before .before .before .before .before .before .before .before .before .before .before .before .before .before .args .words .now in
-    let K = taken-of (fit-row ws (c .before .before .before .before .before .before .before .before .before .before .before .before .before .before .before .before .before .before .before .before .before .before .before .before .shared-slice-known .given)) (c .before .before .before .before .before .before .before .before .before .before .before .before .before .before .before .before .before .before .before .before .before .before .before .take-apart .ensures) (c .before .before .before .before .before .before .before .before .before .before .before .before .before .before .before .before .before .before .before .before .before .header .given .1) in
-    let a = c .before .before .agrees in
-    is-other (words-differ K (sym (a .ensures) ∙ not-true (a .result) (c .before .if2 .taken))) (c .refuse4 .ensures)
+    let a = c .before .before in
+    is-other
+    (words-differ (parts (header-of (laid-of (shape-of (told-of a))))) (sym (a .agrees .ensures) ∙ not-true (a .agrees .result) (c .before .if2 .taken)))
+    (c .refuse4 .ensures)
 
 returns-5 : tie.Need-returns-5
 returns-5 c =
-    let ws = c .before .before .before .before .before .before .before .before .before .before .before .before .before .before .before .before .before .before .before .before .before .before .before .before .args .words .now in
-    let K = taken-of (fit-row ws (c .before .before .before .before .before .before .before .before .before .before .before .before .before .before .before .before .before .before .before .before .before .before .before .shared-slice-known .given)) (c .before .before .before .before .before .before .before .before .before .before .before .before .before .before .before .before .before .before .before .before .before .before .take-apart .ensures) (c .before .before .before .before .before .before .before .before .before .before .before .before .before .before .before .before .before .before .before .before .header .given .1) in
-    let a = c .before .agrees in
-    let g = c .before .before .before .before .before .before .before .before .before .before .shape .given in
-    image-found K (g .0 .0) (sym (c .before .before .before .before .before .before .before .before .before .before .before .before .lay-out .ensures .0) ∙ g .1) (c .before .before .before .before .before .before .before .before .if1 .left) (sym (a .ensures) ∙ not-false (a .result) (c .if2 .left))
+    let a = c .before in
+    let g = shape-of (told-of a) in
+    image-found (parts (header-of (laid-of g))) (g .shape .given .0 .0) (grown g) (told-of a .if1 .left)
+    (sym (a .agrees .ensures) ∙ not-false (a .agrees .result) (c .if2 .left))
 
 pub check-spec : {M : Type 1} → statement M
 check-spec =

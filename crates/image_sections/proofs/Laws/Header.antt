@@ -198,6 +198,16 @@ header-is ws = (there, back)
 pub own-words : {ws : List ℕ} → Headed ws → sectionsIn ws ≡ sectionsFor (stateWord ws) (widthWord ws) (depthWord ws)
 own-words {ws} H = ap (λ (w : ℕ). sectionsFor (stateWord ws) w (depthWord ws)) (sym (H .width-word))
 
+-- such words have their own places
+pub headed-placed : {ws : List ℕ} {p : Sections} → Headed ws → p ≡ sectionsIn ws → Placed ws p
+headed-placed {ws} H e = record {
+  own = e;
+  some = H .some;
+  few = H .few;
+  shallow = H .shallow;
+  long = H .counted .long ∙ ap (λ (w : ℕ). imageLength w (depthWord ws)) (H .width-word) ∙ ap (λ (q : Sections). q .length) (sym e);
+}
+
 -- ---- the answer, by a test
 pub refused : (b : Bool) (ws : List ℕ) → (T b → ⊥) → Other ≡ headerIf b ws
 refused b ws n = ap (λ (t : Bool). headerIf t ws) (sym (is-not b n))
@@ -226,15 +236,7 @@ placed-shape {ws} D long =
 
 -- and so have words with a header
 pub placed : {ws : List ℕ} {p : Sections} → Told (headerFits ws) ws p → Placed ws p
-placed {ws} D =
-    let F = fits-of ws (D .passed) in
-    record {
-      own = D .own;
-      some = F .shape .some-states;
-      few = F .shape .few-states;
-      shallow = F .shape .shallow;
-      long = F .long ∙ ap (λ (q : Sections). q .length) (sym (D .own));
-    }
+placed {ws} D = headed-placed (header-is ws .0 (D .passed)) (D .own)
 
 -- ---- after the shape the length decides, and then the counts
 pub shape-fails : (ws : List ℕ) → (T (shapeFits ws) → ⊥) → Other ≡ headerIf (headerFits ws) ws

@@ -1,5 +1,5 @@
 -- EVERY SECTION LIES WITHIN THE WORDS, one after another: by the places alone, so that whoever reads at a place needs no number.
-use mathlib.Core.Path.{_≡_, refl, sym, ap, subst}
+use mathlib.Core.Path.{_≡_, refl, sym, ap, _∙_, subst}
 use mathlib.Core.List.{List}
 use Prim.Native.Nat.{ℕ, suc, _+_, _*_, _≤_}
 use native.Mathlib.Nat.{mul-add, mul-assoc, mul-comm, mul-le-mul, mul-left-comm, mul-suc}
@@ -117,6 +117,29 @@ module _ {p : Sections} {n : ℕ} (I : Within p n) where
 
   pub scatters-in : p .scatter + p .width * (3 * p .depth) ≤ n
   scatters-in = omega (arith, I .scatters, gathers-in)
+
+  -- the same by masks of some words to each depth
+  spread : (k d : ℕ) → k * p .width * d ≡ p .width * (k * d)
+  spread k d = ap (λ (j : ℕ). j * d) (mul-comm k (p .width)) ∙ mul-assoc (p .width) k d
+
+  pub back-fits : p .back + 2 * p .width * p .depth ≤ n
+  back-fits = omega (arith, backs-in, spread 2 (p .depth))
+
+  pub propagate-fits : p .propagate + 3 * p .width * (p .depth + 1) ≤ n
+  propagate-fits = omega (arith, propagates-in, spread 3 (p .depth + 1))
+
+  pub gather-fits : p .gather + 3 * p .width * p .depth ≤ n
+  gather-fits = omega (arith, gathers-in, spread 3 (p .depth))
+
+  pub scatter-fits : p .scatter + 3 * p .width * p .depth ≤ n
+  scatter-fits = omega (arith, scatters-in, spread 3 (p .depth))
+
+  -- and one mask past them
+  pub past-gather : p .gather + 2 * p .width + 3 * p .width * p .depth ≤ n
+  past-gather = omega (arith, I .gathers, propagate-fits, spread 3 (p .depth), mul-add (3 * p .width) (p .depth) 1)
+
+  pub past-scatter : p .scatter + p .width + 3 * p .width * p .depth ≤ n
+  past-scatter = omega (arith, I .scatters, past-gather, spread 3 (p .depth))
 
   -- the masks of all depths are few
   fits-small : {x : ℕ} → x ≤ 4834 → Fits w64 x

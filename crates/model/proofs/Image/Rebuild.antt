@@ -24,7 +24,7 @@ join-of w (suc n) a f S h =
     ∙ h (suc k) (omega arith) ∙ (let e : a + suc k ≡ suc a + k = omega arith in ap f e)))
 
 module _ (ws : List ℕ) (a w n : ℕ) (f : ℕ → List ℕ) (parts : (k : ℕ) → k < n → chunk w k (drop a ws) ≡ f k) where
-  whole : take (w * n) (drop a ws) ≡ join n 0 f
+  pub whole : take (w * n) (drop a ws) ≡ join n 0 f
   whole = join-of w n 0 f (drop a ws) (λ k l. parts k l ∙ ap f (sym (zero-add k)))
 
   -- a section's s words from place a on, the count of the next section, and that section

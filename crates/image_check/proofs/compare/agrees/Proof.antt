@@ -8,10 +8,10 @@ use native.Mathlib.Omega.{arith}
 use lib.Dec.{T}
 use lib.ListN.{getD}
 use Rattle.model.specs.Image.{join}
-use Rattle.model.specs.Models.Sections.{backAt, gatherAt, propagateAt, scatterAt}
 use Rattle.model.specs.Models.LayOut.{letter-place, loop-place}
 use Rattle.model.specs.Models.Verdict.{sameWords}
 use Rattle.tokens_masks.specs.Tapes.{tableOf}
+use Rattle.image_sections.proofs.Laws.Within.{back-fits, gather-fits, propagate-fits, scatter-fits}
 use Rattle.image_apart.specs.Work.{wordsAt}
 use Rattle.image.proofs.Laws.Lengths.{backRows}
 use Rattle.image_check.specs.Work.{sameBack, sameGather, sameMasks, samePropagate, sameRepeats, sameScatter, sameTables}
@@ -36,120 +36,135 @@ decides false e = ap not e
 
 -- the tests, in order
 abbrev lettersAre : tie.Start → Bool
-lettersAre c = sameWords (c .args .letters) (getD (tableOf (c .args .tape) letter-place) 0 [])
+lettersAre s = sameWords (s .args .letters) (getD (tableOf (s .args .tape) letter-place) 0 [])
 
 abbrev repeatsAre : tie.Start → Bool
-repeatsAre c = sameRepeats (c .args .words .now) (c .args .width) (getD (tableOf (c .args .tape) loop-place) 0 [])
+repeatsAre s =
+    let p = s .args .sections in
+    sameRepeats (s .args .words .now) (p .letters) (p .repeats) (p .width) (getD (tableOf (s .args .tape) loop-place) 0 [])
 
 abbrev scatterIs : tie.Start → Bool
-scatterIs c = sameScatter (c .args .words .now) (scatterAt (c .args .width)) (c .args .width) (c .args .depth) (c .args .tape)
+scatterIs s = let p = s .args .sections in sameScatter (s .args .words .now) (p .scatter) (p .width) (p .depth) (s .args .tape)
 
 abbrev gatherIs : tie.Start → Bool
-gatherIs c = sameGather (c .args .words .now) (gatherAt (c .args .width) (c .args .depth)) (c .args .width) (c .args .depth) (c .args .tape)
+gatherIs s = let p = s .args .sections in sameGather (s .args .words .now) (p .gather) (p .width) (p .depth) (s .args .tape)
 
 abbrev propagateIs : tie.Start → Bool
-propagateIs c =
-    samePropagate (c .args .words .now) (propagateAt (c .args .width) (c .args .depth)) (c .args .width) (c .args .depth) (c .args .tape)
+propagateIs s = let p = s .args .sections in samePropagate (s .args .words .now) (p .propagate) (p .width) (p .depth) (s .args .tape)
 
 abbrev backIs : tie.Start → Bool
-backIs c = sameBack (c .args .words .now) (backAt (c .args .width) (c .args .depth)) (c .args .width) (c .args .depth) (c .args .tape)
+backIs s = let p = s .args .sections in sameBack (s .args .words .now) (p .back) (p .width) (p .depth) (s .args .tape)
 
 -- all from one test on
 abbrev fromPropagate : tie.Start → Bool
-fromPropagate c = propagateIs c && backIs c
+fromPropagate s = propagateIs s && backIs s
 
 abbrev fromGather : tie.Start → Bool
-fromGather c = gatherIs c && fromPropagate c
+fromGather s = gatherIs s && fromPropagate s
 
 abbrev fromScatter : tie.Start → Bool
-fromScatter c = scatterIs c && fromGather c
+fromScatter s = scatterIs s && fromGather s
 
 abbrev fromRepeats : tie.Start → Bool
-fromRepeats c = repeatsAre c && fromScatter c
+fromRepeats s = repeatsAre s && fromScatter s
+
+abbrev fromLetters : tie.Start → Bool
+fromLetters s = lettersAre s && fromRepeats s
 
 -- the masks are those that are laid out for the tape
 scatter-same : (s : tie.Start)
-    → let a = s .args in
-    sameMasks (a .words .now) (scatterAt (a .width)) (a .width) (a .depth) 0 3 (a .scatters .now) ≡ scatterIs s
+    → let p = s .args .sections in
+    sameMasks (s .args .words .now) (p .scatter) (p .width) (p .depth) 0 3 (s .args .scatters .now) ≡ scatterIs s
 scatter-same s =
-    let a = s .args in
+    let p = s .args .sections in
     let L = s .pre .1 in
-    three-masks (a .words .now) (scatterAt (a .width)) (a .width) (a .depth) (a .scatters .now) (omega (arith, s .pre .0 .1))
-    ∙ (λ i. sameTables (a .words .now) (scatterAt (a .width)) (a .width) (a .depth) (L .scatter-blocks i) (L .scatter-sources i) (L .scatter-targets i))
+    three-masks (s .args .words .now) (p .scatter) (p .width) (p .depth) (s .args .scatters .now) (omega (arith, s .pre .0 .deep))
+    ∙ (λ i. sameTables (s .args .words .now) (p .scatter) (p .width) (p .depth) (L .scatter-blocks i) (L .scatter-sources i) (L .scatter-targets i))
 
 gather-same : (s : tie.Start)
-    → let a = s .args in
-    sameMasks (a .words .now) (gatherAt (a .width) (a .depth)) (a .width) (a .depth) 0 3 (a .gathers .now) ≡ gatherIs s
+    → let p = s .args .sections in
+    sameMasks (s .args .words .now) (p .gather) (p .width) (p .depth) 0 3 (s .args .gathers .now) ≡ gatherIs s
 gather-same s =
-    let a = s .args in
+    let p = s .args .sections in
     let L = s .pre .1 in
-    three-masks (a .words .now) (gatherAt (a .width) (a .depth)) (a .width) (a .depth) (a .gathers .now) (omega (arith, s .pre .0 .1))
-    ∙ (λ i. sameTables (a .words .now) (gatherAt (a .width) (a .depth)) (a .width) (a .depth) (L .gather-blocks i) (L .gather-sources i) (L .gather-targets i))
+    three-masks (s .args .words .now) (p .gather) (p .width) (p .depth) (s .args .gathers .now) (omega (arith, s .pre .0 .deep))
+    ∙ (λ i. sameTables (s .args .words .now) (p .gather) (p .width) (p .depth) (L .gather-blocks i) (L .gather-sources i) (L .gather-targets i))
 
 propagate-same : (s : tie.Start)
-    → let a = s .args in
-    sameMasks (a .words .now) (propagateAt (a .width) (a .depth)) (a .width) (a .depth + 1) 0 3 (a .propagates .now) ≡ propagateIs s
+    → let p = s .args .sections in
+    sameMasks (s .args .words .now) (p .propagate) (p .width) (p .depth + 1) 0 3 (s .args .propagates .now) ≡ propagateIs s
 propagate-same s =
-    let a = s .args in
+    let p = s .args .sections in
     let L = s .pre .1 in
-    three-masks (a .words .now) (propagateAt (a .width) (a .depth)) (a .width) (a .depth + 1) (a .propagates .now) (omega (arith, s .pre .0 .1))
-    ∙ (λ i. sameTables (a .words .now) (propagateAt (a .width) (a .depth)) (a .width) (add-one (a .depth) i) (L .propagate-blocks i) (L .propagate-sources i) (L .propagate-targets i))
+    three-masks (s .args .words .now) (p .propagate) (p .width) (p .depth + 1) (s .args .propagates .now) (omega (arith, s .pre .0 .deep))
+    ∙ (λ i. sameTables (s .args .words .now) (p .propagate) (p .width) (add-one (p .depth) i) (L .propagate-blocks i) (L .propagate-sources i) (L .propagate-targets i))
 
 back-same : (s : tie.Start)
-    → let a = s .args in
-    sameMasks (a .words .now) (propagateAt (a .width) (a .depth) + 1 + 3 * a .width * (a .depth + 1)) (a .width) (a .depth) 1 2 (a .backs .now) ≡ backIs s
+    → let p = s .args .sections in
+    sameMasks (s .args .words .now) (p .back) (p .width) (p .depth) 1 2 (s .args .backs .now) ≡ backIs s
 back-same s =
-    let a = s .args in
-    let W = a .width in
+    let p = s .args .sections in
     let L = s .pre .1 in
-    ap (λ (n : ℕ). sameMasks (a .words .now) (propagateAt W (a .depth) + 1 + 3 * W * n) W (a .depth) 1 2 (a .backs .now)) (add-one (a .depth))
-    ∙ two-masks (a .words .now) (backAt W (a .depth)) W (a .depth) (a .backs .now) (omega (arith, s .pre .0 .1))
-    ∙ (λ i. sameWords (wordsAt (a .words .now) (backAt W (a .depth)) (2 * W * a .depth)) (join (a .depth) 0 (backRows W (L .back-sources i) (L .back-targets i))))
+    two-masks (s .args .words .now) (p .back) (p .width) (p .depth) (s .args .backs .now) (omega (arith, s .pre .0 .deep))
+    ∙ (λ i. sameWords (wordsAt (s .args .words .now) (p .back) (2 * p .width * p .depth)) (join (p .depth) 0 (backRows (p .width) (L .back-sources i) (L .back-targets i))))
 
-mul-scatter : tie.Need-mul-scatter
-mul-scatter c = search needs
+-- where the function began, from each test that was passed
+abbrev start1 : tie.Else1 → tie.Start
+start1 c = c .before .before .before .before .before
 
-add-scatter : tie.Need-add-scatter
-add-scatter c = search needs
+abbrev start2 : tie.Else2 → tie.Start
+start2 c = start1 (c .before .before .before .before)
 
-add-gather : tie.Need-add-gather
-add-gather c = search needs
+abbrev start3 : tie.Else3 → tie.Start
+start3 c = start2 (c .before .before .before)
 
-mul-gather : tie.Need-mul-gather
-mul-gather c = search needs
+abbrev start4 : tie.Else4 → tie.Start
+start4 c = start3 (c .before .before .before)
 
-mul-gather-2 : tie.Need-mul-gather-2
-mul-gather-2 c = search needs
+abbrev start5 : tie.Else5 → tie.Start
+start5 c = start4 (c .before .before .before)
 
-add-gather-2 : tie.Need-add-gather-2
-add-gather-2 c = search needs
+-- what the tests of letters and repeats say
+letters-told : (c : tie.After-same-rows) → not (c .same-rows .result) ≡ not (lettersAre (c .before .before .before .before))
+letters-told c =
+    let s = c .before .before .before .before in
+    ap not (c .same-rows .ensures
+    ∙ ap (sameWords (s .args .letters)) (c .before .row-of .ensures .inside (omega (arith, c .before .before .row-of-arg .given .0)) ∙ s .pre .1 .letter-places))
 
-add-propagate : tie.Need-add-propagate
-add-propagate c = search needs
+repeats-told : (c : tie.After-repeats-differ) → c .repeats-differ .result ≡ not (repeatsAre (start1 (c .before .before .before)))
+repeats-told c =
+    let s = start1 (c .before .before .before) in
+    let p = s .args .sections in
+    c .repeats-differ .ensures
+    ∙ ap (λ (row : List ℕ). not (sameRepeats (s .args .words .now) (p .letters) (p .repeats) (p .width) row))
+    (c .before .row-of2 .ensures .inside (omega (arith, c .before .before .row-of-arg2 .given .0)) ∙ s .pre .1 .loop-places)
 
-mul-propagate : tie.Need-mul-propagate
-mul-propagate c = search needs
+-- where a test is passed, those after it decide
+letters-passed : (c : tie.Else1) {answer : Bool} → answer ≡ fromRepeats (start1 c) → answer ≡ fromLetters (start1 c)
+letters-passed c = let s = start1 c in passes (lettersAre s) (fromRepeats s) (letters-told (c .before)) (c .if1 .left)
 
-mul-propagate-2 : tie.Need-mul-propagate-2
-mul-propagate-2 c = search needs
+repeats-passed : (c : tie.Else2) {answer : Bool} → answer ≡ fromScatter (start2 c) → answer ≡ fromLetters (start2 c)
+repeats-passed c e =
+    let s = start2 c in
+    letters-passed (c .before .before .before .before) (passes (repeatsAre s) (fromScatter s) (repeats-told (c .before)) (c .if2 .left) e)
 
-add-propagate-2 : tie.Need-add-propagate-2
-add-propagate-2 c = search needs
+scatter-passed : (c : tie.Else3) {answer : Bool} → answer ≡ fromGather (start3 c) → answer ≡ fromLetters (start3 c)
+scatter-passed c e =
+    let s = start3 c in
+    repeats-passed (c .before .before .before)
+    (passes (scatterIs s) (fromGather s) (c .before .masks-differ .ensures ∙ ap not (scatter-same s)) (c .if3 .left) e)
 
-add-back : tie.Need-add-back
-add-back c = search needs
+gather-passed : (c : tie.Else4) {answer : Bool} → answer ≡ fromPropagate (start4 c) → answer ≡ fromLetters (start4 c)
+gather-passed c e =
+    let s = start4 c in
+    scatter-passed (c .before .before .before)
+    (passes (gatherIs s) (fromPropagate s) (c .before .masks-differ2 .ensures ∙ ap not (gather-same s)) (c .if4 .left) e)
 
-mul-back : tie.Need-mul-back
-mul-back c = search needs
-
-add-back-2 : tie.Need-add-back-2
-add-back-2 c = search needs
-
-mul-back-2 : tie.Need-mul-back-2
-mul-back-2 c = search needs
-
-add-back-3 : tie.Need-add-back-3
-add-back-3 c = search needs
+propagate-passed : (c : tie.Else5) {answer : Bool} → answer ≡ backIs (start5 c) → answer ≡ fromLetters (start5 c)
+propagate-passed c e =
+    let s = start5 c in
+    gather-passed (c .before .before .before)
+    (passes (propagateIs s) (backIs s) (c .before .masks-differ3 .ensures ∙ ap not (propagate-same s)) (c .if5 .left) e)
 
 row-of-requires : tie.Need-row-of-requires
 row-of-requires c κs = search needs
@@ -158,9 +173,7 @@ same-rows-requires : tie.Need-same-rows-requires
 same-rows-requires c κs = search needs
 
 returns : tie.Need-returns
-returns c =
-    let s = c .before .before .before .before .before in
-    fails (lettersAre s) (fromRepeats s) (ap not (c .before .same-rows .ensures ∙ ap (sameWords (s .args .letters)) (c .before .before .row-of .ensures .inside (omega (arith, c .before .before .before .row-of-arg .given .0)) ∙ s .pre .1 .letter-places))) (c .if1 .taken)
+returns c = let s = c .before .before .before .before .before in fails (lettersAre s) (fromRepeats s) (letters-told (c .before)) (c .if1 .taken)
 
 row-of-requires-2 : tie.Need-row-of-requires-2
 row-of-requires-2 c κs = search needs
@@ -170,79 +183,61 @@ repeats-differ-requires c κs = search needs
 
 returns-2 : tie.Need-returns-2
 returns-2 c =
-    let s = c .before .before .before .before .before .before .before .before .before in
-    passes (lettersAre s) (fromRepeats s) (ap not (c .before .before .before .before .before .same-rows .ensures ∙ ap (sameWords (s .args .letters)) (c .before .before .before .before .before .before .row-of .ensures .inside (omega (arith, c .before .before .before .before .before .before .before .row-of-arg .given .0)) ∙ s .pre .1 .letter-places))) (c .before .before .before .before .if1 .left)
-    (fails (repeatsAre s) (fromScatter s) (c .before .repeats-differ .ensures ∙ ap (λ (row : List ℕ). not (sameRepeats (s .args .words .now) (s .args .width) row)) (c .before .before .row-of2 .ensures .inside (omega (arith, c .before .before .before .row-of-arg2 .given .0)) ∙ s .pre .1 .loop-places)) (c .if2 .taken))
+    let first = c .before .before .before .before in
+    let s = start1 first in
+    letters-passed first (fails (repeatsAre s) (fromScatter s) (repeats-told (c .before)) (c .if2 .taken))
 
 masks-differ-requires : tie.Need-masks-differ-requires
-masks-differ-requires c κs = search needs
+masks-differ-requires c κs =
+    let I = start2 (c .before) .pre .0 in
+    (I .narrow, omega (arith, I .deep), omega arith, scatter-fits I, c .masks-differ-arg .given .0)
 
 returns-3 : tie.Need-returns-3
 returns-3 c =
-    let s = c .before .before .before .before .before .before .before .before .before .before .before .before in
-    passes (lettersAre s) (fromRepeats s) (ap not (c .before .before .before .before .before .before .before .before .same-rows .ensures ∙ ap (sameWords (s .args .letters)) (c .before .before .before .before .before .before .before .before .before .row-of .ensures .inside (omega (arith, c .before .before .before .before .before .before .before .before .before .before .row-of-arg .given .0)) ∙ s .pre .1 .letter-places))) (c .before .before .before .before .before .before .before .if1 .left)
-    (passes (repeatsAre s) (fromScatter s) (c .before .before .before .before .repeats-differ .ensures ∙ ap (λ (row : List ℕ). not (sameRepeats (s .args .words .now) (s .args .width) row)) (c .before .before .before .before .before .row-of2 .ensures .inside (omega (arith, c .before .before .before .before .before .before .row-of-arg2 .given .0)) ∙ s .pre .1 .loop-places)) (c .before .before .before .if2 .left)
-    (fails (scatterIs s) (fromGather s) (c .before .masks-differ .ensures ∙ ap not (scatter-same s)) (c .if3 .taken)))
+    let second = c .before .before .before in
+    let s = start2 second in
+    repeats-passed second (fails (scatterIs s) (fromGather s) (c .before .masks-differ .ensures ∙ ap not (scatter-same s)) (c .if3 .taken))
 
 masks-differ-requires-2 : tie.Need-masks-differ-requires-2
-masks-differ-requires-2 c κs = search needs
+masks-differ-requires-2 c κs =
+    let I = start3 (c .before) .pre .0 in
+    (I .narrow, omega (arith, I .deep), omega arith, gather-fits I, c .masks-differ-arg2 .given .0)
 
 returns-4 : tie.Need-returns-4
 returns-4 c =
-    let s = c .before .before .before .before .before .before .before .before .before .before .before .before .before .before .before in
-    passes (lettersAre s) (fromRepeats s) (ap not (c .before .before .before .before .before .before .before .before .before .before .before .same-rows .ensures ∙ ap (sameWords (s .args .letters)) (c .before .before .before .before .before .before .before .before .before .before .before .before .row-of .ensures .inside (omega (arith, c .before .before .before .before .before .before .before .before .before .before .before .before .before .row-of-arg .given .0)) ∙ s .pre .1 .letter-places))) (c .before .before .before .before .before .before .before .before .before .before .if1 .left)
-    (passes (repeatsAre s) (fromScatter s) (c .before .before .before .before .before .before .before .repeats-differ .ensures ∙ ap (λ (row : List ℕ). not (sameRepeats (s .args .words .now) (s .args .width) row)) (c .before .before .before .before .before .before .before .before .row-of2 .ensures .inside (omega (arith, c .before .before .before .before .before .before .before .before .before .row-of-arg2 .given .0)) ∙ s .pre .1 .loop-places)) (c .before .before .before .before .before .before .if2 .left)
-    (passes (scatterIs s) (fromGather s) (c .before .before .before .before .masks-differ .ensures ∙ ap not (scatter-same s)) (c .before .before .before .if3 .left)
-    (fails (gatherIs s) (fromPropagate s) (c .before .masks-differ2 .ensures ∙ ap not (gather-same s)) (c .if4 .taken))))
+    let third = c .before .before .before in
+    let s = start3 third in
+    scatter-passed third (fails (gatherIs s) (fromPropagate s) (c .before .masks-differ2 .ensures ∙ ap not (gather-same s)) (c .if4 .taken))
 
 add-masks-differ : tie.Need-add-masks-differ
-add-masks-differ c = search needs
+add-masks-differ c = let I = start4 c .pre .0 in omega (arith, I .deep)
 
 masks-differ-requires-3 : tie.Need-masks-differ-requires-3
-masks-differ-requires-3 c κs = search needs
+masks-differ-requires-3 c κs =
+    let I = start4 (c .before) .pre .0 in
+    (I .narrow, omega (arith, I .deep), omega arith, propagate-fits I, c .masks-differ-arg3 .given .0)
 
 returns-5 : tie.Need-returns-5
 returns-5 c =
-    let s = c .before .before .before .before .before .before .before .before .before .before .before .before .before .before .before .before .before .before in
-    passes (lettersAre s) (fromRepeats s) (ap not (c .before .before .before .before .before .before .before .before .before .before .before .before .before .before .same-rows .ensures ∙ ap (sameWords (s .args .letters)) (c .before .before .before .before .before .before .before .before .before .before .before .before .before .before .before .row-of .ensures .inside (omega (arith, c .before .before .before .before .before .before .before .before .before .before .before .before .before .before .before .before .row-of-arg .given .0)) ∙ s .pre .1 .letter-places))) (c .before .before .before .before .before .before .before .before .before .before .before .before .before .if1 .left)
-    (passes (repeatsAre s) (fromScatter s) (c .before .before .before .before .before .before .before .before .before .before .repeats-differ .ensures ∙ ap (λ (row : List ℕ). not (sameRepeats (s .args .words .now) (s .args .width) row)) (c .before .before .before .before .before .before .before .before .before .before .before .row-of2 .ensures .inside (omega (arith, c .before .before .before .before .before .before .before .before .before .before .before .before .row-of-arg2 .given .0)) ∙ s .pre .1 .loop-places)) (c .before .before .before .before .before .before .before .before .before .if2 .left)
-    (passes (scatterIs s) (fromGather s) (c .before .before .before .before .before .before .before .masks-differ .ensures ∙ ap not (scatter-same s)) (c .before .before .before .before .before .before .if3 .left)
-    (passes (gatherIs s) (fromPropagate s) (c .before .before .before .before .masks-differ2 .ensures ∙ ap not (gather-same s)) (c .before .before .before .if4 .left)
-    (fails (propagateIs s) (backIs s) (c .before .masks-differ3 .ensures ∙ ap not (propagate-same s)) (c .if5 .taken)))))
+    let fourth = c .before .before .before in
+    let s = start4 fourth in
+    gather-passed fourth (fails (propagateIs s) (backIs s) (c .before .masks-differ3 .ensures ∙ ap not (propagate-same s)) (c .if5 .taken))
 
 masks-differ-requires-4 : tie.Need-masks-differ-requires-4
 masks-differ-requires-4 c κs =
-    let P = c .before .before .before .before .before .before .before .before .before .before .before .before .before .before .before .before .before .before .before .pre .0 in (P .0, omega (arith, P .1), omega arith, omega (arith, P .2), c .masks-differ-arg4 .given .0)
+    let I = start5 (c .before) .pre .0 in
+    (I .narrow, omega (arith, I .deep), omega arith, back-fits I, c .masks-differ-arg4 .given .0)
 
 returns-6 : tie.Need-returns-6
 returns-6 c =
-    let s = c .before .before .before .before .before .before .before .before .before .before .before .before .before .before .before .before .before .before .before .before in
-    passes (lettersAre s) (fromRepeats s) (ap not (c .before .before .before .before .before .before .before .before .before .before .before .before .before .before .before .before .same-rows .ensures ∙ ap (sameWords (s .args .letters)) (c .before .before .before .before .before .before .before .before .before .before .before .before .before .before .before .before .before .row-of .ensures .inside (omega (arith, c .before .before .before .before .before .before .before .before .before .before .before .before .before .before .before .before .before .before .row-of-arg .given .0)) ∙ s .pre .1 .letter-places))) (c .before .before .before .before .before .before .before .before .before .before .before .before .before .before .before .if1 .left)
-    (passes (repeatsAre s) (fromScatter s) (c .before .before .before .before .before .before .before .before .before .before .before .before .repeats-differ .ensures ∙ ap (λ (row : List ℕ). not (sameRepeats (s .args .words .now) (s .args .width) row)) (c .before .before .before .before .before .before .before .before .before .before .before .before .before .row-of2 .ensures .inside (omega (arith, c .before .before .before .before .before .before .before .before .before .before .before .before .before .before .row-of-arg2 .given .0)) ∙ s .pre .1 .loop-places)) (c .before .before .before .before .before .before .before .before .before .before .before .if2 .left)
-    (passes (scatterIs s) (fromGather s) (c .before .before .before .before .before .before .before .before .before .masks-differ .ensures ∙ ap not (scatter-same s)) (c .before .before .before .before .before .before .before .before .if3 .left)
-    (passes (gatherIs s) (fromPropagate s) (c .before .before .before .before .before .before .masks-differ2 .ensures ∙ ap not (gather-same s)) (c .before .before .before .before .before .if4 .left)
-    (passes (propagateIs s) (backIs s) (c .before .before .before .masks-differ3 .ensures ∙ ap not (propagate-same s)) (c .before .before .if5 .left)
-    (decides (backIs s) (c .masks-differ4 .ensures ∙ ap not (back-same s)))))))
+    let fifth = c .before .before in
+    let s = start5 fifth in
+    propagate-passed fifth (decides (backIs s) (c .masks-differ4 .ensures ∙ ap not (back-same s)))
 
 pub agrees-spec : {M : Type 1} → statement M
 agrees-spec =
     tie.close
     (tie.spec
-    mul-scatter
-    add-scatter
-    add-gather
-    mul-gather
-    mul-gather-2
-    add-gather-2
-    add-propagate
-    mul-propagate
-    mul-propagate-2
-    add-propagate-2
-    add-back
-    mul-back
-    add-back-2
-    mul-back-2
-    add-back-3
     row-of-requires
     same-rows-requires
     returns

@@ -10,6 +10,7 @@ use Rattle.model.specs.Image.{join, section}
 use Rattle.model.specs.Models.LayOut.{back-source, back-target, gather-block, gather-source, gather-target, loop-place, scatter-block, scatter-source, scatter-target}
 use Rattle.model.specs.Models.LayOut.{set as statesIn}
 use Rattle.model.specs.Models.Words.{andWords}
+use Rattle.image_sections.specs.declared.Sections.{Sections}
 use Rattle.tokens.specs.Kinds.{kindIn}
 use Rattle.tokens_masks.specs.Tables.{Table}
 use Rattle.tokens_masks.specs.Tapes.{propagateBlockTable, propagateSourceTable, propagateTargetTable, tableOf}
@@ -73,13 +74,16 @@ twoRows width source target = take width source ++ take width target
 abbrev pub backPart : ℕ → ℕ → Table → Table → List ℕ
 backPart width depths source target = section (join depths 0 (λ k. twoRows width (getD source k []) (getD target k [])))
 
--- the whole image of a row of tokens and its tape
-abbrev pub imageWords : ℕ → ℕ → List ℕ → Tape → List ℕ
-imageWords width depth row tape =
-    section (suc (tape .length) ∷ width ∷ depth ∷ [])
-    ++ (lettersPart width row (tape .length)
-    ++ (repeatsPart width row (tape .length) (getD (tableOf tape loop-place) 0 [])
-    ++ (tablesPart width depth (tableOf tape scatter-block) (tableOf tape scatter-source) (tableOf tape scatter-target)
-    ++ (tablesPart width depth (tableOf tape gather-block) (tableOf tape gather-source) (tableOf tape gather-target)
-    ++ (tablesPart width (suc depth) (propagateBlockTable tape) (propagateSourceTable tape) (propagateTargetTable tape)
-    ++ backPart width depth (tableOf tape back-source) (tableOf tape back-target))))))
+abbrev pub shapePart : Sections → List ℕ
+shapePart p = section (p .states ∷ p .width ∷ p .depth ∷ [])
+
+-- the whole image of a row of tokens and its tape, with these places
+abbrev pub imageWords : Sections → List ℕ → Tape → List ℕ
+imageWords p row tape =
+    shapePart p
+    ++ (lettersPart (p .width) row (tape .length)
+    ++ (repeatsPart (p .width) row (tape .length) (getD (tableOf tape loop-place) 0 [])
+    ++ (tablesPart (p .width) (p .depth) (tableOf tape scatter-block) (tableOf tape scatter-source) (tableOf tape scatter-target)
+    ++ (tablesPart (p .width) (p .depth) (tableOf tape gather-block) (tableOf tape gather-source) (tableOf tape gather-target)
+    ++ (tablesPart (p .width) (suc (p .depth)) (propagateBlockTable tape) (propagateSourceTable tape) (propagateTargetTable tape)
+    ++ backPart (p .width) (p .depth) (tableOf tape back-source) (tableOf tape back-target))))))

@@ -1,7 +1,7 @@
 // The masks of bytes: the states that a byte's letters lead to, and those of them with a loop. They are written where they will stand:
 // the bytes of a word of a class are 64 rows, which begin empty and get their states token by token.
 ghost use mathlib.Core.Path.{_≡_};
-ghost use Prim.Native.Nat.{_+_, _*_, _≤_, _<_};
+ghost use Prim.Native.Nat.{_+_, _-_, _*_, _≤_, _<_};
 ghost use lib.ListN.{length as lengthOf, replicate};
 ghost use lib.Seq.{sets};
 ghost use Rattle.image.specs.Work.{bothPart, bothRow, lettersPart, quarterPart, withState};
@@ -56,25 +56,17 @@ fn put_quarter(
     }
 }
 
-// "letters: for bytes 0 to 255 one mask"; and the place after them
-pub fn put_letters(
-    words: &mut [u64],
-    at: usize,
-    width: usize,
-    tokens: &[u64; 2555],
-    length: usize,
-) -> usize
-    requires { ⌜ (width ≤ 8) × (at + 1 + 256 * width ≤ lengthOf (now words)) × (length ≤ 511) × (length < 64 * width) ⌝ }
-    ensures next { λ r. ⌜ r ≡ at + 1 + 256 * width ⌝ }
-    ensures written { λ r. ⌜ now (words .exit) ≡ sets (now (words .entry)) at (lettersPart width (now (tokens .entry)) length) ⌝ }
+// "letters: for bytes 0 to 255 one mask"
+pub fn put_letters(words: &mut [u64], at: usize, width: usize, tokens: &[u64; 2555], length: usize)
+    requires { ⌜ (width ≤ 8) × (1 ≤ at) × (at + width * 256 ≤ lengthOf (now words)) × (length ≤ 511) × (length < 64 * width) ⌝ }
+    ensures { λ r. ⌜ now (words .exit) ≡ sets (now (words .entry)) (at - 1) (lettersPart width (now (tokens .entry)) length) ⌝ }
 {
-    words[at] = (256 * width) as u64;
+    words[at - 1] = (256 * width) as u64;
     let mut q: usize = 0;
     while q < 4 {
-        put_quarter(words, at + 1 + 64 * width * q, width, tokens, length, q);
+        put_quarter(words, at + 64 * width * q, width, tokens, length, q);
         q += 1;
     }
-    at + 1 + 256 * width
 }
 
 // A row written before, without the states that have no loop.
@@ -89,23 +81,15 @@ fn put_both(words: &mut [u64], from: usize, at: usize, width: usize, loops: [u64
     }
 }
 
-// "repeats: likewise, the bit of each loop", from the letters' masks; and the place after them
-pub fn put_repeats(
-    words: &mut [u64],
-    from: usize,
-    at: usize,
-    width: usize,
-    loops: [u64; 8],
-) -> usize
-    requires { ⌜ (width ≤ 8) × (from + 256 * width ≤ at) × (at + 1 + 256 * width ≤ lengthOf (now words)) ⌝ }
-    ensures next { λ r. ⌜ r ≡ at + 1 + 256 * width ⌝ }
-    ensures written { λ r. ⌜ now (words .exit) ≡ sets (now (words .entry)) at (bothPart width (now (words .entry)) from loops) ⌝ }
+// "repeats: likewise, the bit of each loop", from the letters' masks
+pub fn put_repeats(words: &mut [u64], from: usize, at: usize, width: usize, loops: [u64; 8])
+    requires { ⌜ (width ≤ 8) × (from + width * 256 + 1 ≤ at) × (at + width * 256 ≤ lengthOf (now words)) ⌝ }
+    ensures { λ r. ⌜ now (words .exit) ≡ sets (now (words .entry)) (at - 1) (bothPart width (now (words .entry)) from loops) ⌝ }
 {
-    words[at] = (256 * width) as u64;
+    words[at - 1] = (256 * width) as u64;
     let mut b: usize = 0;
     while b < 256 {
-        put_both(words, from + width * b, at + 1 + width * b, width, loops);
+        put_both(words, from + width * b, at + width * b, width, loops);
         b += 1;
     }
-    at + 1 + 256 * width
 }

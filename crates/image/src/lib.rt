@@ -1,14 +1,13 @@
 // The image, written: document 01, "The image". A tree comes as its tokens, five words for each, is laid out (crate tokens_masks), and goes
-// into the words lent, section after section. `shape` has the tape and the lengths, `letter_masks` the masks of bytes, `sections` the writing.
+// into the words lent, section after section. `tape` has the tape, `letter_masks` the masks of bytes, `sections` the writing.
 
 mod letter_masks;
 mod sections;
-mod shape;
+mod tape;
 
 use crate::sections::put_image;
-use crate::shape::image_length;
-use crate::shape::tape_of;
-use crate::shape::width_of;
+use crate::tape::tape_of;
+use image_sections::sections_of;
 use tokens_masks::Shape;
 use tokens_masks::lay_out;
 ghost use Rattle.image.specs.Says.{Kept, StoreSays};
@@ -43,22 +42,20 @@ pub fn store(tokens: [u64; 2555], length: usize, words: &mut [u64]) -> Stored
     let Shape::Tree(depth) = shape else {
         return Stored::NoTree;
     };
-    let width = width_of(length + 1);
-    let size = image_length(width, depth);
-    if words.len() < size {
+    let sections = sections_of(length + 1, depth);
+    if words.len() < sections.length {
         return Stored::NoRoom;
     }
     put_image(
         words,
         tokens,
         tape,
-        width,
-        depth,
+        sections,
         &places,
         &scatter,
         &gather,
         &propagate,
         &back,
     );
-    Stored::Done(size)
+    Stored::Done(sections.length)
 }

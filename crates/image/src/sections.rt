@@ -1,17 +1,19 @@
-// "Six sections in this order, each after its count of words", and a seventh for the back edges.
+// "Six sections in this order, each after its count of words", and a seventh for the back edges: each is written from its first mask's place on, with the
+// count one word before it.
 use crate::letter_masks::put_letters;
 use crate::letter_masks::put_repeats;
+use image_sections::Sections;
 use tokens_masks::Tape;
 use tokens_masks::row_of;
 ghost use mathlib.Core.Path.{_≡_};
-ghost use mathlib.Core.List.{[], _∷_};
-ghost use Prim.Native.Nat.{_+_, _*_, _≤_, _<_};
+ghost use Prim.Native.Nat.{_+_, _-_, _*_, _≤_, _<_};
 ghost use lib.ListN.{length as lengthOf, take};
 ghost use lib.Seq.{sets};
-ghost use Rattle.model.specs.Image.{section};
+ghost use Rattle.model.specs.Models.Sections.{lettersAt};
+ghost use Rattle.image_sections.specs.Sections.{Within};
 ghost use Rattle.tokens_masks.specs.Masks.{tableIn};
 ghost use Rattle.tokens_masks.specs.Says.{Laid};
-ghost use Rattle.image.specs.Work.{backPart, imageWords, tablesPart, threeRows, twoRows};
+ghost use Rattle.image.specs.Work.{backPart, imageWords, shapePart, tablesPart, threeRows, twoRows};
 
 // "A mask is .. in the image its first W words"
 fn put_row(words: &mut [u64], at: usize, width: usize, row: [u64; 8])
@@ -52,45 +54,43 @@ fn put_two(words: &mut [u64], at: usize, width: usize, source: [u64; 8], target:
 }
 
 // "shape: m, W, d"
-fn put_shape(words: &mut [u64], states: usize, width: usize, depth: usize)
+fn put_shape(words: &mut [u64], sections: Sections)
     requires { ⌜ 4 ≤ lengthOf (now words) ⌝ }
-    ensures { λ r. ⌜ now (words .exit) ≡ sets (now (words .entry)) 0 (section (states ∷ width ∷ depth ∷ [])) ⌝ }
+    ensures { λ r. ⌜ now (words .exit) ≡ sets (now (words .entry)) 0 (shapePart sections) ⌝ }
 {
     words[0] = 3;
-    words[1] = states as u64;
-    words[2] = width as u64;
-    words[3] = depth as u64;
+    words[1] = sections.states as u64;
+    words[2] = sections.width as u64;
+    words[3] = sections.depth as u64;
 }
 
-// Three masks for each of the first depths; and the place after them.
-fn put_tables(words: &mut [u64], at: usize, width: usize, depths: usize, masks: &[u64]) -> usize
-    requires { ⌜ (width ≤ 8) × (depths ≤ 9) × (at + 1 + 3 * width * depths ≤ lengthOf (now words)) × (lengthOf (now masks) ≡ 216) ⌝ }
-    ensures next { λ r. ⌜ r ≡ at + 1 + 3 * width * depths ⌝ }
-    ensures written { λ r. ⌜ now (words .exit) ≡ sets (now (words .entry)) at (tablesPart width depths (tableIn (now (masks .entry)) 0) (tableIn (now (masks .entry)) 1) (tableIn (now (masks .entry)) 2)) ⌝ }
+// Three masks for each of the first depths.
+fn put_tables(words: &mut [u64], at: usize, width: usize, depths: usize, masks: &[u64])
+    requires { ⌜ (width ≤ 8) × (depths ≤ 9) × (1 ≤ at) × (at + width * (3 * depths) ≤ lengthOf (now words)) × (lengthOf (now masks) ≡ 216) ⌝ }
+    ensures { λ r. ⌜ now (words .exit) ≡ sets (now (words .entry)) (at - 1) (tablesPart width depths (tableIn (now (masks .entry)) 0) (tableIn (now (masks .entry)) 1) (tableIn (now (masks .entry)) 2)) ⌝ }
 {
-    words[at] = (3 * width * depths) as u64;
+    words[at - 1] = (3 * width * depths) as u64;
     let mut k: usize = 0;
     while k < depths {
         let block = row_of(masks, 3 * k);
         let source = row_of(masks, 3 * k + 1);
         let target = row_of(masks, 3 * k + 2);
-        put_three(words, at + 1 + 3 * width * k, width, block, source, target);
+        put_three(words, at + 3 * width * k, width, block, source, target);
         k += 1;
     }
-    at + 1 + 3 * width * depths
 }
 
 // "the back edges as two masks, source and target", for each of the first depths.
 fn put_back(words: &mut [u64], at: usize, width: usize, depths: usize, masks: &[u64])
-    requires { ⌜ (width ≤ 8) × (depths ≤ 9) × (at + 1 + 2 * width * depths ≤ lengthOf (now words)) × (lengthOf (now masks) ≡ 216) ⌝ }
-    ensures { λ r. ⌜ now (words .exit) ≡ sets (now (words .entry)) at (backPart width depths (tableIn (now (masks .entry)) 1) (tableIn (now (masks .entry)) 2)) ⌝ }
+    requires { ⌜ (width ≤ 8) × (depths ≤ 9) × (1 ≤ at) × (at + width * (2 * depths) ≤ lengthOf (now words)) × (lengthOf (now masks) ≡ 216) ⌝ }
+    ensures { λ r. ⌜ now (words .exit) ≡ sets (now (words .entry)) (at - 1) (backPart width depths (tableIn (now (masks .entry)) 1) (tableIn (now (masks .entry)) 2)) ⌝ }
 {
-    words[at] = (2 * width * depths) as u64;
+    words[at - 1] = (2 * width * depths) as u64;
     let mut k: usize = 0;
     while k < depths {
         let source = row_of(masks, 3 * k + 1);
         let target = row_of(masks, 3 * k + 2);
-        put_two(words, at + 1 + 2 * width * k, width, source, target);
+        put_two(words, at + 2 * width * k, width, source, target);
         k += 1;
     }
 }
@@ -100,25 +100,26 @@ pub fn put_image(
     words: &mut [u64],
     tokens: [u64; 2555],
     tape: Tape,
-    width: usize,
-    depth: usize,
+    sections: Sections,
     places: &[u64; 16],
     scatters: &[u64; 216],
     gathers: &[u64; 216],
     propagates: &[u64; 216],
     backs: &[u64; 216],
 )
-    requires limits { ⌜ (width ≤ 8) × (depth ≤ 8) × (tape .length ≤ 511) × (tape .length < 64 * width) × (10 + width * (515 + 11 * depth) ≤ lengthOf (now words)) ⌝ }
+    requires limits { ⌜ Within sections (sections .length) × (sections .letters ≡ lettersAt) × (sections .length ≤ lengthOf (now words)) × (tape .length < sections .states) ⌝ }
     requires laid { ⌜ Laid tape (now places) (now scatters) (now gathers) (now propagates) (now backs) ⌝ }
-    ensures { λ r. ⌜ now (words .exit) ≡ sets (now (words .entry)) 0 (imageWords width depth tokens tape) ⌝ }
+    ensures { λ r. ⌜ now (words .exit) ≡ sets (now (words .entry)) 0 (imageWords sections tokens tape) ⌝ }
 {
-    let length = tape.length;
+    let letters = sections.letters;
+    let width = sections.width;
+    let depth = sections.depth;
     let loops = row_of(places, 1);
-    put_shape(words, length + 1, width, depth);
-    let repeats = put_letters(words, 4, width, &tokens, length);
-    let scatter = put_repeats(words, 5, repeats, width, loops);
-    let gather = put_tables(words, scatter, width, depth, scatters);
-    let propagate = put_tables(words, gather, width, depth, gathers);
-    let back = put_tables(words, propagate, width, depth + 1, propagates);
-    put_back(words, back, width, depth, backs);
+    put_shape(words, sections);
+    put_letters(words, letters, width, &tokens, tape.length);
+    put_repeats(words, letters, sections.repeats, width, loops);
+    put_tables(words, sections.scatter, width, depth, scatters);
+    put_tables(words, sections.gather, width, depth, gathers);
+    put_tables(words, sections.propagate, width, depth + 1, propagates);
+    put_back(words, sections.back, width, depth, backs);
 }

@@ -2,7 +2,7 @@
 use mathlib.Core.Path.{_≡_}
 use mathlib.Core.Bool.{cond}
 use mathlib.Core.List.{List, _∷_, _++_}
-use Prim.Native.Nat.{ℕ, suc, _+_, _*_, _≤_}
+use Prim.Native.Nat.{ℕ, suc}
 use lib.Dec.{leb}
 use lib.ListN.{getD, length}
 use lib.Seq.{sets}
@@ -41,11 +41,6 @@ tokenText ws W (Close m) state = byte ")" ∷ markWriting (markOf m)
 -- n tokens from `from` on
 abbrev pub rangeText : List ℕ → ℕ → List ℕ → (n from : ℕ) → List ℕ
 rangeText ws W kinds n from = join n from (λ i. tokenText ws W (readKind (getD kinds i 0)) (suc i))
-
--- the letters' masks are there, and lead to the first 512 states
-pub record Lettered (ws : List ℕ) (W : ℕ) : Type 0 where
-  pub narrow : W ≤ 8
-  pub room : 5 + W * 256 ≤ length ws
 
 -- ---- the whole: written if there is room
 abbrev pub writtenIf : List ℕ → List ℕ → Written

@@ -10,11 +10,13 @@ use crate::own::own_marks;
 use crate::ranges::write_range;
 use image_check::Verdict;
 use image_check::check;
+use image_sections::Sections;
 use tokens_masks::Tape;
 ghost use mathlib.Core.Path.{_≡_};
-ghost use Prim.Native.Nat.{_*_, _<_};
+ghost use Prim.Native.Nat.{_<_};
+ghost use Rattle.image_sections.specs.Sections.{Placed};
 ghost use Rattle.writing.specs.Says.{WrittenSays};
-ghost use Rattle.writing.specs.Work.{bytesAfter, Lettered, rangeText, writtenIf};
+ghost use Rattle.writing.specs.Work.{bytesAfter, rangeText, writtenIf};
 
 // What read back answers: no image, a writing longer than the bytes lent, or so many bytes.
 pub enum Written {
@@ -23,19 +25,19 @@ pub enum Written {
     Done(usize),
 }
 
-// The writing of an image whose masks have so many words, from its tape with each union's own mark.
-fn write(words: &[u64], width: usize, tape: Tape, bytes: &mut [u8]) -> Written
-    requires { ⌜ Lettered (now words) width × (tape .length < 64 * width) ⌝ }
-    ensures answer { λ r. ⌜ r ≡ writtenIf (rangeText (now (words .entry)) width (tape .kinds) (tape .length) 0) (now (bytes .entry)) ⌝ }
-    ensures written { λ r. ⌜ now (bytes .exit) ≡ bytesAfter (rangeText (now (words .entry)) width (tape .kinds) (tape .length) 0) (now (bytes .entry)) ⌝ }
+// The writing of an image, from its tape with each union's own mark.
+fn write(words: &[u64], sections: Sections, tape: Tape, bytes: &mut [u8]) -> Written
+    requires { ⌜ Placed (now words) sections × (tape .length < sections .states) ⌝ }
+    ensures answer { λ r. ⌜ r ≡ writtenIf (rangeText (now (words .entry)) (sections .width) (tape .kinds) (tape .length) 0) (now (bytes .entry)) ⌝ }
+    ensures written { λ r. ⌜ now (bytes .exit) ≡ bytesAfter (rangeText (now (words .entry)) (sections .width) (tape .kinds) (tape .length) 0) (now (bytes .entry)) ⌝ }
 {
     let kinds = tape.kinds;
     let length = tape.length;
-    let size = write_range(words, width, &kinds, &mut bytes[0..0], 0, 0, length);
+    let size = write_range(words, sections, &kinds, &mut bytes[0..0], 0, 0, length);
     if bytes.len() < size {
         return Written::NoRoom;
     }
-    write_range(words, width, &kinds, bytes, 0, 0, length);
+    write_range(words, sections, &kinds, bytes, 0, 0, length);
     Written::Done(size)
 }
 
@@ -45,9 +47,9 @@ pub fn read_back(words: &[u64], bytes: &mut [u8]) -> Written
     let checked = check(words);
     let verdict = checked.verdict;
     let tape = checked.tape;
-    let Verdict::Image(width) = verdict else {
+    let Verdict::Image(sections) = verdict else {
         return Written::NotAnImage;
     };
     let own = own_marks(tape);
-    write(words, width, own, bytes)
+    write(words, sections, own, bytes)
 }

@@ -3,16 +3,17 @@
 use mathlib.Core.Path.{_≡_, refl, sym, ap, ap₂, _∙_, subst}
 use mathlib.Core.Logic.{_⊎_, inl, inr}
 use mathlib.Core.List.{List, _++_, map}
-use Prim.Native.Nat.{ℕ, _+_, _*_, _≤_, _<_}
-use native.Mathlib.Nat.{mul-add, mul-assoc, mul-left-comm, mul-suc, zero-add}
+use Prim.Native.Nat.{ℕ, _+_, _≤_, _<_}
+use native.Mathlib.Nat.{zero-add}
 use native.Mathlib.Omega.{arith}
 use lib.ListN.{drop, length, length-map}
 use lib.Seq.{drop-at, sets, sets-eq}
 use Rattle.model.specs.Edges.{depth, states}
-use Rattle.model.specs.Image.{image, width}
-use Rattle.model.specs.Models.Sections.{imageLength}
+use Rattle.model.specs.Image.{image}
 use Rattle.model.specs.Tree as tree
 use Rattle.model.proofs.Laws.Bool.{le-or-lt}
+use Rattle.image_sections.specs.Sections.{sectionsOf}
+use Rattle.image_sections.specs.declared.Sections.{Sections}
 use Rattle.tokens_masks.specs.Says.{ShapeSays, TreeOnTape}
 use Rattle.tokens_masks.specs.declared.Shape.{Shape}
 use Rattle.tokens_masks.specs.declared.Shape.the-variants.{Other, Tree}
@@ -28,10 +29,6 @@ not-other d e = let z : _≡_ {A = ℕ} 0 1 = cc in omega arith
 
 same-told : (d e : ℕ) → Tree d ≡ Tree e → d ≡ e
 same-told d e p = cc
-
--- "The length is 9 + W(515 + 9d) words", and "lengths grow by 1 + 2Wd".
-as-model : (W d : ℕ) → 10 + W * (515 + 11 * d) ≡ imageLength W d
-as-model W d = omega (arith, mul-add W 515 (11 * d), mul-left-comm W 11 d, mul-assoc 3 W d, mul-assoc 2 W d, mul-suc (3 * W) d)
 
 -- words written from the first on
 written-first : (before ws : List ℕ) → length ws ≤ length before → sets before 0 ws ≡ ws ++ drop (length ws) before
@@ -89,23 +86,23 @@ module _ {row : List ℕ} {n : ℕ} {tape : Tape} {shape : Shape} (T : Taped row
         let P = tape-of row tape (T .kinds) (T .room) t (all-tokens t R) in
         shallow-on-tape t R (omega (arith, depth-is P, depth-is (there .1 .tape), there .1 .shallow))
 
-    module _ (before : List ℕ) {W size : ℕ} (wide : W ≡ width (n + 1)) (sized : size ≡ 10 + W * (515 + 11 * d)) where
-      width-is : (t : tree.Tree) → TreeOnTape t tape → W ≡ width (states t)
-      width-is t P = wide ∙ ap width (states-told t P)
+    module _ (before : List ℕ) {p : Sections} (places : p ≡ sectionsOf (n + 1) d) where
+      places-are : (t : tree.Tree) → TreeOnTape t tape → p ≡ sectionsOf (states t) (depth t)
+      places-are t P = places ∙ ap₂ sectionsOf (states-told t P) (sym (depth-told t P))
 
-      size-is : (t : tree.Tree) → TreeOnTape t tape → size ≡ length (image t)
-      size-is t P = sized ∙ as-model W d ∙ ap₂ imageLength (width-is t P) (sym (depth-told t P)) ∙ sym (length-image t)
+      size-is : (t : tree.Tree) → TreeOnTape t tape → p .length ≡ length (image t)
+      size-is t P = ap (λ (q : Sections). q .length) (places-are t P) ∙ sym (length-image t)
 
-      words-as : (t : tree.Tree) → TreeOnTape t tape → imageWords W d row tape ≡ imageWords (width (states t)) (depth t) row tape
-      words-as t P = ap₂ (λ (w k : ℕ). imageWords w k row tape) (width-is t P) (sym (depth-told t P))
+      words-as : (t : tree.Tree) → TreeOnTape t tape → imageWords p row tape ≡ imageWords (sectionsOf (states t) (depth t)) row tape
+      words-as t P = ap (λ (q : Sections). imageWords q row tape) (places-are t P)
 
       -- NO ROOM
-      pub says-no-room : length before < size → StoreSays row n before NoRoom before
+      pub says-no-room : length before < p .length → StoreSays row n before NoRoom before
       says-no-room h t R = let P = of-rule t R in no-room (P .shallow) (omega (arith, size-is t P)) refl refl
 
       -- DONE
-      module _ {after : List ℕ} (fits : size ≤ length before) (is : after ≡ sets before 0 (imageWords W d row tape)) where
-        pub says-stored : StoreSays row n before (Done size) after
+      module _ {after : List ℕ} (fits : p .length ≤ length before) (is : after ≡ sets before 0 (imageWords p row tape)) where
+        pub says-stored : StoreSays row n before (Done (p .length)) after
         says-stored t R =
             let P = of-rule t R in
             let e = size-is t P in
@@ -113,13 +110,13 @@ module _ {row : List ℕ} {n : ℕ} {tape : Tape} {shape : Shape} (T : Taped row
             (is ∙ ap (sets before 0) (words-as t P ∙ image-written row tape t P (all-tokens t R))
             ∙ written-first before (image t) (omega (arith, e)))
 
-        pub keeps : (size ≤ length before) × (drop size after ≡ drop size before)
+        pub keeps : (p .length ≤ length before) × (drop (p .length) after ≡ drop (p .length) before)
         keeps =
             let s = there .0 in
             let P = there .1 in
-            let ws = imageWords W d row tape in
+            let ws = imageWords p row tape in
             let l = ap length (words-as s P) ∙ length-written row tape s P ∙ sym (length-image s) ∙ sym (size-is s P) in (
               fits,
-              ap (drop size) (is ∙ written-first before ws (omega (arith, l)))
-                  ∙ drop-at ws (drop (length ws) before) size l ∙ ap (λ (k : ℕ). drop k before) l,
+              ap (drop (p .length)) (is ∙ written-first before ws (omega (arith, l)))
+                  ∙ drop-at ws (drop (length ws) before) (p .length) l ∙ ap (λ (k : ℕ). drop k before) l,
             )

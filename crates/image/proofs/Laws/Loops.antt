@@ -2,7 +2,7 @@
 -- bytes' masks.
 use mathlib.Core.Path.{_≡_, refl, sym, ap, ap₂, _∙_}
 use mathlib.Core.List.{List, [], _∷_, _++_}
-use Prim.Native.Nat.{ℕ, zero, suc, _+_, _*_, _≤_, _<_}
+use Prim.Native.Nat.{ℕ, zero, suc, _+_, _-_, _*_, _≤_, _<_}
 use native.Mathlib.Omega.{arith}
 use lib.Bits.{bitAnd}
 use lib.ListN.{drop, getD, length, length-drop, set, take}
@@ -58,20 +58,23 @@ and-take (suc n) [] ys = refl
 and-take (suc n) (x ∷ xs) [] = refl
 and-take (suc n) (x ∷ xs) (y ∷ ys) = ap (λ (ws : List ℕ). bitAnd x y ∷ ws) (and-take n xs ys)
 
-module _ (W : ℕ) (row : List ℕ) (n : ℕ) (narrow : W ≤ 8) (l : List ℕ) (i : ℕ) (fits : i + 1 + 256 * W ≤ length l) where
-  letters-read : (b : ℕ) → b < 256 → take W (drop (i + 1 + W * b) (sets l i (lettersPart W row n))) ≡ take W (letterRow row n b)
+module _ (W : ℕ) (row : List ℕ) (n : ℕ) (narrow : W ≤ 8) (l : List ℕ) (i : ℕ) (some : 1 ≤ i) (fits : i + W * 256 ≤ length l) where
+  abbrev lettered : List ℕ
+  lettered = sets l (i - 1) (lettersPart W row n)
+
+  letters-read : (b : ℕ) → b < 256 → take W (drop (i + W * b) lettered) ≡ take W (letterRow row n b)
   letters-read b h =
       let long = length-section W 256 (λ b. take W (letterRow row n b)) (letters-long row n narrow) in
-      let rest = drop (i + length (lettersPart W row n)) l in
-      let before = take i l in
-      let at : length before ≡ i = length-take-le i l (omega arith) in
-      let e : i + 1 + W * b ≡ length before + suc (W * b) = omega arith in
-      ap₂ (λ (k : ℕ) (ws : List ℕ). take W (drop k ws)) e (sets-between l i (lettersPart W row n) (omega arith))
+      let rest = drop (i - 1 + length (lettersPart W row n)) l in
+      let before = take (i - 1) l in
+      let at : length before ≡ i - 1 = length-take-le (i - 1) l (omega arith) in
+      let e : i + W * b ≡ length before + suc (W * b) = omega arith in
+      ap₂ (λ (k : ℕ) (ws : List ℕ). take W (drop k ws)) e (sets-between l (i - 1) (lettersPart W row n) (omega arith))
       ∙ ap (take W) (drop-append-add before (lettersPart W row n ++ rest) (suc (W * b)))
       ∙ chunk-join W (λ b. take W (letterRow row n b)) (letter-long row n narrow) 256 b rest h
 
-  pub repeats-are : (loops : List ℕ) → bothPart W (sets l i (lettersPart W row n)) (i + 1) loops ≡ repeatsPart W row n loops
+  pub repeats-are : (loops : List ℕ) → bothPart W lettered i loops ≡ repeatsPart W row n loops
   repeats-are loops =
       ap section
-      (join-same 256 0 (λ b. bothRow W (sets l i (lettersPart W row n)) (i + 1 + W * b) loops) (λ b. take W (repeatRow row n loops b))
+      (join-same 256 0 (λ b. bothRow W lettered (i + W * b) loops) (λ b. take W (repeatRow row n loops b))
       (λ b h. ap (λ (ws : List ℕ). andWords ws (take W loops)) (letters-read b (omega arith)) ∙ and-take W (letterRow row n b) loops))

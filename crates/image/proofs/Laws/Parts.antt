@@ -1,7 +1,7 @@
 -- A SECTION WRITTEN PART BY PART: parts of w words stand one after another, so part k goes w * k words after the first, and n parts are w * n words.
 use mathlib.Core.Path.{_≡_, refl, sym, ap, _∙_}
 use mathlib.Core.List.{List, _++_, append-assoc, append-nil}
-use Prim.Native.Nat.{ℕ, zero, suc, _+_, _*_, _≤_, _<_}
+use Prim.Native.Nat.{ℕ, zero, suc, _+_, _-_, _*_, _≤_, _<_}
 use native.Mathlib.Nat.{add-zero, le-of-lt, le-refl, mul-suc, mul-zero, zero-add}
 use native.Mathlib.Numerals.{add-one}
 use native.Mathlib.Omega.{arith}
@@ -61,15 +61,16 @@ module _ {w n : ℕ} {f : ℕ → List ℕ} {l : List ℕ} {i : ℕ} {words : Li
     are = e ∙ ap (λ (ws : List ℕ). sets ws (i + w * k) (f k)) (P .are) ∙ part-more w n f (P .same) l i k h;
   }
 
--- the same after the count c of their words
-module _ (l : List ℕ) (i c : ℕ) {w n : ℕ} {f : ℕ → List ℕ} {words : List ℕ} {k : ℕ} (P : Parts w n f (set l i c) (i + 1) words k) where
+-- the same from place i on, after the count c of their words
+module _ (l : List ℕ) (i c : ℕ) {w n : ℕ} {f : ℕ → List ℕ} {words : List ℕ} {k : ℕ} (P : Parts w n f (set l (i - 1) c) i words k) where
   pub parts-long : length words ≡ length l
-  parts-long = P .long ∙ length-set l i c
+  parts-long = P .long ∙ length-set l (i - 1) c
 
-  pub parts-all : c ≡ w * n → n ≤ k → words ≡ sets l i (section (join n 0 f))
-  parts-all e h =
+  pub parts-all : 1 ≤ i → c ≡ w * n → n ≤ k → words ≡ sets l (i - 1) (section (join n 0 f))
+  parts-all some e h =
       let q : k ≡ n = omega arith in
+      let next : i ≡ suc (i - 1) = omega arith in
       P .are
-      ∙ ap (λ (j : ℕ). sets (set l i c) (i + 1) (join j 0 f)) q
-      ∙ ap (λ (p : ℕ). sets (set l i c) p (join n 0 f)) (add-one i)
-      ∙ ap (λ (d : ℕ). sets (set l i d) (suc i) (join n 0 f)) (e ∙ sym (length-joined w n f (P .same)))
+      ∙ ap (λ (j : ℕ). sets (set l (i - 1) c) i (join j 0 f)) q
+      ∙ ap (λ (p : ℕ). sets (set l (i - 1) c) p (join n 0 f)) next
+      ∙ ap (λ (d : ℕ). sets (set l (i - 1) d) (suc (i - 1)) (join n 0 f)) (e ∙ sym (length-joined w n f (P .same)))

@@ -3,7 +3,7 @@
 use mathlib.Core.Path.{_≡_, refl, sym, ap, ap₂, _∙_, subst}
 use mathlib.Core.Bool.{Bool, _&&_}
 use mathlib.Core.List.{List, [], _∷_, _++_}
-use Prim.Native.Nat.{ℕ, zero, suc, _+_, _*_, _≤_, _<_}
+use Prim.Native.Nat.{ℕ, zero, suc, _≤_, _<_}
 use native.Mathlib.Omega.{arith}
 use lib.ListN.{getD, length, take}
 use Rattle.model.specs.Bits.{bit}
@@ -25,6 +25,7 @@ use Rattle.model.proofs.Image.WellFormed.{well-fine}
 use Rattle.model.proofs.Reading.WellFormed.{rule-well}
 use Rattle.model.proofs.Words.Holds.{Near, set-holds}
 use Rattle.model.proofs.Words.Operations.{holds-and-l}
+use Rattle.image_sections.specs.Sections.{sectionsOf}
 use Rattle.tokens_masks.specs.Says.{RowsAre, TreeOnTape}
 use Rattle.tokens_masks.specs.Tables.{Table}
 use Rattle.tokens_masks.specs.Tapes.{propagateBlockTable, propagateSourceTable, propagateTargetTable, tableOf}
@@ -36,12 +37,12 @@ use Rattle.image.specs.Work.{imageWords, leads, letterRow, repeatRow, th
 use Rattle.image.proofs.Laws.Tapes.{states-are}
 use Rattle.image.proofs.Laws.TokenWords.{in-class}
 
--- seven sections that are equal one by one
-sections-same : {a a′ l l′ r r′ s s′ g g′ p p′ b b′ : List ℕ} → a ≡ a′ → l ≡ l′ → r ≡ r′ → s ≡ s′ → g ≡ g′ → p ≡ p′ → b ≡ b′
+-- after the shape, six sections that are equal one by one
+sections-same : (a : List ℕ) {l l′ r r′ s s′ g g′ p p′ b b′ : List ℕ} → l ≡ l′ → r ≡ r′ → s ≡ s′ → g ≡ g′ → p ≡ p′ → b ≡ b′
     → section a ++ (section l ++ (section r ++ (section s ++ (section g ++ (section p ++ section b)))))
-    ≡ section a′ ++ (section l′ ++ (section r′ ++ (section s′ ++ (section g′ ++ (section p′ ++ section b′)))))
-sections-same ea el er es eg ep eb =
-    λ i. section (ea i) ++ (section (el i) ++ (section (er i) ++ (section (es i) ++ (section (eg i) ++ (section (ep i) ++ section (eb i))))))
+    ≡ section a ++ (section l′ ++ (section r′ ++ (section s′ ++ (section g′ ++ (section p′ ++ section b′)))))
+sections-same a el er es eg ep eb =
+    λ i. section a ++ (section (el i) ++ (section (er i) ++ (section (es i) ++ (section (eg i) ++ (section (ep i) ++ section (eb i))))))
 
 module _ (row : List ℕ) (tape : Tape) (s : Tree) (O : TreeOnTape s tape) where
   abbrev m : ℕ
@@ -96,9 +97,9 @@ module _ (row : List ℕ) (tape : Tape) (s : Tree) (O : TreeOnTape s tape) where
       ap₂ _++_ (first (g k) (S .row k k′)) (first (h k) (T .row k k′)))
 
   -- THE WORDS WRITTEN
-  pub written : imageWords W (depth s) row tape ≡ assemble m W (depth s) (leads row) looped (edgeSet s)
+  pub written : imageWords (sectionsOf (states s) (depth s)) row tape ≡ assemble m W (depth s) (leads row) looped (edgeSet s)
   written =
-      sections-same (ap (λ (n : ℕ). n ∷ W ∷ depth s ∷ []) (states-are O))
+      sections-same (m ∷ W ∷ depth s ∷ [])
       (join-same 256 0 (λ b. take W (letterRow row (tape .length) b)) (λ b. set m W (leads row b)) (λ b l. letter-row b))
       (join-same 256 0 (λ b. take W (repeatRow row (tape .length) loops b)) (λ b. set m W (looped b)) (λ b l. repeat-row b))
       (three-rows (depth s) (tableOf tape scatter-block) (tableOf tape scatter-source) (tableOf tape scatter-target) (scatterBlock s) (scatterSource s)
@@ -109,7 +110,7 @@ module _ (row : List ℕ) (tape : Tape) (s : Tree) (O : TreeOnTape s tape) where
       (propagateTarget s) (propagate-block-says tape s O) (propagate-source-says tape s O) (propagate-target-says tape s O))
       (two-rows (depth s) (tableOf tape back-source) (tableOf tape back-target) (backSource s) (backTarget s) (back-source-says tape s O) (back-target-says tape s O))
 
-  pub length-written : length (imageWords W (depth s) row tape) ≡ imageLength W (depth s)
+  pub length-written : length (imageWords (sectionsOf (states s) (depth s)) row tape) ≡ imageLength W (depth s)
   length-written = ap length written ∙ length-assembled m W (depth s) (leads row) looped (edgeSet s)
 
   -- ---- and with the tree's own classes
@@ -123,7 +124,7 @@ module _ (row : List ℕ) (tape : Tape) (s : Tree) (O : TreeOnTape s tape) where
             in-class (tokens s []) row (tape .length) (R .long) (R .are) i b (omega (arith, length-tokens s)) h (well-fine s (rule-well (R .is-rule)))
 
     -- THE TREE'S IMAGE
-    pub image-written : imageWords W (depth s) row tape ≡ image s
+    pub image-written : imageWords (sectionsOf (states s) (depth s)) row tape ≡ image s
     image-written =
         written
         ∙ assemble-same m W (depth s) (leads row) looped (letters s) (repeats s) (edgeSet s) (edgeSet s) letters-lead

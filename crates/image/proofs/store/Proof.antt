@@ -1,10 +1,28 @@
 -- `store`: each answer says what `Laws.Answers` proves of it; a tape told to be a tree's is within the limits that the callees ask for.
-use mathlib.Core.Path.{refl}
+use mathlib.Core.Path.{refl, ap}
 use native.Mathlib.Omega.{arith}
-use Rattle.image.proofs.Laws.Answers.{few, keeps, says-no-room, says-no-tree, says-stored, shallow, taped}
+use Rattle.image_sections.specs.declared.Sections.{Sections}
+use Rattle.image_sections.proofs.Laws.Within.{within-limits}
+use Rattle.image.proofs.Laws.Answers.{few, keeps, says-no-room, says-no-tree, says-stored, shallow, Taped, taped}
 use borrow.Author.Needs.{needs}
 use Rattle.image.proofs.store.Statement.{statement}
 use Rattle.image.proofs.store.Tie as tie
+
+-- ---- the moments after `lay_out` and after `sections_of`
+abbrev atTape : tie.After-lay-out → tie.After-tape-of
+atTape l = l .before .before .before .before .before .before
+
+abbrev start : tie.After-lay-out → tie.Start
+start l = atTape l .before .before
+
+abbrev laidOut : tie.After-sections-of → tie.After-lay-out
+laidOut m = m .before .before .before .before
+
+-- what the tape was told to be
+told : (l : tie.After-lay-out) → Taped (start l .args .tokens) (start l .args .length) (atTape l .tape-of .result) (l .lay-out .result)
+told l =
+    let t = atTape l .tape-of in
+    taped (start l .args .tokens) (t .result) _ (t .ensures .0) (t .ensures .1) (t .ok .1 .1 .0 .1 .0 .1) (l .lay-out .ensures .1 .0)
 
 tape-of-requires : tie.Need-tape-of-requires
 tape-of-requires c κs = search needs
@@ -19,57 +37,38 @@ enum-told : tie.Need-enum-told
 enum-told c = search needs
 
 returns : tie.Need-returns
-returns c =
-    let t = c .before .before .before .before .before .before .before .before .tape-of in
-    let a = c .before .before .before .before .before .before .before .before .before .before .args in
-    let T = taped (a .tokens) (t .result) _ (t .ensures .0) (t .ensures .1) (t .ok .1 .1 .0 .1 .0 .1) (c .before .before .lay-out .ensures .1 .0) in
-    (says-no-tree T (a .words .now) (c .enum-told .given .1), refl)
+returns c = let l = c .before .before in (says-no-tree (told l) (start l .args .words .now) (c .enum-told .given .1), refl)
 
-add-width-of : tie.Need-add-width-of
-add-width-of c =
-    let t = c .before .before .before .before .before .before .before .before .before .tape-of in
-    let a = c .before .before .before .before .before .before .before .before .before .before .before .args in
-    let T = taped (a .tokens) (t .result) _ (t .ensures .0) (t .ensures .1) (t .ok .1 .1 .0 .1 .0 .1) (c .before .before .before .lay-out .ensures .1 .0) in
-    omega (arith, few T (c .before .shape .given .1))
+add-sections-of : tie.Need-add-sections-of
+add-sections-of c = omega (arith, few (told (c .before .before .before)) (c .before .shape .given .1))
 
-width-of-requires : tie.Need-width-of-requires
-width-of-requires c κs =
-    let t = c .before .before .before .before .before .before .before .before .before .tape-of in
-    let a = c .before .before .before .before .before .before .before .before .before .before .before .args in
-    let T = taped (a .tokens) (t .result) _ (t .ensures .0) (t .ensures .1) (t .ok .1 .1 .0 .1 .0 .1) (c .before .before .before .lay-out .ensures .1 .0) in
-    few T (c .before .shape .given .1)
-
-image-length-requires : tie.Need-image-length-requires
-image-length-requires c κs =
-    let t = c .before .before .before .before .before .before .before .before .before .before .tape-of in
-    let a = c .before .before .before .before .before .before .before .before .before .before .before .before .args in
-    let T = taped (a .tokens) (t .result) _ (t .ensures .0) (t .ensures .1) (t .ok .1 .1 .0 .1 .0 .1) (c .before .before .before .before .lay-out .ensures .1 .0) in
-    let p = c .before .before .shape .given .1 in
-    (omega (arith, c .width-of .ensures, few T p), shallow T p)
+sections-of-requires : tie.Need-sections-of-requires
+sections-of-requires c κs =
+    let T = told (c .before .before .before) in
+    let d = c .before .shape .given .1 in
+    (few T d, shallow T d)
 
 returns-2 : tie.Need-returns-2
 returns-2 c =
-    let t = c .before .before .before .before .before .before .before .before .before .before .before .before .tape-of in
-    let a = c .before .before .before .before .before .before .before .before .before .before .before .before .before .before .args in
-    let T = taped (a .tokens) (t .result) _ (t .ensures .0) (t .ensures .1) (t .ok .1 .1 .0 .1 .0 .1) (c .before .before .before .before .before .before .lay-out .ensures .1 .0) in
-    let p = c .before .before .before .before .shape .given .1 in
-    (says-no-room T p (a .words .now) (c .before .before .width-of .ensures) (c .before .image-length .ensures) (c .if1 .taken), refl)
+    let m = c .before .before in
+    let l = laidOut m in
+    (says-no-room (told l) (m .before .before .shape .given .1) (start l .args .words .now) (m .sections-of .ensures) (c .if1 .taken), refl)
 
 put-image-requires : tie.Need-put-image-requires
 put-image-requires c κs =
-    let t = c .before .before .before .before .before .before .before .before .before .before .before .before .before .before .before .before .before .before .tape-of in
-    let a = c .before .before .before .before .before .before .before .before .before .before .before .before .before .before .before .before .before .before .before .before .args in
-    let T = taped (a .tokens) (t .result) _ (t .ensures .0) (t .ensures .1) (t .ok .1 .1 .0 .1 .0 .1) (c .before .before .before .before .before .before .before .before .before .before .before .before .lay-out .ensures .1 .0) in
-    let p = c .before .before .before .before .before .before .before .before .before .before .shape .given .1 in
-    let f = few T p in (
+    let roomy = c .before .before .before .before .before .before in
+    let m = roomy .before .before in
+    let l = laidOut m in
+    let T = told l in
+    let d = m .before .before .shape .given .1 in
+    let places = m .sections-of .ensures in (
       (
-        omega (arith, c .before .before .before .before .before .before .before .before .width-of .ensures, f),
-        shallow T p,
-        omega (arith, t .ensures .0, f),
-        omega (arith, t .ensures .0, c .before .before .before .before .before .before .before .before .width-of .ensures, f),
-        omega (arith, c .before .before .before .before .before .before .before .image-length .ensures, c .before .before .before .before .before .before .if1 .left),
+        within-limits places (few T d) (shallow T d),
+        ap (λ (p : Sections). p .letters) places,
+        roomy .if1 .left,
+        omega (arith, atTape l .tape-of .ensures .0, ap (λ (p : Sections). p .states) places),
       ),
-      c .before .before .before .before .before .before .before .before .before .before .before .before .lay-out .ensures .1 .1 .0,
+      l .lay-out .ensures .1 .1 .0,
     )
 
 same-length : tie.Need-same-length
@@ -77,15 +76,15 @@ same-length c = search needs
 
 returns-3 : tie.Need-returns-3
 returns-3 c =
-    let t = c .before .before .before .before .before .before .before .before .before .before .before .before .before .before .before .before .before .before .before .before .before .tape-of in
-    let a = c .before .before .before .before .before .before .before .before .before .before .before .before .before .before .before .before .before .before .before .before .before .before .before .args in
-    let T = taped (a .tokens) (t .result) _ (t .ensures .0) (t .ensures .1) (t .ok .1 .1 .0 .1 .0 .1) (c .before .before .before .before .before .before .before .before .before .before .before .before .before .before .before .lay-out .ensures .1 .0) in
-    let p = c .before .before .before .before .before .before .before .before .before .before .before .before .before .shape .given .1 in
-    let fits = c .before .before .before .before .before .before .before .before .before .if1 .left in
-    let is = c .before .before .put-image .ensures in (
-      says-stored T p (a .words .now) (c .before .before .before .before .before .before .before .before .before .before .before .width-of .ensures) (c .before .before .before .before .before .before .before .before .before .before .image-length .ensures) fits is,
-      keeps T p (a .words .now) (c .before .before .before .before .before .before .before .before .before .before .before .width-of .ensures) (c .before .before .before .before .before .before .before .before .before .before .image-length .ensures) fits is,
-    )
+    let put = c .before .before in
+    let roomy = put .before .before .before .before .before .before .before in
+    let m = roomy .before .before in
+    let l = laidOut m in
+    let T = told l in
+    let d = m .before .before .shape .given .1 in
+    let before = start l .args .words .now in
+    let places = m .sections-of .ensures in
+    (says-stored T d before places (roomy .if1 .left) (put .put-image .ensures), keeps T d before places (roomy .if1 .left) (put .put-image .ensures))
 
 pub store-spec : {M : Type 1} → statement M
 store-spec =
@@ -96,9 +95,8 @@ store-spec =
     enum-known-shape
     enum-told
     returns
-    add-width-of
-    width-of-requires
-    image-length-requires
+    add-sections-of
+    sections-of-requires
     returns-2
     put-image-requires
     same-length

@@ -13,13 +13,16 @@ use lib.ListN.{drop, getD, length, length-replicate, replicate, set}
 use lib.Seq.{getD-drop, getD-take, set-getD}
 use Rattle.model.specs.Bits.{bit, digit}
 use Rattle.model.specs.Image.{words}
-use Rattle.model.specs.Models.Sections.{bitOf, chunk, lettersIn}
+use Rattle.model.specs.Models.Sections.{bitOf, chunk, lettersAt, lettersIn}
 use Rattle.model.specs.Models.Words.{Fit, putBit, value}
 use Rattle.model.proofs.Image.Rows.{val-words}
 use Rattle.model.proofs.Image.SameBits.{fit-drop, fit-take}
 use Rattle.model.proofs.Laws.Bool.{is-true, unequal}
 use Rattle.model.proofs.Words.Bits.{mask-lt}
 use Rattle.model.proofs.Words.Holds.{Holds}
+use Rattle.image_sections.specs.Sections.{Placed}
+use Rattle.image_sections.specs.declared.Sections.{Sections}
+use Rattle.image_sections.proofs.Laws.Within.{scatters-in, within}
 use Rattle.mask.proofs.Laws.Bits.{none-bit, none-fit, one-shifted, read-bit}
 use Rattle.model.proofs.Words.RowBits.{row-bit}
 use Rattle.model.proofs.Words.Put.{put-bit, put-fit, put-length}
@@ -30,30 +33,36 @@ abbrev pub leadsTo : List ℕ → ℕ → ℕ → ℕ → Bool
 leadsTo ws W state b = bitOf W (lettersIn ws) b state
 
 -- ---- a letter mask's bit of a state, as a shift reads it from its word
-pub in-letters : (W b state n : ℕ) → b < 256 → state < 64 * W → 5 + W * 256 ≤ n → 5 + W * b + state / 64 < n
-in-letters W b state n h l r = omega (arith, mul-le-mul-left W h, mul-suc W b)
+pub in-letters : {ws : List ℕ} {p : Sections} → Placed ws p → (b state : ℕ) → b < 256 → state < p .states
+    → p .letters + state / 64 + p .width * b < length ws
+in-letters {p = p} P b state h l =
+    let I = within P in
+    omega (arith, I .letters, I .repeats, scatters-in I, I .room, mul-le-mul-left (p .width) h, mul-suc (p .width) b)
 
 one-digit : (d : ℕ) → d ≤ 1 → d ≡ digit (eqb d 1)
 one-digit zero h = refl
 one-digit (suc zero) h = refl
 one-digit (suc (suc d)) h = absurd (omega arith)
 
-module _ (ws : List ℕ) (W state : ℕ) (fits : Fit ws) (below : state < 64 * W) where
+module _ {ws : List ℕ} {p : Sections} (P : Placed ws p) (state : ℕ) (fits : Fit ws) (below : state < p .states) where
+  abbrev W : ℕ
+  W = p .width
+
   abbrev wordOf : ℕ → ℕ
-  wordOf b = getD ws (5 + W * b + state / 64) 0
+  wordOf b = getD ws (p .letters + state / 64 + W * b) 0
 
   letter-bit : (b : ℕ) → bit (wordOf b) (state % 64) ≡ leadsTo ws W state b
   letter-bit b =
       let rest = drop (W * b) (lettersIn ws) in
-      let e : 5 + W * b + state / 64 ≡ 5 + (W * b + state / 64) = omega arith in
+      let e : p .letters + state / 64 + W * b ≡ lettersAt + (W * b + state / 64) = omega (arith, ap (λ (q : Sections). q .letters) (P .own)) in
       ap (λ (w : ℕ). bit w (state % 64))
       (ap (λ (k : ℕ). getD ws k 0) e
-      ∙ sym (getD-drop 5 ws (W * b + state / 64) 0)
+      ∙ sym (getD-drop lettersAt ws (W * b + state / 64) 0)
       ∙ sym (getD-drop (W * b) (lettersIn ws) (state / 64) 0)
-      ∙ sym (getD-take W rest (state / 64) 0 (omega arith)))
-      ∙ sym (row-bit (chunk W b (lettersIn ws)) state (fit-take W rest (fit-drop (W * b) (lettersIn ws) (fit-drop 5 ws fits))))
+      ∙ sym (getD-take W rest (state / 64) 0 (omega (arith, below, within P .room))))
+      ∙ sym (row-bit (chunk W b (lettersIn ws)) state (fit-take W rest (fit-drop (W * b) (lettersIn ws) (fit-drop lettersAt ws fits))))
 
-  pub letter-digit : (b : ℕ) → bitAnd (getD ws (5 + W * b + state / 64) 0 / 2 ^ (state % 64)) 1 ≡ digit (leadsTo ws W state b)
+  pub letter-digit : (b : ℕ) → bitAnd (wordOf b / 2 ^ (state % 64)) 1 ≡ digit (leadsTo ws W state b)
   letter-digit b =
       one-digit (bitAnd (wordOf b / 2 ^ (state % 64)) 1) (and-le-r (wordOf b / 2 ^ (state % 64)) 1)
       ∙ ap digit (read-bit (wordOf b) (state % 64) ∙ letter-bit b)

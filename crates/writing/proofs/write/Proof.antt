@@ -26,7 +26,7 @@ returns c =
     let w = c .before .before .before .write-range in
     let a = c .before .before .before .before .before .before .before .before .before .args in
     let same = nothing-lent (w .last .1 .1 .1 .0) (a .bytes .now) (c .before .before .bytes .given .0) in
-    no-room (a .words .now) (a .width) (a .tape .kinds) (a .tape .length) (a .bytes .now) _ same (w .result) (w .ensures .0) (c .if1 .taken)
+    no-room (a .words .now) (a .sections .width) (a .tape .kinds) (a .tape .length) (a .bytes .now) _ same (w .result) (w .ensures .0) (c .if1 .taken)
 
 write-range-requires-2 : tie.Need-write-range-requires-2
 write-range-requires-2 c κs =
@@ -43,7 +43,7 @@ returns-2 c =
     let w = o .before .before .before .write-range in
     let a = o .before .before .before .before .before .before .before .before .before .args in
     let same = nothing-lent (w .last .1 .1 .1 .0) (a .bytes .now) (o .before .before .bytes .given .0) in
-    room (a .words .now) (a .width) (a .tape .kinds) (a .tape .length) (a .bytes .now) _ same (w .result) (v .last .1 .1 .1 .0) (w .ensures .0)
+    room (a .words .now) (a .sections .width) (a .tape .kinds) (a .tape .length) (a .bytes .now) _ same (w .result) (v .last .1 .1 .1 .0) (w .ensures .0)
     (o .if1 .left) (v .ensures .1 .0)
 
 pub write-spec : {M : Type 1} → statement M

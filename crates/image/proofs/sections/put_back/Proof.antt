@@ -14,7 +14,7 @@ use Rattle.image.proofs.sections.put_back.Tie as tie
 
 abbrev Inv-loop : tie.InvT-loop
 Inv-loop words₀ at width depths masks k₀ words k =
-    Parts (2 * width) depths (backRows width (tableIn masks 1) (tableIn masks 2)) words₀ (at + 1) words k
+    Parts (2 * width) depths (backRows width (tableIn masks 1) (tableIn masks 2)) words₀ at words k
 
 abbrev μ-loop : tie.MeasureT-loop
 μ-loop words₀ at width depths masks k₀ words k = depths - k
@@ -24,6 +24,9 @@ mul-words c = search needs
 
 mul-words-2 : tie.Need-mul-words-2 Inv-loop μ-loop
 mul-words-2 c = search needs
+
+sub-words : tie.Need-sub-words Inv-loop μ-loop
+sub-words c = search needs
 
 mul-words-3 : tie.Need-mul-words-3 Inv-loop μ-loop
 mul-words-3 c = search needs
@@ -36,7 +39,7 @@ loop-holds c =
     let s = c .before .before in
     let ms = s .args .masks .now in
     parts-none
-    (backs-long (tableIn ms 1) (tableIn ms 2) (s .pre .0) (s .pre .1) (in-eights ms 1 (s .pre .3) (omega arith)) (in-eights ms 2 (s .pre .3) (omega arith)))
+    (backs-long (tableIn ms 1) (tableIn ms 2) (s .pre .0) (s .pre .1) (in-eights ms 1 (s .pre .4) (omega arith)) (in-eights ms 2 (s .pre .4) (omega arith)))
 
 mul-row-of : tie.Need-mul-row-of Inv-loop μ-loop
 mul-row-of c = search needs
@@ -56,17 +59,14 @@ add-row-of-2 c = search needs
 row-of-requires-2 : tie.Need-row-of-requires-2 Inv-loop μ-loop
 row-of-requires-2 c κs = search needs
 
-add-put-two : tie.Need-add-put-two Inv-loop μ-loop
-add-put-two c = search needs
-
 mul-put-two : tie.Need-mul-put-two Inv-loop μ-loop
 mul-put-two c = search needs
 
 mul-put-two-2 : tie.Need-mul-put-two-2 Inv-loop μ-loop
 mul-put-two-2 c = omega (arith, part-fits (2 * c .before .before .before .before .before .before .before .args .width) (c .before .before .before .loop-test .taken))
 
-add-put-two-2 : tie.Need-add-put-two-2 Inv-loop μ-loop
-add-put-two-2 c = omega (arith, part-fits (2 * c .before .before .before .before .before .before .before .args .width) (c .before .before .before .loop-test .taken))
+add-put-two : tie.Need-add-put-two Inv-loop μ-loop
+add-put-two c = omega (arith, part-fits (2 * c .before .before .before .before .before .before .before .args .width) (c .before .before .before .loop-test .taken))
 
 put-two-requires : tie.Need-put-two-requires Inv-loop μ-loop
 put-two-requires c κs =
@@ -77,7 +77,7 @@ put-two-requires c κs =
         arith,
         part-fits (2 * a .width) (c .before .before .before .loop-test .taken),
         parts-long (a .words .now) (a .at) (2 * a .width * a .depths) (c .before .before .before .before .loop .inv),
-        s .pre .2,
+        s .pre .3,
       ),
     )
 
@@ -93,8 +93,8 @@ loop-again c =
     let s = c .before .before .before .before .before .before .before .before .before .before in
     parts-more (l .inv) (c .before .before .before .before .before .before .loop-test .taken)
     (c .before .before .put-two .ensures
-    ∙ ap (λ (rows : List ℕ). sets (l .words) (s .args .at + 1 + 2 * s .args .width * l .k) rows)
-    (two-read (s .args .width) (s .args .masks .now) (l .k) (omega (arith, s .pre .1)) (c .before .before .before .before .before .row-of .ensures .inside (omega (arith, s .pre .1, s .pre .3))) (c .before .before .before .before .row-of2 .ensures .inside (omega (arith, s .pre .1, s .pre .3)))))
+    ∙ ap (λ (rows : List ℕ). sets (l .words) (s .args .at + 2 * s .args .width * l .k) rows)
+    (two-read (s .args .width) (s .args .masks .now) (l .k) (omega (arith, s .pre .1)) (c .before .before .before .before .before .row-of .ensures .inside (omega (arith, s .pre .1, s .pre .4))) (c .before .before .before .before .row-of2 .ensures .inside (omega (arith, s .pre .1, s .pre .4)))))
 
 same-length : tie.Need-same-length Inv-loop μ-loop
 same-length c =
@@ -103,8 +103,9 @@ same-length c =
 
 returns : tie.Need-returns Inv-loop μ-loop
 returns c =
-    let a = c .before .before .before .before .args in
-    parts-all (a .words .now) (a .at) (2 * a .width * a .depths) (c .before .loop .inv) refl (c .loop-test .left)
+    let s = c .before .before .before .before in
+    let a = s .args in
+    parts-all (a .words .now) (a .at) (2 * a .width * a .depths) (c .before .loop .inv) (s .pre .2) refl (c .loop-test .left)
 
 pub put-back-spec : {M : Type 1} → statement M
 put-back-spec =
@@ -114,6 +115,7 @@ put-back-spec =
     μ-loop
     mul-words
     mul-words-2
+    sub-words
     mul-words-3
     slice-write-words
     loop-holds
@@ -123,10 +125,9 @@ put-back-spec =
     mul-row-of-2
     add-row-of-2
     row-of-requires-2
-    add-put-two
     mul-put-two
     mul-put-two-2
-    add-put-two-2
+    add-put-two
     put-two-requires
     add-k
     loop-less

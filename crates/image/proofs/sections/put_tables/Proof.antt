@@ -14,7 +14,7 @@ use Rattle.image.proofs.sections.put_tables.Tie as tie
 
 abbrev Inv-loop : tie.InvT-loop
 Inv-loop words₀ at width depths masks k₀ words k =
-    Parts (3 * width) depths (depthRows width (tableIn masks 0) (tableIn masks 1) (tableIn masks 2)) words₀ (at + 1) words k
+    Parts (3 * width) depths (depthRows width (tableIn masks 0) (tableIn masks 1) (tableIn masks 2)) words₀ at words k
 
 abbrev μ-loop : tie.MeasureT-loop
 μ-loop words₀ at width depths masks k₀ words k = depths - k
@@ -24,6 +24,9 @@ mul-words c = search needs
 
 mul-words-2 : tie.Need-mul-words-2 Inv-loop μ-loop
 mul-words-2 c = search needs
+
+sub-words : tie.Need-sub-words Inv-loop μ-loop
+sub-words c = search needs
 
 mul-words-3 : tie.Need-mul-words-3 Inv-loop μ-loop
 mul-words-3 c = search needs
@@ -36,7 +39,7 @@ loop-holds c =
     let s = c .before .before in
     let ms = s .args .masks .now in
     parts-none
-    (depths-long (tableIn ms 0) (tableIn ms 1) (tableIn ms 2) (s .pre .0) (s .pre .1) (in-eights ms 0 (s .pre .3) (omega arith)) (in-eights ms 1 (s .pre .3) (omega arith)) (in-eights ms 2 (s .pre .3) (omega arith)))
+    (depths-long (tableIn ms 0) (tableIn ms 1) (tableIn ms 2) (s .pre .0) (s .pre .1) (in-eights ms 0 (s .pre .4) (omega arith)) (in-eights ms 1 (s .pre .4) (omega arith)) (in-eights ms 2 (s .pre .4) (omega arith)))
 
 mul-row-of : tie.Need-mul-row-of Inv-loop μ-loop
 mul-row-of c = search needs
@@ -62,17 +65,14 @@ add-row-of-2 c = search needs
 row-of-requires-3 : tie.Need-row-of-requires-3 Inv-loop μ-loop
 row-of-requires-3 c κs = search needs
 
-add-put-three : tie.Need-add-put-three Inv-loop μ-loop
-add-put-three c = search needs
-
 mul-put-three : tie.Need-mul-put-three Inv-loop μ-loop
 mul-put-three c = search needs
 
 mul-put-three-2 : tie.Need-mul-put-three-2 Inv-loop μ-loop
 mul-put-three-2 c = omega (arith, part-fits (3 * c .before .before .before .before .before .before .before .before .args .width) (c .before .before .before .before .loop-test .taken))
 
-add-put-three-2 : tie.Need-add-put-three-2 Inv-loop μ-loop
-add-put-three-2 c = omega (arith, part-fits (3 * c .before .before .before .before .before .before .before .before .args .width) (c .before .before .before .before .loop-test .taken))
+add-put-three : tie.Need-add-put-three Inv-loop μ-loop
+add-put-three c = omega (arith, part-fits (3 * c .before .before .before .before .before .before .before .before .args .width) (c .before .before .before .before .loop-test .taken))
 
 put-three-requires : tie.Need-put-three-requires Inv-loop μ-loop
 put-three-requires c κs =
@@ -84,7 +84,7 @@ put-three-requires c κs =
         arith,
         part-fits (3 * a .width) (m .loop-test .taken),
         parts-long (a .words .now) (a .at) (3 * a .width * a .depths) (m .before .loop .inv),
-        s .pre .2,
+        s .pre .3,
       ),
     )
 
@@ -101,19 +101,7 @@ loop-again c =
     let h = c .before .before .before .before .before .before .before .loop-test .taken in
     parts-more (l .inv) h
     (c .before .before .put-three .ensures
-    ∙ ap (λ (rows : List ℕ). sets (l .words) (s .args .at + 1 + 3 * s .args .width * l .k) rows) (three-read (s .args .width) (s .args .masks .now) (l .k) (omega (arith, s .pre .1)) (c .before .before .before .before .before .before .row-of .ensures .inside (omega (arith, s .pre .1, s .pre .3))) (c .before .before .before .before .before .row-of2 .ensures .inside (omega (arith, s .pre .1, s .pre .3))) (c .before .before .before .before .row-of3 .ensures .inside (omega (arith, s .pre .1, s .pre .3)))))
-
-add-result : tie.Need-add-result Inv-loop μ-loop
-add-result c = search needs
-
-mul-result : tie.Need-mul-result Inv-loop μ-loop
-mul-result c = search needs
-
-mul-result-2 : tie.Need-mul-result-2 Inv-loop μ-loop
-mul-result-2 c = search needs
-
-add-result-2 : tie.Need-add-result-2 Inv-loop μ-loop
-add-result-2 c = search needs
+    ∙ ap (λ (rows : List ℕ). sets (l .words) (s .args .at + 3 * s .args .width * l .k) rows) (three-read (s .args .width) (s .args .masks .now) (l .k) (omega (arith, s .pre .1)) (c .before .before .before .before .before .before .row-of .ensures .inside (omega (arith, s .pre .1, s .pre .4))) (c .before .before .before .before .before .row-of2 .ensures .inside (omega (arith, s .pre .1, s .pre .4))) (c .before .before .before .before .row-of3 .ensures .inside (omega (arith, s .pre .1, s .pre .4)))))
 
 same-length : tie.Need-same-length Inv-loop μ-loop
 same-length c =
@@ -122,8 +110,9 @@ same-length c =
 
 returns : tie.Need-returns Inv-loop μ-loop
 returns c =
-    let a = c .before .before .before .before .args in
-    (refl, parts-all (a .words .now) (a .at) (3 * a .width * a .depths) (c .before .loop .inv) refl (c .loop-test .left))
+    let s = c .before .before .before .before in
+    let a = s .args in
+    parts-all (a .words .now) (a .at) (3 * a .width * a .depths) (c .before .loop .inv) (s .pre .2) refl (c .loop-test .left)
 
 pub put-tables-spec : {M : Type 1} → statement M
 put-tables-spec =
@@ -133,6 +122,7 @@ put-tables-spec =
     μ-loop
     mul-words
     mul-words-2
+    sub-words
     mul-words-3
     slice-write-words
     loop-holds
@@ -144,17 +134,12 @@ put-tables-spec =
     mul-row-of-3
     add-row-of-2
     row-of-requires-3
-    add-put-three
     mul-put-three
     mul-put-three-2
-    add-put-three-2
+    add-put-three
     put-three-requires
     add-k
     loop-less
     loop-again
-    add-result
-    mul-result
-    mul-result-2
-    add-result-2
     same-length
     returns)

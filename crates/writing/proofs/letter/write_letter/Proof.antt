@@ -36,9 +36,9 @@ returns c =
     let o = c .before .before .before .before .before .before .before .before in
     let s = o .before .before .before in
     let a = s .args in
-    let e = class-value (a .words .now) (a .width) (a .state) (o .class-to .result) (o .class-to .ensures) in
+    let e = class-value (a .words .now) (a .sections .width) (a .state) (o .class-to .result) (o .class-to .ensures) in
     let w = known (s .pre .2) (c .before .before .before .before .before .before .write-class .ensures) in
-    writes-then (a .out .now) (a .at) (classWriting (classTo (a .words .now) (a .width) (a .state))) (repeatWriting (repeatOf (a .repeat)))
+    writes-then (a .out .now) (a .at) (classWriting (classTo (a .words .now) (a .sections .width) (a .state))) (repeatWriting (repeatOf (a .repeat)))
     (writes-as (a .out .now) (a .at) (ap classWriting e) w)
     (c .before .before .write-sign .ensures)
 

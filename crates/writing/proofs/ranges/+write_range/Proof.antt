@@ -6,6 +6,7 @@ use native.Mathlib.Omega.{arith}
 use borrow.Author.Needs.{needs}
 use lib.ListN.{length}
 use lib.Seq.{length-sets}
+use Rattle.image_sections.proofs.Laws.Within.{within}
 use Rattle.writing.proofs.Laws.Ranges.{tokensOf, Wrote, wrote-none, wrote-then, wrote-token}
 use borrow.Fn.Kinds.{In}
 use borrow.Fn.PlainCycle.{Measures, is, falls, and}
@@ -43,23 +44,24 @@ callees t = (
 )
 
 abbrev Inv-loop : lts.InvT-loop
-Inv-loop words width kinds out₀ at from to p₀ i₀ out p i = (i ≤ to) × Wrote (tokensOf words width kinds) out₀ at from i out p
+Inv-loop words sections kinds out₀ at from to p₀ i₀ out p i = (i ≤ to) × Wrote (tokensOf words (sections .width) kinds) out₀ at from i out p
 
 abbrev μ-loop : lts.MeasureT-loop
-μ-loop words width kinds out₀ at from to p₀ i₀ out p i = to - i
+μ-loop words sections kinds out₀ at from to p₀ i₀ out p i = to - i
 
 -- in a turn, numbers are small
 small : (t : ℕ) (c : lts.In-loop (callees t) (this t) reads.Post Inv-loop μ-loop)
     → (c .before .loop .i < 511) × (c .before .loop .p ≤ 4096 * 511)
 small t c =
     let q = c .before .before .before .before .pre .1 in
-    omega (arith, c .loop-test .taken, q .2, q .0 .narrow, c .before .loop .inv .1 .bound)
+    let I = within (q .0) in
+    omega (arith, c .loop-test .taken, q .2, I .room, I .narrow, c .before .loop .inv .1 .bound)
 
 loop-holds : (t : ℕ) → lts.Need-loop-holds (callees t) (this t) reads.Post Inv-loop μ-loop
 loop-holds t c =
     let a = c .before .before .args in
     let q = c .before .before .pre .1 in
-    (q .1, wrote-none (tokensOf (a .words .now) (a .width) (a .kinds .now)) (a .out .now) (a .at) (a .from) (q .3))
+    (q .1, wrote-none (tokensOf (a .words .now) (a .sections .width) (a .kinds .now)) (a .out .now) (a .at) (a .from) (q .3))
 
 element-copy-out-read-kind : (t : ℕ) → lts.Need-element-copy-out-read-kind (callees t) (this t) reads.Post Inv-loop μ-loop
 element-copy-out-read-kind t c = omega (arith, small t c)
@@ -86,7 +88,8 @@ close-of-requires : (t : ℕ) → lts.Need-close-of-requires (callees t) (this t
 close-of-requires t c κs =
     let turn = c .before .before .before .before .before .before .before .before in
     let q = turn .before .before .before .before .pre .1 in
-    omega (arith, turn .loop-test .taken, q .2, q .0 .narrow)
+    let I = within (q .0) in
+    omega (arith, turn .loop-test .taken, q .2, I .room, I .narrow)
 
 add-write-range : (t : ℕ) → lts.Need-add-write-range (callees t) (this t) reads.Post Inv-loop μ-loop
 add-write-range t c = omega (arith, small t (c .before .before .before .before .before .before .before .before .before .before))
@@ -99,7 +102,7 @@ write-range-requires t c κs =
     let turn = write .before .before .before .before in
     let a = turn .before .before .before .before .args in
     let q = turn .before .before .before .before .pre in
-    let w = wrote-token (a .words .now) (a .width) (a .kinds .now) (a .out .now) (a .at) (a .from) (turn .before .loop .inv .1) (read .result) (read .ensures) (write .write-token .ensures) in (
+    let w = wrote-token (a .words .now) (a .sections .width) (a .kinds .now) (a .out .now) (a .at) (a .from) (turn .before .loop .inv .1) (read .result) (read .ensures) (write .write-token .ensures) in (
       omega (arith, q .0, close .0, close .1, turn .before .loop .inv .1 .since, turn .loop-test .taken),
       (q .1 .0, close .0, omega (arith, close .1, q .1 .2), w .bound),
     )
@@ -114,10 +117,10 @@ loop-again t c =
     let read = write .before .before .read-kind in
     let turn = write .before .before .before .before in
     let a = turn .before .before .before .before .args in
-    let w = wrote-token (a .words .now) (a .width) (a .kinds .now) (a .out .now) (a .at) (a .from) (turn .before .loop .inv .1) (read .result) (read .ensures) (write .write-token .ensures) in
+    let w = wrote-token (a .words .now) (a .sections .width) (a .kinds .now) (a .out .now) (a .at) (a .from) (turn .before .loop .inv .1) (read .result) (read .ensures) (write .write-token .ensures) in
     let r = c .before .before .write-range .ensures in (
       close .1,
-      wrote-then (tokensOf (a .words .now) (a .width) (a .kinds .now)) (a .out .now) (a .at) (a .from) w
+      wrote-then (tokensOf (a .words .now) (a .sections .width) (a .kinds .now)) (a .out .now) (a .at) (a .from) w
           (record { since = close .0; text = (r .0, r .1 .0); bound = r .1 .1 }),
     )
 
@@ -133,7 +136,7 @@ loop-again-2 t c =
     let read = write .before .before .read-kind in
     let turn = write .before .before .before .before in
     let a = turn .before .before .before .before .args in
-    (omega (arith, turn .loop-test .taken), wrote-token (a .words .now) (a .width) (a .kinds .now) (a .out .now) (a .at) (a .from) (turn .before .loop .inv .1) (read .result) (read .ensures) (write .write-token .ensures))
+    (omega (arith, turn .loop-test .taken), wrote-token (a .words .now) (a .sections .width) (a .kinds .now) (a .out .now) (a .at) (a .from) (turn .before .loop .inv .1) (read .result) (read .ensures) (write .write-token .ensures))
 
 same-length : (t : ℕ) → lts.Need-same-length (callees t) (this t) reads.Post Inv-loop μ-loop
 same-length t c = let l = c .before .loop in ap length (l .inv .1 .text .1) ∙ simp length-sets
@@ -142,7 +145,7 @@ returns : (t : ℕ) → lts.Need-returns (callees t) (this t) reads.Post Inv-loo
 returns t c =
     let a = c .before .before .before .before .args in
     let l = c .before .loop in
-    let g = tokensOf (a .words .now) (a .width) (a .kinds .now) in
+    let g = tokensOf (a .words .now) (a .sections .width) (a .kinds .now) in
     let e : l .i ≡ a .to = omega (arith, l .inv .0, c .loop-test .left) in
     let w = subst (λ (n : ℕ). Wrote g (a .out .now) (a .at) (a .from) n (l .out) (l .p)) e (l .inv .1) in
     (w .text .0, (w .text .1, w .bound))

@@ -11,7 +11,7 @@ use Rattle.writing.proofs.ranges.write_token.Tie as tie
 
 -- the text of any token at the place of this one
 abbrev text : tie.Start → Token → List ℕ
-text s y = tokenText (s .args .words .now) (s .args .width) y (s .args .state)
+text s y = tokenText (s .args .words .now) (s .args .sections .width) y (s .args .state)
 
 enum-known-token : tie.Need-enum-known-token
 enum-known-token c = search needs

@@ -7,8 +7,8 @@ use borrow.Author.Needs.{needs}
 use lib.ListN.{getD, length as lengthOf, length-set, set}
 use lib.Seq.{getD-set-other, getD-set-same}
 use Rattle.tokens.specs.Kinds.{kindIn}
-use Rattle.image.proofs.shape.tape_of.Statement.{statement}
-use Rattle.image.proofs.shape.tape_of.Tie as tie
+use Rattle.image.proofs.tape.tape_of.Statement.{statement}
+use Rattle.image.proofs.tape.tape_of.Tie as tie
 
 abbrev Inv-loop : tie.InvT-loop
 Inv-loop length tokens kinds₀ i₀ kinds i = (lengthOf kinds ≡ 512) × ((k : ℕ) → k < i → getD kinds k 0 ≡ kindIn (getD tokens (5 * k) 0))

@@ -11,10 +11,6 @@ use Rattle.model.specs.Edges.{accepting}
 use Rattle.model.specs.Spelling.{Follow, Spelled}
 use Rattle.model.specs.Tree.{Tree}
 
--- the words are some tree's image
-abbrev pub IsImage : List ℕ → Type 0
-IsImage image = (t : Tree) × ImageOf image t
-
 -- whether a proposal is right
 abbrev pub RightSays : (image text : List ℕ) (start end : ℕ) (list : List ℕ) → Bool → Type 0
 RightSays image text start end list r = (t : Tree) → ImageOf image t → T r ↔ Spelled t text start end list

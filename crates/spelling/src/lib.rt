@@ -11,7 +11,7 @@ use run_edges::work;
 ghost use Rattle.image_sections.specs.Sections.{Placed};
 ghost use Rattle.model.specs.Spelling.{CheckSays};
 ghost use Rattle.spelling.specs.Answers.{checkedNumber, checkedYes};
-ghost use Rattle.spelling.specs.Work.{IsImage, RightSays};
+ghost use Rattle.spelling.specs.Work.{RightSays};
 
 // What the check answers: the refusals 6 and 7, no or yes.
 pub enum Judged {
@@ -55,7 +55,7 @@ fn is_right(
     end: usize,
     states: &[u32],
 ) -> bool
-    requires { ⌜ IsImage (now image) × Placed (now image) sections ⌝ }
+    requires { ⌜ Placed (now image) sections ⌝ }
     ensures { λ r. ⌜ RightSays (now (image .entry)) (now (text .entry)) start end (now (states .entry)) r ⌝ }
 {
     if end > text.len() {

@@ -1,8 +1,7 @@
 -- `is_right`: each way out is one of the wish's conditions.
 use native.Mathlib.Omega.{arith}
-use Rattle.image_sections.proofs.Laws.OfTree.{states-is}
+use Rattle.image_sections.proofs.Laws.Within.{own-states}
 use Rattle.spelling.proofs.Laws.Check.{followed, outside, turned, uneven}
-use borrow.Author.Needs.{needs}
 use Rattle.spelling.proofs.is_right.Statement.{statement}
 use Rattle.spelling.proofs.is_right.Tie as tie
 
@@ -15,26 +14,29 @@ returns-2 c = let a = c .before .before .before .before .before .args in turned 
 returns-3 : tie.Need-returns-3
 returns-3 c = let a = c .before .before .before .before .before .before .args in uneven (a .image .now) (a .text .now) (a .start) (a .end) (a .states .now) (c .if3 .taken)
 
-work-requires : tie.Need-work-requires
-work-requires c κs = search needs
-
-states-requires : tie.Need-states-requires
-states-requires c κs = search needs
+-- the entry, from where the states are read out of the sections
+abbrev start : tie.After-struct-known → tie.Start
+start k = k .before .before .before .before .before .before .before
 
 sub-last : tie.Need-sub-last
-sub-last c =
-    let s = c .before .before .before .before .before .before .before .before in
-    omega (arith, c .states .ensures, states-is (s .args .image .now) (s .pre .0) (s .pre .1))
+sub-last c = let P = start c .pre in omega (arith, own-states P, P .some)
+
+work-requires : tie.Need-work-requires
+work-requires c κs = start c .pre
 
 follow-requires : tie.Need-follow-requires
-follow-requires c κs = let e = c .before .before .before in (c .before .before .work .ensures, omega (arith, e .if3 .left, e .before .if2 .left, e .before .before .if1 .left))
+follow-requires c κs =
+    let k = c .before .before in
+    let e = k .before in
+    (start k .pre, c .before .work .ensures, omega (arith, e .if3 .left, e .before .if2 .left, e .before .before .if1 .left))
 
 returns-4 : tie.Need-returns-4
 returns-4 c =
-    let e = c .before .before .before .before in
-    let a = e .before .before .before .before .before .before .args in
+    let k = c .before .before .before in
+    let e = k .before in
+    let a = start k .args in
     followed (a .image .now) (a .text .now) (a .start) (a .end) (a .states .now) (e .before .before .if1 .left) (e .before .if2 .left) (e .if3 .left)
-    (c .before .before .states .ensures) (c .follow .result) (c .follow .ensures)
+    (own-states (start k .pre)) (c .follow .result) (c .follow .ensures)
 
 pub is-right-spec : {M : Type 1} → statement M
-is-right-spec = tie.close (tie.spec returns returns-2 returns-3 work-requires states-requires sub-last follow-requires returns-4)
+is-right-spec = tie.close (tie.spec returns returns-2 returns-3 sub-last work-requires follow-requires returns-4)

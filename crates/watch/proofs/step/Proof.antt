@@ -90,8 +90,7 @@ put-words-requires c κs =
     let s = m .before .before in
     let v = verdict-of s in
     let k = v .before .before in
-    let a = start k .args in
-    (
+    let a = start k .args in (
       its-words (a .image .now) (k .check .ensures) (v .verdict .given .1) (a .mask .now) (a .place .now) (a .stretch .now) (a .ends .now) (s .if1 .left) (fit-row (a .mask .now) (k .before .before .before .slice-known .given))
           (m .is-mask .ensures) (f .if2 .left),
       narrow (a .image .now) (k .check .ensures) (v .verdict .given .1),

@@ -8,6 +8,8 @@ use Rattle.model.specs.Answers.{matched, MatchSays, not-an-image, refused, text
 use Rattle.model.proofs.Definitions.TreeEnds.{tree-ends, treeEnds}
 use Rattle.model.proofs.Image.Decided.{rule-full}
 use Rattle.model.proofs.Words.Run.{Bytes}
+use Rattle.image_sections.specs.Sections.{Placed}
+use Rattle.image_sections.specs.declared.Sections.{Sections}
 use Rattle.run.specs.Says.{FindSays}
 use Rattle.image_check.specs.Says.{CheckSays}
 use Rattle.image_check.specs.declared.Checked.{Checked}
@@ -18,7 +20,10 @@ module _ (words text before : List ℕ) {r : Checked} (C : CheckSays words r) wh
   pub other : r .verdict ≡ Other → MatchSays words text before (refused 6 before)
   other g = not-an-image (not-found words r C g) refl
 
-  module _ {w : ℕ} (g : r .verdict ≡ Image w) where
+  module _ {p : Sections} (g : r .verdict ≡ Image p) where
+    pub placed : Placed words p
+    placed = found words r C g .placed
+
     pub too-long : 65535 < length text → MatchSays words text before (refused 7 before)
     too-long l = let F = found words r C g in text-too-long (F .tree) (F .image-of) l refl
 
@@ -29,5 +34,5 @@ module _ (words text before : List ℕ) {r : Checked} (C : CheckSays words r) wh
         let I = F .image-of in
         let ends = treeEnds (F .tree) text in
         let E = tree-ends (F .tree) (rule-full (F .tree) (I .is-rule)) text B in
-        let q = S (F .tree) I l ends E in
+        let q = S (F .tree) I ends E in
         matched (F .tree) ends I l E (λ i. record { number = 0; count = q .0 i; lent = q .1 i })

@@ -17,12 +17,9 @@ use image_check::Verdict;
 use image_check::check;
 use image_sections::Sections;
 use run_edges::work;
-ghost use Prim.Native.Nat.{_≤_};
-ghost use lib.ListN.{length};
-ghost use Rattle.image_sections.specs.Sections.{Placed};
 ghost use Rattle.model.specs.Spelling.{ProposeSays};
-ghost use Rattle.spelling.specs.Work.{IsImage};
 ghost use Rattle.spelling_propose.specs.Answers.{proposedAnswer};
+ghost use Rattle.spelling_propose.specs.Work.{ProposeAsks};
 
 // What the proposer answers: the refusals 6, 7, 16 and 17, or done, with the start and the number of states.
 pub enum Proposed {
@@ -59,7 +56,7 @@ fn propose(
     end: usize,
     states: &mut [u32],
 ) -> Proposed
-    requires { ⌜ IsImage (now image) × Placed (now image) sections × (end ≤ length (now text)) × (length (now text) ≤ 65535) ⌝ }
+    requires { ⌜ ProposeAsks (now image) sections (now text) end ⌝ }
     ensures { λ r. ⌜ ProposeSays (now (image .entry)) (now (text .entry)) end (now (states .entry)) (proposedAnswer r (now (states .exit))) ⌝ }
 {
     let count = sections.states;

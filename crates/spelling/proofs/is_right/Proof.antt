@@ -15,28 +15,28 @@ returns-3 : tie.Need-returns-3
 returns-3 c = let a = c .before .before .before .before .before .before .args in uneven (a .image .now) (a .text .now) (a .start) (a .end) (a .states .now) (c .if3 .taken)
 
 -- the entry, from where the states are read out of the sections
-abbrev start : tie.After-struct-known → tie.Start
-start k = k .before .before .before .before .before .before .before
+abbrev entry : tie.After-struct-known → tie.Start
+entry k = k .before .before .before .before .before .before .before
 
 sub-last : tie.Need-sub-last
-sub-last c = let P = start c .pre in omega (arith, own-states P, P .some)
+sub-last c = let P = entry c .pre in omega (arith, own-states P, P .some)
 
 work-requires : tie.Need-work-requires
-work-requires c κs = start c .pre
+work-requires c κs = entry c .pre
 
 follow-requires : tie.Need-follow-requires
 follow-requires c κs =
     let k = c .before .before in
     let e = k .before in
-    (start k .pre, c .before .work .ensures, omega (arith, e .if3 .left, e .before .if2 .left, e .before .before .if1 .left))
+    (entry k .pre, c .before .work .ensures, omega (arith, e .if3 .left, e .before .if2 .left, e .before .before .if1 .left))
 
 returns-4 : tie.Need-returns-4
 returns-4 c =
     let k = c .before .before .before in
     let e = k .before in
-    let a = start k .args in
+    let a = entry k .args in
     followed (a .image .now) (a .text .now) (a .start) (a .end) (a .states .now) (e .before .before .if1 .left) (e .before .if2 .left) (e .if3 .left)
-    (own-states (start k .pre)) (c .follow .result) (c .follow .ensures)
+    (own-states (entry k .pre)) (c .follow .result) (c .follow .ensures)
 
 pub is-right-spec : {M : Type 1} → statement M
 is-right-spec = tie.close (tie.spec returns returns-2 returns-3 sub-last work-requires follow-requires returns-4)

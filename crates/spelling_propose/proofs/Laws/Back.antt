@@ -2,7 +2,7 @@
 use mathlib.Core.Path.{_≡_, refl, sym, _∙_, subst}
 use mathlib.Core.Logic.{inl, inr, _↔_}
 use mathlib.Core.List.{List, [], _∷_}
-use Prim.Native.Nat.{ℕ, _+_, _<_}
+use Prim.Native.Nat.{ℕ, _-_, _<_}
 use native.Mathlib.Omega.{arith}
 use lib.ListN.{getD, replicate}
 use Rattle.model.specs.Answers.{ImageOf}
@@ -23,12 +23,9 @@ use Rattle.spelling_propose.specs.Work.{BackSays, EndingSays, Has, IntoS
 use Rattle.spelling_propose.proofs.Laws.Origins.{none-has}
 
 -- what the parts are handed
-pub ready : (image : List ℕ) (origins : List (List ℕ)) (last : ℕ) (t : Tree) → ImageOf image t → last ≡ accepting t → OriginsSays image (last + 1) origins → Ready image origins last t
-ready image origins last t I e O = record { image-of = I; reached = reached; accepts = e }
+pub ready : (image : List ℕ) (origins : List (List ℕ)) (count : ℕ) (t : Tree) → ImageOf image t → count ≡ states t → OriginsSays image count origins → Ready image origins (count - 1) t
+ready image origins count t I same O = record { image-of = I; reached = reached; accepts = omega (arith, same) }
   where
-    same : last + 1 ≡ states t
-    same = omega arith
-
     reached : (p : ℕ) → p < states t → (q : ℕ) → Has (getD origins p []) q ↔ ((q < states t) × Reaches t q p)
     reached p l q = (
       λ h.

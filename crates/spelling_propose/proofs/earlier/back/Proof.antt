@@ -5,7 +5,7 @@ use Rattle.spelling_propose.proofs.earlier.back.Statement.{statement}
 use Rattle.spelling_propose.proofs.earlier.back.Tie as tie
 
 leave-requires : tie.Need-leave-requires
-leave-requires c κs = search needs
+leave-requires c κs = c .before .pre
 
 into-requires : tie.Need-into-requires
 into-requires c κs = search needs

@@ -6,25 +6,25 @@ use Rattle.spelling_propose.proofs.origins.find_origins.Statement.{stat
 use Rattle.spelling_propose.proofs.origins.find_origins.Tie as tie
 
 abbrev Inv-loop : tie.InvT-loop
-Inv-loop image masks count r₀ q₀ r q = (q ≤ count) × Found image count q r
+Inv-loop image sections masks count r₀ q₀ r q = (q ≤ count) × Found image count q r
 
 abbrev μ-loop : tie.MeasureT-loop
-μ-loop image masks count r₀ q₀ r q = count - q
+μ-loop image sections masks count r₀ q₀ r q = count - q
 
 loop-holds : tie.Need-loop-holds Inv-loop μ-loop
-loop-holds c = let s = c .before in (omega arith, found-none (s .args .image .now) (s .args .count) (s .pre .1))
+loop-holds c = let s = c .before in (omega arith, found-none (s .args .image .now) (s .args .count) (s .pre .2))
 
 reach-requires : tie.Need-reach-requires Inv-loop μ-loop
-reach-requires c κs = c .before .before .before .pre .0
+reach-requires c κs = let s = c .before .before .before in (s .pre .0, s .pre .1)
 
 note-requires : tie.Need-note-requires Inv-loop μ-loop
 note-requires c κs =
     let l = c .before .before .before in
     let s = l .before .before .before in
-    (omega (arith, l .loop-test .taken, s .pre .1), s .pre .1, l .before .loop .inv .1 .long)
+    (omega (arith, l .loop-test .taken, s .pre .2), s .pre .2, l .before .loop .inv .1 .long)
 
 add-q : tie.Need-add-q Inv-loop μ-loop
-add-q c = omega (arith, c .before .before .before .before .loop-test .taken, c .before .before .before .before .before .before .before .pre .1)
+add-q c = omega (arith, c .before .before .before .before .loop-test .taken, c .before .before .before .before .before .before .before .pre .2)
 
 loop-less : tie.Need-loop-less Inv-loop μ-loop
 loop-less c = omega (arith, c .before .before .before .before .loop-test .taken)

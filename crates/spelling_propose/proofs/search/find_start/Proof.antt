@@ -12,19 +12,19 @@ use Rattle.spelling_propose.proofs.search.find_start.Statement.{stateme
 use Rattle.spelling_propose.proofs.search.find_start.Tie as tie
 
 abbrev Inv-loop : tie.InvT-loop
-Inv-loop image text end last origins kept₀ none set₀ k₀ kept set k = Backed image origins last text end k set kept
+Inv-loop image sections text end last origins kept₀ none set₀ k₀ kept set k = Backed image origins last text end k set kept
 
 abbrev μ-loop : tie.MeasureT-loop
-μ-loop image text end last origins kept₀ none set₀ k₀ kept set k = k
+μ-loop image sections text end last origins kept₀ none set₀ k₀ kept set k = k
 
 ending-requires : tie.Need-ending-requires Inv-loop μ-loop
-ending-requires c κs = c .before .before .pre .0 .state
+ending-requires c κs = c .before .before .pre .1 .state
 
 loop-holds : tie.Need-loop-holds Inv-loop μ-loop
 loop-holds c =
     let s = c .before .before .before in
     let a = s .args in
-    backed-end (a .image .now) (a .origins .now) (a .last) (a .text .now) (a .end) (s .pre .0) (c .ending .result) (a .kept .now) (s .pre .1) (c .ending .ensures)
+    backed-end (a .image .now) (a .origins .now) (a .last) (a .text .now) (a .end) (s .pre .1) (c .ending .result) (a .kept .now) (s .pre .2) (c .ending .ensures)
 
 row-has-bit-requires : tie.Need-row-has-bit-requires Inv-loop μ-loop
 row-has-bit-requires c κs = search needs
@@ -34,7 +34,7 @@ returns c =
     let l = c .before .before in
     let s = l .before .before .before .before in
     let a = s .args in
-    backed-here (a .image .now) (a .origins .now) (a .last) (a .text .now) (a .end) (s .pre .0) (l .loop .inv) (subst T (sym (c .if1 .taken) ∙ c .before .row-has-bit .ensures) tt)
+    backed-here (a .image .now) (a .origins .now) (a .last) (a .text .now) (a .end) (s .pre .1) (l .loop .inv) (subst T (sym (c .if1 .taken) ∙ c .before .row-has-bit .ensures) tt)
 
 returns-2 : tie.Need-returns-2 Inv-loop μ-loop
 returns-2 c =
@@ -42,7 +42,7 @@ returns-2 c =
     let l = b .before in
     let s = l .before .before .before .before in
     let a = s .args in
-    backed-nowhere (a .image .now) (a .origins .now) (a .last) (a .text .now) (a .end) (s .pre .0) (l .loop .inv) (sym (b .row-has-bit .ensures) ∙ c .before .if1 .left) (c .if2 .taken)
+    backed-nowhere (a .image .now) (a .origins .now) (a .last) (a .text .now) (a .end) (s .pre .1) (l .loop .inv) (sym (b .row-has-bit .ensures) ∙ c .before .if1 .left) (c .if2 .taken)
 
 same-rows-requires : tie.Need-same-rows-requires Inv-loop μ-loop
 same-rows-requires c κs = search needs
@@ -53,7 +53,7 @@ returns-3 c =
     let s = l .before .before .before .before in
     let a = s .args in
     let e = same-words (l .loop .set) (replicate 8 0) (subst T (sym (c .if3 .taken) ∙ c .before .same-rows .ensures) tt) in
-    backed-empty (a .image .now) (a .origins .now) (a .last) (a .text .now) (a .end) (s .pre .0) (l .loop .inv) (λ x h. none-has x (subst (λ w. Has w x) e h))
+    backed-empty (a .image .now) (a .origins .now) (a .last) (a .text .now) (a .end) (s .pre .1) (l .loop .inv) (λ x h. none-has x (subst (λ w. Has w x) e h))
 
 sub-k : tie.Need-sub-k Inv-loop μ-loop
 sub-k c = search needs
@@ -62,22 +62,22 @@ shared-slice-read-back : tie.Need-shared-slice-read-back Inv-loop μ-loop
 shared-slice-read-back c =
     let e = c .before .before .before in
     let l = e .before .before .before in
-    omega (arith, l .before .before .before .before .pre .0 .inside, l .loop .inv .within, e .if2 .left)
+    omega (arith, l .before .before .before .before .pre .1 .inside, l .loop .inv .within, e .if2 .left)
 
 back-requires : tie.Need-back-requires Inv-loop μ-loop
-back-requires c κs = search needs
+back-requires c κs = c .before .before .before .before .before .before .before .before .before .before .pre .0
 
 mul-set : tie.Need-mul-set Inv-loop μ-loop
 mul-set c =
     let l = c .before .before .before .before .before .before .before .before in
     let s = l .before .before .before .before in
-    omega (arith, s .pre .0 .inside, s .pre .0 .short, l .loop .inv .within)
+    omega (arith, s .pre .1 .inside, s .pre .1 .short, l .loop .inv .within)
 
 element-set-from-set : tie.Need-element-set-from-set Inv-loop μ-loop
 element-set-from-set c =
     let l = c .before .before .before .before .before .before .before .before in
     let s = l .before .before .before .before in
-    omega (arith, s .pre .0 .inside, s .pre .0 .short, l .loop .inv .within)
+    omega (arith, s .pre .1 .inside, s .pre .1 .short, l .loop .inv .within)
 
 loop-less : tie.Need-loop-less Inv-loop μ-loop
 loop-less c = search needs
@@ -89,7 +89,7 @@ loop-again c =
     let l = b .before in
     let s = l .before .before .before .before in
     let a = s .args in
-    backed-kept (a .image .now) (a .origins .now) (a .last) (a .text .now) (a .end) (s .pre .0) (l .loop .inv) (omega (arith, e .if2 .left)) (sym (b .row-has-bit .ensures) ∙ e .before .if1 .left)
+    backed-kept (a .image .now) (a .origins .now) (a .last) (a .text .now) (a .end) (s .pre .1) (l .loop .inv) (omega (arith, e .if2 .left)) (sym (b .row-has-bit .ensures) ∙ e .before .if1 .left)
     (c .before .back .result) (c .before .back .ensures) (c .if4 .taken)
 
 loop-less-2 : tie.Need-loop-less-2 Inv-loop μ-loop
@@ -102,7 +102,7 @@ loop-again-2 c =
     let l = b .before in
     let s = l .before .before .before .before in
     let a = s .args in
-    backed-past (a .image .now) (a .origins .now) (a .last) (a .text .now) (a .end) (s .pre .0) (l .loop .inv) (omega (arith, e .if2 .left)) (sym (b .row-has-bit .ensures) ∙ e .before .if1 .left)
+    backed-past (a .image .now) (a .origins .now) (a .last) (a .text .now) (a .end) (s .pre .1) (l .loop .inv) (omega (arith, e .if2 .left)) (sym (b .row-has-bit .ensures) ∙ e .before .if1 .left)
     (c .before .back .result) (c .before .back .ensures) (c .if4 .left)
 
 pub find-start-spec : {M : Type 1} → statement M

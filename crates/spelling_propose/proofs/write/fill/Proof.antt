@@ -5,16 +5,16 @@ use Rattle.spelling_propose.proofs.write.fill.Statement.{statement}
 use Rattle.spelling_propose.proofs.write.fill.Tie as tie
 
 abbrev Inv-loop : tie.InvT-loop
-Inv-loop image text lo hi origins sets₀ here₀ k₀ sets here k = Filling image origins text lo hi here₀ k here sets
+Inv-loop image sections text lo hi origins sets₀ here₀ k₀ sets here k = Filling image origins text lo hi here₀ k here sets
 
 abbrev μ-loop : tie.MeasureT-loop
-μ-loop image text lo hi origins sets₀ here₀ k₀ sets here k = k
+μ-loop image sections text lo hi origins sets₀ here₀ k₀ sets here k = k
 
 loop-holds : tie.Need-loop-holds Inv-loop μ-loop
 loop-holds c =
     let s = c .before .before in
     let a = s .args in
-    filling-none (a .image .now) (a .origins .now) (a .text .now) (a .lo) (a .hi) (a .set) (a .sets .now) (s .pre .1) (s .pre .0 .ordered)
+    filling-none (a .image .now) (a .origins .now) (a .text .now) (a .lo) (a .hi) (a .set) (a .sets .now) (s .pre .2) (s .pre .1 .ordered)
 
 sub-k : tie.Need-sub-k Inv-loop μ-loop
 sub-k c = search needs
@@ -32,7 +32,7 @@ shared-slice-read-back : tie.Need-shared-slice-read-back Inv-loop μ-loop
 shared-slice-read-back c = search needs
 
 back-requires : tie.Need-back-requires Inv-loop μ-loop
-back-requires c κs = search needs
+back-requires c κs = c .before .before .before .before .before .pre .0
 
 loop-less : tie.Need-loop-less Inv-loop μ-loop
 loop-less c = search needs
@@ -41,7 +41,7 @@ loop-again : tie.Need-loop-again Inv-loop μ-loop
 loop-again c =
     let s = c .before .before .before .before .before .before in
     let a = s .args in
-    filling-more (a .image .now) (a .origins .now) (a .text .now) (a .lo) (a .hi) (a .set) (s .pre .0) (c .before .before .before .loop .inv) (c .before .before .loop-test .taken) (c .back .result) (c .back .ensures)
+    filling-more (a .image .now) (a .origins .now) (a .text .now) (a .lo) (a .hi) (a .set) (s .pre .1) (c .before .before .before .loop .inv) (c .before .before .loop-test .taken) (c .back .result) (c .back .ensures)
 
 returns : tie.Need-returns Inv-loop μ-loop
 returns c =

@@ -6,16 +6,16 @@ use Rattle.spelling_propose.proofs.write.walk.Statement.{statement}
 use Rattle.spelling_propose.proofs.write.walk.Tie as tie
 
 abbrev Inv-loop : tie.InvT-loop
-Inv-loop image masks text lo hi sets from start states₀ at₀ k₀ states at k = Walking image text lo hi sets from start states₀ k at states
+Inv-loop image sections masks text lo hi sets from start states₀ at₀ k₀ states at k = Walking image text lo hi sets from start states₀ k at states
 
 abbrev μ-loop : tie.MeasureT-loop
-μ-loop image masks text lo hi sets from start states₀ at₀ k₀ states at k = hi - k
+μ-loop image sections masks text lo hi sets from start states₀ at₀ k₀ states at k = hi - k
 
 loop-holds : tie.Need-loop-holds Inv-loop μ-loop
 loop-holds c =
     let s = c .before .before .before in
     let a = s .args in
-    walking-none (a .image .now) (a .text .now) (a .lo) (a .hi) (a .sets .now) (a .from) (a .start) (a .states .now) (s .pre .1)
+    walking-none (a .image .now) (a .text .now) (a .lo) (a .hi) (a .sets .now) (a .from) (a .start) (a .states .now) (s .pre .2)
 
 sub-set : tie.Need-sub-set Inv-loop μ-loop
 sub-set c = search needs
@@ -30,7 +30,7 @@ shared-slice-read-choose : tie.Need-shared-slice-read-choose Inv-loop μ-loop
 shared-slice-read-choose c = search needs
 
 choose-requires : tie.Need-choose-requires Inv-loop μ-loop
-choose-requires c κs = c .before .before .before .before .before .before .before .pre .0
+choose-requires c κs = let s = c .before .before .before .before .before .before .before in (s .pre .0, s .pre .1)
 
 cast-states : tie.Need-cast-states Inv-loop μ-loop
 cast-states c = search needs
@@ -55,7 +55,7 @@ loop-again c =
     let l = c .before .before .before in
     let s = l .before .before .before .before .before in
     let a = s .args in
-    walking-more (a .image .now) (a .text .now) (a .lo) (a .hi) (a .sets .now) (a .from) (a .start) (a .states .now) (s .pre .1) (l .before .loop .inv) (l .loop-test .taken) (c .choose .result) (c .choose .ensures)
+    walking-more (a .image .now) (a .text .now) (a .lo) (a .hi) (a .sets .now) (a .from) (a .start) (a .states .now) (s .pre .2) (l .before .loop .inv) (l .loop-test .taken) (c .choose .result) (c .choose .ensures)
 
 same-length : tie.Need-same-length Inv-loop μ-loop
 same-length c = search needs
@@ -64,7 +64,7 @@ returns : tie.Need-returns Inv-loop μ-loop
 returns c =
     let s = c .before .before .before .before .before in
     let a = s .args in
-    walking-all (a .image .now) (a .text .now) (a .lo) (a .hi) (a .sets .now) (a .from) (a .start) (a .states .now) (s .pre .1) (c .before .loop .inv) (c .loop-test .left)
+    walking-all (a .image .now) (a .text .now) (a .lo) (a .hi) (a .sets .now) (a .from) (a .start) (a .states .now) (s .pre .2) (c .before .loop .inv) (c .loop-test .left)
 
 pub walk-spec : {M : Type 1} → statement M
 walk-spec =

@@ -8,16 +8,16 @@ use Rattle.spelling_propose.proofs.write.write.Statement.{statement}
 use Rattle.spelling_propose.proofs.write.write.Tie as tie
 
 abbrev Inv-loop : tie.InvT-loop
-Inv-loop image masks text start end last origins kept states₀ sets₀ at₀ k₀ states sets at k = (length sets ≡ 256) × Writing image origins last text start end kept states₀ k at states
+Inv-loop image sections masks text start end last origins kept states₀ sets₀ at₀ k₀ states sets at k = (length sets ≡ 256) × Writing image origins last text start end kept states₀ k at states
 
 abbrev μ-loop : tie.MeasureT-loop
-μ-loop image masks text start end last origins kept states₀ sets₀ at₀ k₀ states sets at k = end - k
+μ-loop image sections masks text start end last origins kept states₀ sets₀ at₀ k₀ states sets at k = end - k
 
 loop-holds : tie.Need-loop-holds Inv-loop μ-loop
 loop-holds c =
     let s = c .before .before .before in
     let a = s .args in
-    (refl, writing-none (a .image .now) (a .origins .now) (a .last) (a .text .now) (a .start) (a .end) (a .kept .now) (a .states .now) (s .pre .1))
+    (refl, writing-none (a .image .now) (a .origins .now) (a .last) (a .text .now) (a .start) (a .end) (a .kept .now) (a .states .now) (s .pre .2))
 
 stop-after-requires : tie.Need-stop-after-requires Inv-loop μ-loop
 stop-after-requires c κs = search needs
@@ -31,7 +31,7 @@ fill-requires c κs =
     let l = p .before .before .loop in
     let s = p .before .before .before .before .before .before in
     let a = s .args in
-    (stretch (a .image .now) (a .origins .now) (a .last) (a .text .now) (a .start) (a .end) (a .kept .now) (a .states .now) (s .pre .1) (l .inv .1) (p .stop-after .ensures), l .inv .0)
+    (s .pre .0, stretch (a .image .now) (a .origins .now) (a .last) (a .text .now) (a .start) (a .end) (a .kept .now) (a .states .now) (s .pre .2) (l .inv .1) (p .stop-after .ensures), l .inv .0)
 
 walk-requires : tie.Need-walk-requires Inv-loop μ-loop
 walk-requires c κs =
@@ -39,7 +39,7 @@ walk-requires c κs =
     let l = p .before .before .loop in
     let s = p .before .before .before .before .before .before in
     let a = s .args in
-    (s .pre .0, walk-asks (a .image .now) (a .origins .now) (a .last) (a .text .now) (a .start) (a .end) (a .kept .now) (a .states .now) (s .pre .1) (l .inv .1) (p .stop-after .ensures))
+    (s .pre .0, s .pre .1, walk-asks (a .image .now) (a .origins .now) (a .last) (a .text .now) (a .start) (a .end) (a .kept .now) (a .states .now) (s .pre .2) (l .inv .1) (p .stop-after .ensures))
 
 loop-less : tie.Need-loop-less Inv-loop μ-loop
 loop-less c = search needs
@@ -54,8 +54,8 @@ loop-again c =
     let s = p .before .before .before .before .before .before in
     let a = s .args in (
       f .ensures .long,
-      writing-more (a .image .now) (a .origins .now) (a .last) (a .text .now) (a .start) (a .end) (a .kept .now) (a .states .now) (s .pre .1) (l .inv .1) (p .stop-after .ensures)
-          (h .result) (h .ensures) (f .last .1 .1 .1 .1 .1 .1 .0) (f .ensures) (w .result) (w .last .1 .1 .1 .1 .1 .1 .1 .1 .0) (w .ensures),
+      writing-more (a .image .now) (a .origins .now) (a .last) (a .text .now) (a .start) (a .end) (a .kept .now) (a .states .now) (s .pre .2) (l .inv .1) (p .stop-after .ensures)
+          (h .result) (h .ensures) (f .last .1 .1 .1 .1 .1 .1 .1 .0) (f .ensures) (w .result) (w .last .1 .1 .1 .1 .1 .1 .1 .1 .1 .0) (w .ensures),
     )
 
 same-length : tie.Need-same-length Inv-loop μ-loop
@@ -65,7 +65,7 @@ returns : tie.Need-returns Inv-loop μ-loop
 returns c =
     let s = c .before .before .before .before .before in
     let a = s .args in
-    writing-all (a .image .now) (a .origins .now) (a .last) (a .text .now) (a .start) (a .end) (a .kept .now) (a .states .now) (s .pre .1) (c .before .loop .inv .1) (c .loop-test .left)
+    writing-all (a .image .now) (a .origins .now) (a .last) (a .text .now) (a .start) (a .end) (a .kept .now) (a .states .now) (s .pre .2) (c .before .loop .inv .1) (c .loop-test .left)
 
 pub write-spec : {M : Type 1} → statement M
 write-spec =

@@ -85,7 +85,8 @@ module _ (p : Sections) (row : List ℕ) (t : Tape) (I : Within p (p .length)) w
       → gathered ≡ sets scattered (p .gather - 1) (tablesPart W d (tableIn g 0) (tableIn g 1) (tableIn g 2))
       → propagated ≡ sets gathered (p .propagate - 1) (tablesPart W (d + 1) (tableIn r 0) (tableIn r 1) (tableIn r 2))
       → after ≡ sets propagated (p .back - 1) (backPart W d (tableIn b 1) (tableIn b 2)) → after ≡ sets l 0 (imageWords p row t)
-  whole {r = r} L long first l fits {places} {shaped} {lettered} {repeated} {scattered} {gathered} {propagated} are-loops by-shape by-letters by-repeats by-scatter by-gather by-propagate by-back =
+  whole {r = r} L long first l fits {places} {shaped} {lettered} {repeated} {scattered} {gathered} {propagated} are-loops by-shape by-letters
+      by-repeats by-scatter by-gather by-propagate by-back =
       let scatterPart = laidPart scatter-block scatter-source scatter-target in
       let gatherPart = laidPart gather-block gather-source gather-target in
       let backsPart = backPart W d (tableOf t back-source) (tableOf t back-target) in

@@ -37,7 +37,8 @@ repeats-keep c = c .words3 .given ∙ lettered c .words2 .given ∙ shaped (lett
 scatters-keep : (c : tie.After-words4) → length (c .before .put-tables .last .0) ≡ length (lent (shaped (lettered (repeated c))) .args .words .now)
 scatters-keep c = c .words4 .given ∙ repeats-keep (repeated c)
 
-gathers-keep : (c : tie.After-words5) → length (c .before .put-tables2 .last .0) ≡ length (lent (shaped (lettered (repeated (scattered c)))) .args .words .now)
+gathers-keep : (c : tie.After-words5)
+    → length (c .before .put-tables2 .last .0) ≡ length (lent (shaped (lettered (repeated (scattered c)))) .args .words .now)
 gathers-keep c = c .words5 .given ∙ scatters-keep (scattered c)
 
 propagates-keep : (c : tie.After-words6)
@@ -101,7 +102,8 @@ returns c =
     let w1 = shaped w2 in
     let s = lent w1 in
     let a = s .args in
-    whole (a .sections) (a .t2) (a .tape) (s .pre .0 .0) (s .pre .1) (w6 .before .before .put-tables-arg6 .given .0) (s .pre .0 .1) (a .words .now) (s .pre .0 .2)
+    whole (a .sections) (a .t2) (a .tape) (s .pre .0 .0) (s .pre .1) (w6 .before .before .put-tables-arg6 .given .0) (s .pre .0 .1)
+    (a .words .now) (s .pre .0 .2)
     (w1 .before .before .before .row-of .ensures .inside (omega (arith, w1 .before .before .before .before .row-of-arg .given .0)))
     (w1 .before .put-shape .ensures) (w2 .before .put-letters .ensures) (w3 .before .put-repeats .ensures) (w4 .before .put-tables .ensures)
     (w5 .before .put-tables2 .ensures) (w6 .before .put-tables3 .ensures) (w7 .before .put-back .ensures)

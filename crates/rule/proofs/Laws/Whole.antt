@@ -12,11 +12,10 @@ use denote.Enum.Declared.{tagOf}
 use types.Run.{miss, OneOf}
 use Rattle.model.specs.Edges.{states}
 use Rattle.model.specs.Grammar.{bracket, IsRule}
-use Rattle.model.specs.Models.Reader.{readRule, whole}
+use Rattle.model.specs.Models.Reader.{alts, readRule, whole}
 use Rattle.model.specs.Tree as tree
 use Rattle.model.proofs.Image.Tokens.{length-tokens}
 use Rattle.model.proofs.Laws.Bool.{le-false, le-or-lt, le-true}
-use Rattle.model.proofs.Reading.Cycle.{alts}
 use Rattle.model.proofs.Reading.Decides.{reads}
 use Rattle.rule_bytes.specs.Places.{Took}
 use Rattle.rule.specs.Groups.{WholeSays}
@@ -25,8 +24,8 @@ use Rattle.rule.specs.Says.{not-a-rule, outcomeOf, read, reading, ReadSa
 use Rattle.rule.specs.Tokens.{noTokens, Stands}
 use Rattle.rule.specs.declared.Outcome.{Outcome}
 use Rattle.rule.specs.declared.Outcome.the-variants.{NotARule, TooLong, TooManyStates, Tree}
-use Rattle.rule.specs.declared.Part.{Part}
-use Rattle.rule.specs.declared.Part.the-variants.{Bad as noPart, Got as aPart}
+use Rattle.rule.specs.declared.parts.Part.{Part}
+use Rattle.rule.specs.declared.parts.Part.the-variants.{Bad as noPart, Got as aPart}
 use Rattle.rule.specs.declared.Reading.{Reading}
 use Rattle.rule.proofs.Outcome.{the-type}
 

@@ -5,13 +5,13 @@ use Prim.Native.Nat.{ℕ, _≤_}
 use native.Mathlib.Omega.{arith}
 use lib.ListN.{length, length-replicate}
 use borrow.Author.Needs.{needs}
-use Rattle.model.proofs.Reading.Cycle.{alts}
+use Rattle.model.specs.Models.Reader.{alts}
 use Rattle.rule.specs.Groups.{WholeSays}
 use Rattle.rule.specs.Says.{outcomeOf, ReadSays, too-long}
 use Rattle.rule.specs.Tokens.{noTokens}
 use Rattle.rule.specs.declared.Outcome.{Outcome}
 use Rattle.rule.specs.declared.Outcome.the-variants.{Tree}
-use Rattle.rule.specs.declared.Part.{Part}
+use Rattle.rule.specs.declared.parts.Part.{Part}
 use Rattle.rule.proofs.Laws.Groups.{says-counted}
 use Rattle.rule.proofs.Laws.Whole.{answered, refused, whole-says}
 use Rattle.rule.proofs.read_rule.Statement.{statement}

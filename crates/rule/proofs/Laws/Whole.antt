@@ -37,11 +37,11 @@ answered TooManyStates row = reading TooManyStates noTokens
 answered (Tree m) row = reading (Tree m) row
 
 -- an outcome of another key than the tree's
-pub refused : (o : Outcome) (row : List ℕ) → OneOf (0 ∷ 1 ∷ 2 ∷ []) (tagOf the-type o) → answered o row ≡ reading o noTokens
-refused TooLong row h = refl
-refused NotARule row h = refl
-refused TooManyStates row h = refl
-refused (Tree m) row h = absurd (miss (0 ∷ 1 ∷ 2 ∷ []) 3 tt h)
+pub answered-other : (o : Outcome) (row : List ℕ) → OneOf (0 ∷ 1 ∷ 2 ∷ []) (tagOf the-type o) → answered o row ≡ reading o noTokens
+answered-other TooLong row h = refl
+answered-other NotARule row h = refl
+answered-other TooManyStates row h = refl
+answered-other (Tree m) row h = absurd (miss (0 ∷ 1 ∷ 2 ∷ []) 3 tt h)
 
 module _ (rule row : List ℕ) (short : length rule ≤ 1024) where
   unread : readRule rule ≡ none → (t : tree.Tree) → IsRule rule t → ⊥

@@ -1,8 +1,8 @@
 // What the desk program writes (document 01, "The desk program"), from the bytes of its two files: every check is made before the first byte is written.
 use program_lines::put_ends;
 use program_lines::put_line;
+use program_lines::put_refusal;
 use program_lines::put_total;
-use program_lines::refuse;
 use watcher::Built;
 use watcher::Matched;
 use watcher::build;
@@ -12,12 +12,13 @@ use writing::Written;
 ghost use Prim.Native.Nat.{_≤_};
 ghost use lib.ListN.{length, take};
 ghost use Rattle.program_lines.specs.Lines.{Reports};
-ghost use Rattle.program_lines.specs.Work.{Puts};
+ghost use Rattle.program_lines.specs.Work.{PutAt};
 ghost use Rattle.desk_report.specs.Desk.{DeskSays, foundText, Matches, ReadsBack};
 
 // The three parts of the text, once no check is left that could refuse.
 fn put_found(text: &mut [u8], writing: &[u8], total: usize, ends: &[u32]) -> usize
-    ensures { λ r. ⌜ Puts (foundText (now (writing .entry)) total (take total (now (ends .entry)))) (now (text .entry)) 0 r (now (text .exit)) ⌝ }
+    requires { ⌜ (length (now writing) ≤ 16384) × (length (now ends) ≤ 1000) ⌝ }
+    ensures { λ r. ⌜ PutAt (foundText (now (writing .entry)) total (take total (now (ends .entry)))) (now (text .entry)) 0 r (now (text .exit)) ⌝ }
 {
     let first = put_line(text, 0, writing);
     let second = put_total(text, first, total as u64);
@@ -32,8 +33,8 @@ fn report_ends(image: &[u64], journal: &[u8], writing: &[u8], text: &mut [u8]) -
     let mut ends = [0u32; 1000];
     let matched = match_ends(image, journal, &mut ends);
     match matched {
-        Matched::NotAnImage => refuse(text, 6),
-        Matched::TextTooLong => refuse(text, 7),
+        Matched::NotAnImage => put_refusal(text, 6),
+        Matched::TextTooLong => put_refusal(text, 7),
         Matched::Done(total) => put_found(text, writing, total, &ends),
     }
 }
@@ -45,8 +46,8 @@ fn report_image(image: &[u64], journal: &[u8], text: &mut [u8]) -> usize
     let mut writing = [0u8; 16384];
     let written = read_back(image, &mut writing);
     match written {
-        Written::NotAnImage => refuse(text, 6),
-        Written::NoRoom => refuse(text, 8),
+        Written::NotAnImage => put_refusal(text, 6),
+        Written::NoRoom => put_refusal(text, 8),
         Written::Done(length) => report_ends(image, journal, &writing[..length], text),
     }
 }
@@ -58,11 +59,11 @@ pub fn report(rule: &[u8], journal: &[u8], text: &mut [u8]) -> usize
     let mut image = [0u64; 4834];
     let built = build(rule, &mut image);
     match built {
-        Built::TooLong => refuse(text, 1),
-        Built::NotARule => refuse(text, 2),
-        Built::TooManyStates => refuse(text, 3),
-        Built::TooDeep => refuse(text, 4),
-        Built::NoRoom => refuse(text, 5),
+        Built::TooLong => put_refusal(text, 1),
+        Built::NotARule => put_refusal(text, 2),
+        Built::TooManyStates => put_refusal(text, 3),
+        Built::TooDeep => put_refusal(text, 4),
+        Built::NoRoom => put_refusal(text, 5),
         Built::Done(length) => report_image(&image[..length], journal, text),
     }
 }

@@ -14,7 +14,7 @@ use libc::STDIN_FILENO;
 use libc::STDOUT_FILENO;
 use program_files::read_file;
 use program_lines::put_line;
-use program_lines::refuse;
+use program_lines::put_refusal;
 use spelling::Judged;
 use spelling_propose::Proposed;
 use watcher::Built;
@@ -32,10 +32,10 @@ fn explain(image: &[u64], journal: &[u8], end: usize, text: &mut [u8]) -> usize
     let mut states = [0u32; 65535];
     let proposed = propose_spelling(image, journal, end, &mut states);
     match proposed {
-        Proposed::NotAnImage => refuse(text, 6),
-        Proposed::TextTooLong => refuse(text, 7),
-        Proposed::NoEnd => refuse(text, 16),
-        Proposed::NoRoom => refuse(text, 17),
+        Proposed::NotAnImage => put_refusal(text, 6),
+        Proposed::TextTooLong => put_refusal(text, 7),
+        Proposed::NoEnd => put_refusal(text, 16),
+        Proposed::NoRoom => put_refusal(text, 17),
         Proposed::Done(start, count) => put_record(
             text,
             &journal[start..end],
@@ -82,8 +82,8 @@ fn judge_proposal(
 {
     let judged = check_spelling(image, journal, start, end, states);
     match judged {
-        Judged::NotAnImage => refuse(text, 6),
-        Judged::TextTooLong => refuse(text, 7),
+        Judged::NotAnImage => put_refusal(text, 6),
+        Judged::TextTooLong => put_refusal(text, 7),
         Judged::No => put_line(text, 0, b"no"),
         Judged::Yes => confirm(record, &journal[start..end], start, end, states, text),
     }
@@ -124,11 +124,11 @@ fn answer(rule: &[u8], journal: &[u8], request: &[u8], text: &mut [u8]) -> usize
     let mut image = [0u64; 4834];
     let built = build(rule, &mut image);
     match built {
-        Built::TooLong => refuse(text, 1),
-        Built::NotARule => refuse(text, 2),
-        Built::TooManyStates => refuse(text, 3),
-        Built::TooDeep => refuse(text, 4),
-        Built::NoRoom => refuse(text, 5),
+        Built::TooLong => put_refusal(text, 1),
+        Built::NotARule => put_refusal(text, 2),
+        Built::TooManyStates => put_refusal(text, 3),
+        Built::TooDeep => put_refusal(text, 4),
+        Built::NoRoom => put_refusal(text, 5),
         Built::Done(length) => respond(&image[..length], journal, request, text),
     }
 }

@@ -5,7 +5,7 @@ use mathlib.Core.List.{List}
 use Prim.Native.Nat.{ℕ}
 use lib.ListN.{take}
 use Rattle.program_lines.specs.Lines.{endLines, refusedText}
-use Rattle.program_lines.specs.Work.{PutAt, Puts}
+use Rattle.program_lines.specs.Work.{PutAt}
 use Rattle.follow_report.specs.Follow.{Kept, maskWords, Next, on, stopped}
 use Rattle.follow_report.specs.declared.Said.{Said}
 use Rattle.follow_report.specs.declared.Watching.{Watching}
@@ -28,4 +28,4 @@ pub record Stops (number : ℕ) (before : List ℕ) (r : Said) (after : List ℕ
 pub record Goes (ends : List ℕ) (count : ℕ) (watching : Watching) (before : List ℕ) (r : Said) (after : List ℕ) : Type 0 where
   pub on : r .on ≡ true
   pub kept : r .watching ≡ watching
-  pub put : Puts (endLines (take count ends)) before 0 (r .length) after
+  pub put : PutAt (endLines (take count ends)) before 0 (r .length) after

@@ -1,8 +1,8 @@
 // What the program `follow` writes (document 02, Wish 1), from the bytes of its rule and of the stretches in which its journal arrives: at the opening, for
 // each stretch, and at the end.
 use program_lines::put_ends;
+use program_lines::put_refusal;
 use program_lines::put_total;
-use program_lines::refuse;
 use std::num::wrapping_add_u64;
 use watch::Begun;
 use watch::Stepped;
@@ -11,7 +11,8 @@ use watcher::begin;
 use watcher::build;
 use watcher::step;
 ghost use mathlib.Core.Path.{_≡_};
-ghost use lib.ListN.{take};
+ghost use Prim.Native.Nat.{_≤_};
+ghost use lib.ListN.{length, take};
 ghost use Rattle.program_lines.specs.Lines.{Reports, totalText};
 ghost use Rattle.follow_report.specs.Follow.{Begins, Hears, maskWords, Opens};
 ghost use Rattle.follow_report.specs.Work.{Goes, keptIn, nextIn, Stops};
@@ -46,7 +47,7 @@ fn stop(text: &mut [u8], number: u64) -> Said
         place: 0,
         total: 0,
     };
-    let length = refuse(text, number);
+    let length = put_refusal(text, number);
     Said {
         length,
         on: false,
@@ -56,6 +57,7 @@ fn stop(text: &mut [u8], number: u64) -> Said
 
 // A line for each end, and the program goes on.
 fn go_on(text: &mut [u8], ends: &[u32], count: usize, watching: Watching) -> Said
+    requires { ⌜ length (now ends) ≤ 4096 ⌝ }
     ensures { λ r. ⌜ Goes (now (ends .entry)) count watching (now (text .entry)) r (now (text .exit)) ⌝ }
 {
     let length = put_ends(text, 0, ends, count);

@@ -1,35 +1,38 @@
-// Lines of bytes and numbers in a lent text, as far as there is room. No place is refused: where one after another would pass 64 bits, nothing is promised.
-use std::num::wrapping_add_usize;
+// Lines of bytes and numbers in a lent text, as far as there is room. The place after them has to be a number of 64 bits; the line of a number has at most
+// 21 bytes.
 ghost use mathlib.Core.Path.{_≡_};
-ghost use Prim.Native.Nat.{min};
-ghost use lib.ListN.{take};
+ghost use Prim.Native.Nat.{_+_, _*_, _^_, _<_, min};
+ghost use lib.ListN.{length, take};
 ghost use Rattle.program_lines.specs.Lines.{decimal, endLines, line, refusedText, totalText};
-ghost use Rattle.program_lines.specs.Work.{PutAt, Puts};
+ghost use Rattle.program_lines.specs.Work.{PutAt};
 
 // Bytes one after another from a place on, and the place after them.
 pub fn put(text: &mut [u8], at: usize, bytes: &[u8]) -> usize
-    ensures { λ r. ⌜ Puts (now (bytes .entry)) (now (text .entry)) at r (now (text .exit)) ⌝ }
+    requires { ⌜ at + length (now bytes) < 2 ^ 64 ⌝ }
+    ensures { λ r. ⌜ PutAt (now (bytes .entry)) (now (text .entry)) at r (now (text .exit)) ⌝ }
 {
     let mut i: usize = 0;
     while i < bytes.len() {
-        let place = wrapping_add_usize(at, i);
+        let place = at + i;
         if place < text.len() {
             text[place] = bytes[i];
         }
         i += 1;
     }
-    wrapping_add_usize(at, bytes.len())
+    at + bytes.len()
 }
 
 pub fn put_line(text: &mut [u8], at: usize, bytes: &[u8]) -> usize
-    ensures { λ r. ⌜ Puts (line (now (bytes .entry))) (now (text .entry)) at r (now (text .exit)) ⌝ }
+    requires { ⌜ at + length (now bytes) + 1 < 2 ^ 64 ⌝ }
+    ensures { λ r. ⌜ PutAt (line (now (bytes .entry))) (now (text .entry)) at r (now (text .exit)) ⌝ }
 {
     let after = put(text, at, bytes);
     put(text, after, b"\n")
 }
 
 pub fn put_number(text: &mut [u8], at: usize, number: u64) -> usize
-    ensures { λ r. ⌜ Puts (line (decimal number)) (now (text .entry)) at r (now (text .exit)) ⌝ }
+    requires { ⌜ at + 21 < 2 ^ 64 ⌝ }
+    ensures { λ r. ⌜ PutAt (line (decimal number)) (now (text .entry)) at r (now (text .exit)) ⌝ }
 {
     let mut digits = [0u8; 20];
     let length = io::decimal(number, &mut digits);
@@ -38,14 +41,15 @@ pub fn put_number(text: &mut [u8], at: usize, number: u64) -> usize
 
 // `total T`
 pub fn put_total(text: &mut [u8], at: usize, total: u64) -> usize
-    ensures { λ r. ⌜ Puts (totalText total) (now (text .entry)) at r (now (text .exit)) ⌝ }
+    requires { ⌜ at + 27 < 2 ^ 64 ⌝ }
+    ensures { λ r. ⌜ PutAt (totalText total) (now (text .entry)) at r (now (text .exit)) ⌝ }
 {
     let after = put(text, at, b"total ");
     put_number(text, after, total)
 }
 
 // `refused N`
-pub fn refuse(text: &mut [u8], number: u64) -> usize
+pub fn put_refusal(text: &mut [u8], number: u64) -> usize
     ensures { λ r. ⌜ PutAt (refusedText number) (now (text .entry)) 0 r (now (text .exit)) ⌝ }
 {
     let after = put(text, 0, b"refused ");
@@ -60,7 +64,8 @@ fn least(a: usize, b: usize) -> usize
 
 // A line for each of the first ends, as many as are counted and were lent.
 pub fn put_ends(text: &mut [u8], at: usize, ends: &[u32], count: usize) -> usize
-    ensures { λ r. ⌜ Puts (endLines (take count (now (ends .entry)))) (now (text .entry)) at r (now (text .exit)) ⌝ }
+    requires { ⌜ at + 21 * length (now ends) < 2 ^ 64 ⌝ }
+    ensures { λ r. ⌜ PutAt (endLines (take count (now (ends .entry)))) (now (text .entry)) at r (now (text .exit)) ⌝ }
 {
     let shown = least(count, ends.len());
     let mut next = at;

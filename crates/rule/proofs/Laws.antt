@@ -1,8 +1,8 @@
 -- What the proofs of the functions cite, and callers.
--- Writes says what runs of stores leave, Written what tokens' words are, Stands where rows of them stand, Rows which tokens a sequence has. Cycle is
+-- Stores says what runs of stores leave, RowWords what tokens' words are, Stands where rows of them stand, Rows which tokens a sequence has. Cycle is
 -- the three readers, each way out; Groups alternatives made one item; Whole a rule read to its last byte.
-pub mod Writes
-pub mod Written
+pub mod Stores
+pub mod RowWords
 pub mod Stands
 pub mod Rows
 pub mod Cycle

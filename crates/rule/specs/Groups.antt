@@ -7,15 +7,15 @@ use Rattle.model.specs.Bytes.{byte}
 use Rattle.model.specs.Edges.{altsEmpty}
 use Rattle.model.specs.Grammar.{bracket, grouped}
 use Rattle.model.specs.Models.Reader.{bind, got, past, Read, readMark}
+use Rattle.model.specs.Models.Tokens.{several}
 use Rattle.model.specs.Tree.{Alts, Repeat, Seq}
-use Rattle.model.proofs.Reading.WellFormed.{several}
 use Rattle.rule_bytes.specs.Places.{Stopped, Took}
 use Rattle.rule.specs.Parts.{AlternativesSay, PartSays, seqTokens}
 use Rattle.rule.specs.Tokens.{between, Numbered, Stands}
-use Rattle.rule.specs.declared.Alternatives.{Alternatives}
-use Rattle.rule.specs.declared.Alternatives.the-variants.{Bad as noAlternatives, Got as someAlternatives}
-use Rattle.rule.specs.declared.Part.{Part}
-use Rattle.rule.specs.declared.Part.the-variants.{Bad as noPart, Got as aPart}
+use Rattle.rule.specs.declared.parts.Alternatives.{Alternatives}
+use Rattle.rule.specs.declared.parts.Alternatives.the-variants.{Bad as noAlternatives, Got as someAlternatives}
+use Rattle.rule.specs.declared.parts.Part.{Part}
+use Rattle.rule.specs.declared.parts.Part.the-variants.{Bad as noPart, Got as aPart}
 
 -- ---- a group of alternatives, of which v says whether they are several, and e whether one can be empty
 -- whatever alternatives stand from token n up to `next`, those of the group with the sign k then stand there

@@ -7,15 +7,14 @@ use lib.ListN.{length}
 use Rattle.model.specs.Edges.{altsEmpty, seqEmpty}
 use Rattle.model.specs.Grammar.{repeated}
 use Rattle.model.specs.Models.Reader.{bind, got, Read, readSign}
-use Rattle.model.specs.Models.Tokens.{Token, tokens}
+use Rattle.model.specs.Models.Tokens.{several, Token, tokens}
 use Rattle.model.specs.Tree.{Alts, Seq}
-use Rattle.model.proofs.Reading.WellFormed.{several}
 use Rattle.rule_bytes.specs.Places.{Stopped, Took}
 use Rattle.rule.specs.Tokens.{between, Stands}
-use Rattle.rule.specs.declared.Alternatives.{Alternatives}
-use Rattle.rule.specs.declared.Alternatives.the-variants.{Bad as noAlternatives, Got as someAlternatives}
-use Rattle.rule.specs.declared.Part.{Part}
-use Rattle.rule.specs.declared.Part.the-variants.{Bad as noPart, Got as aPart}
+use Rattle.rule.specs.declared.parts.Alternatives.{Alternatives}
+use Rattle.rule.specs.declared.parts.Alternatives.the-variants.{Bad as noAlternatives, Got as someAlternatives}
+use Rattle.rule.specs.declared.parts.Part.{Part}
+use Rattle.rule.specs.declared.parts.Part.the-variants.{Bad as noPart, Got as aPart}
 
 -- where a reader may begin: at a place of a rule that is not too long, with room for the tokens, of which one that is counted comes next
 pub record Ready (rule : List ℕ) (at : ℕ) (tokens : List ℕ) (n : ℕ) : Type 0 where

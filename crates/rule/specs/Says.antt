@@ -12,8 +12,8 @@ use Rattle.model.specs.Tree as tree
 use Rattle.rule.specs.Tokens.{noTokens, roomWith}
 use Rattle.rule.specs.declared.Outcome.{Outcome}
 use Rattle.rule.specs.declared.Outcome.the-variants.{NotARule, TooLong, TooManyStates, Tree}
-use Rattle.rule.specs.declared.Part.{Part}
-use Rattle.rule.specs.declared.Part.the-variants.{Bad as noPart, Got as aPart}
+use Rattle.rule.specs.declared.parts.Part.{Part}
+use Rattle.rule.specs.declared.parts.Part.the-variants.{Bad as noPart, Got as aPart}
 use Rattle.rule.specs.declared.Reading.{Reading}
 
 abbrev pub reading : Outcome → List ℕ → Reading

@@ -1,7 +1,7 @@
 // Groups: alternatives made one item. "A bracketed group may take `?`. The tree keeps it as a union .. But a `?` on a group that can already be empty
 // is dropped" (document 02, Wish 3). "A bracketed group may take `*` .. `+` on a group is the group and then its `*`" (Wish 12).
-use crate::Alternatives;
-use crate::Part;
+use crate::parts::Alternatives;
+use crate::parts::Part;
 use crate::rows::double;
 use crate::rows::enclose;
 use rule_bytes::byte_at;

@@ -5,23 +5,13 @@ ghost use Rattle.rule.specs.Says.{outcomeOf, reading, ReadSays};
 ghost use Rattle.rule.specs.Tokens.{noTokens};
 
 mod groups;
+mod parts;
 mod readers;
 mod rows;
 
 use crate::groups::bracket;
+use crate::parts::Part;
 use crate::readers::read_alternatives;
-
-// An item or a sequence: the place after it, the number of the token after its own, and whether it can be empty.
-enum Part {
-    Got(usize, usize, bool),
-    Bad(usize),
-}
-
-// Alternatives: the place, the number, whether they are several, and whether one of them can be empty.
-enum Alternatives {
-    Got(usize, usize, bool, bool),
-    Bad(usize),
-}
 
 // What a rule is: refused with 1, 2 or 3 (document 01, "Numbers given back"), or the rule of a tree of so many states.
 pub enum Outcome {

@@ -1,8 +1,8 @@
 // The three readers that call each other: "Alternatives hold sequences, sequences hold items, items hold alternatives" (document 01). Each writes
 // the tokens of what it reads from token n on. The bytes that remain fall from call to call, so brackets may nest as deep as the rule is long.
-use crate::Alternatives;
-use crate::Part;
 use crate::groups::close_item;
+use crate::parts::Alternatives;
+use crate::parts::Part;
 use crate::rows::put_letter;
 use crate::rows::put_union;
 use rule_bytes::byte_at;
@@ -20,8 +20,7 @@ ghost use Prim.Native.Nat.{ℕ};
 ghost use lib.ListN.{drop};
 ghost use Rattle.model.specs.Edges.{seqEmpty};
 ghost use Rattle.model.specs.Grammar.{repeated};
-ghost use Rattle.model.specs.Models.Reader.{over, readPiece};
-ghost use Rattle.model.proofs.Reading.Cycle.{alts, item as itemOf, seq};
+ghost use Rattle.model.specs.Models.Reader.{alts, item as itemOf, over, readPiece, seq};
 ghost use Rattle.rule_letters.specs.Classes.{bytesOf};
 ghost use Rattle.rule_signs.specs.Answers.{signOf};
 ghost use Rattle.rule.specs.Parts.{afterLetter, AlternativesSay, PartSays, Ready, severalOf};

@@ -32,7 +32,7 @@ fn room(tokens: &[u64]) -> usize
 }
 
 // Token n, and the number of the token after it.
-pub fn put(tokens: &mut [u64; 2555], n: usize, kind: u8, class: Class) -> usize
+pub fn put_token(tokens: &mut [u64; 2555], n: usize, kind: u8, class: Class) -> usize
     ensures count { λ r. ⌜ r ≡ cut (n + 1) ⌝ }
     ensures written { λ r. ⌜ now (tokens .exit) ≡ sets (now (tokens .entry)) (5 * n) (kind ∷ wordsOf class) ⌝ }
 {
@@ -53,7 +53,7 @@ pub fn put_union(tokens: &mut [u64; 2555], n: usize, kind: u8) -> usize
     ensures count { λ r. ⌜ r ≡ cut (n + 1) ⌝ }
     ensures written { λ r. ⌜ now (tokens .exit) ≡ sets (now (tokens .entry)) (5 * n) (kind ∷ words 4 0) ⌝ }
 {
-    put(tokens, n, kind, none())
+    put_token(tokens, n, kind, none())
 }
 
 // The token n and those after it up to n + count - 1, all alike, and the number of the token after them.
@@ -65,7 +65,7 @@ fn put_many(tokens: &mut [u64; 2555], n: usize, count: usize, kind: u8, class: C
     let mut next = n;
     let mut i: usize = 0;
     while i < count {
-        next = put(tokens, next, kind, class);
+        next = put_token(tokens, next, kind, class);
         i += 1;
     }
     next
@@ -122,7 +122,7 @@ pub fn put_letter(tokens: &mut [u64; 2555], n: usize, class: Class, how_often: H
     ensures { λ r. ⌜ Stands (now (tokens .entry)) (now (tokens .exit)) n r (tokensOf (repeated (bytesOf class) (signOf «how_often»)) []) ⌝ }
 {
     match how_often {
-        HowOften::Plainly(repeat) => put(tokens, n, repeat_kind(repeat), class),
+        HowOften::Plainly(repeat) => put_token(tokens, n, repeat_kind(repeat), class),
         HowOften::Times(x, y) => {
             let next = put_many(tokens, n, y - x, OPTION, class);
             put_many(tokens, next, x, ONCE, class)

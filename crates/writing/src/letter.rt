@@ -2,7 +2,7 @@
 use image_sections::Sections;
 use tokens::token::Repeat;
 use writing_letters::classes::write_class;
-use writing_letters::put;
+use writing_letters::set_byte;
 ghost use mathlib.Core.Path.{_≡_};
 ghost use mathlib.Core.List.{_++_};
 ghost use Prim.Native.Nat.{_+_, _^_, _<_};
@@ -40,15 +40,15 @@ fn write_sign(out: &mut [u8], at: usize, repeat: Repeat) -> usize
     match repeat {
         Repeat::Once => at,
         Repeat::Option => {
-            put(out, at, b'?');
+            set_byte(out, at, b'?');
             at + 1
         }
         Repeat::Star => {
-            put(out, at, b'*');
+            set_byte(out, at, b'*');
             at + 1
         }
         Repeat::Plus => {
-            put(out, at, b'+');
+            set_byte(out, at, b'+');
             at + 1
         }
     }

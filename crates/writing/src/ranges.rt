@@ -4,7 +4,7 @@ use image_sections::Sections;
 use tokens::kind::read_kind;
 use tokens::token::Mark;
 use tokens::token::Token;
-use writing_letters::put;
+use writing_letters::set_byte;
 ghost use mathlib.Core.Path.{_≡_};
 ghost use Prim.Native.Nat.{_+_, _-_, _*_, _^_, _≤_, _<_};
 ghost use mathlib.Core.List.{_∷_};
@@ -53,15 +53,15 @@ fn write_close(out: &mut [u8], at: usize, mark: Mark) -> usize
     ensures place { λ r. ⌜ r ≡ at + length (byte ")" ∷ markWriting (markOf mark)) ⌝ }
     ensures written { λ r. ⌜ now (out .exit) ≡ sets (now (out .entry)) at (byte ")" ∷ markWriting (markOf mark)) ⌝ }
 {
-    put(out, at, b')');
+    set_byte(out, at, b')');
     match mark {
         Mark::Unmarked => at + 1,
         Mark::Optional => {
-            put(out, at + 1, b'?');
+            set_byte(out, at + 1, b'?');
             at + 2
         }
         Mark::Starred => {
-            put(out, at + 1, b'*');
+            set_byte(out, at + 1, b'*');
             at + 2
         }
     }
@@ -83,11 +83,11 @@ fn write_token(
     match token {
         Token::Letter(repeat) => write_letter(words, sections, repeat, state, out, at),
         Token::Open => {
-            put(out, at, b'(');
+            set_byte(out, at, b'(');
             at + 1
         }
         Token::Bar => {
-            put(out, at, b'|');
+            set_byte(out, at, b'|');
             at + 1
         }
         Token::Close(mark) => write_close(out, at, mark),

@@ -1,5 +1,5 @@
 // Classes, as four words: byte b is bit b mod 64 of word b / 64.
-use crate::put;
+use crate::set_byte;
 use crate::write_byte;
 use crate::write_run;
 ghost use mathlib.Core.Path.{_≡_};
@@ -65,12 +65,10 @@ fn write_runs(out: &mut [u8], at: usize, class: [u64; 4]) -> usize
 
 // "A class of one byte is that byte .. All 256 bytes are `.`. Any other class is its maximal runs in rising order in `[ ]`"
 pub fn write_class(out: &mut [u8], at: usize, class: [u64; 4]) -> usize
-    ensures place { λ r. ⌜ (at < 2 ^ 30 → r ≡ at + length (classWriting (value class))) ⌝ }
-    ensures written { λ r. ⌜ (at < 2 ^ 30 → now (out .exit) ≡ sets (now (out .entry)) at (classWriting (value class))) ⌝ }
+    requires { ⌜ at < 2 ^ 30 ⌝ }
+    ensures place { λ r. ⌜ r ≡ at + length (classWriting (value class)) ⌝ }
+    ensures written { λ r. ⌜ now (out .exit) ≡ sets (now (out .entry)) at (classWriting (value class)) ⌝ }
 {
-    if at >= 1073741824 {
-        return at;
-    }
     let first = next_in(class, 0);
     if first < 256 {
         if next_in(class, first + 1) == 256 {
@@ -78,11 +76,11 @@ pub fn write_class(out: &mut [u8], at: usize, class: [u64; 4]) -> usize
         }
     }
     if next_out(class, 0) == 256 {
-        put(out, at, b'.');
+        set_byte(out, at, b'.');
         return at + 1;
     }
-    put(out, at, b'[');
+    set_byte(out, at, b'[');
     let p = write_runs(out, at + 1, class);
-    put(out, p, b']');
+    set_byte(out, p, b']');
     p + 1
 }

@@ -9,7 +9,7 @@ ghost use lib.Seq.{sets};
 ghost use Rattle.model.specs.Writing.{byteWriting, hexDigit, runWriting};
 
 // One byte, if there is room for it.
-pub fn put(out: &mut [u8], at: usize, byte: u8)
+pub fn set_byte(out: &mut [u8], at: usize, byte: u8)
     ensures { λ r. ⌜ now (out .exit) ≡ set (now (out .entry)) at byte ⌝ }
 {
     if at < out.len() {
@@ -27,40 +27,36 @@ fn hex_digit(d: u8) -> u8
 
 // "plain and not `-`, itself; a sign or `-`, with `\` before it; else `\x` and two upper-case digits"; and the place after it
 pub fn write_byte(out: &mut [u8], at: usize, byte: u8) -> usize
-    ensures place { λ r. ⌜ (at < 2 ^ 33 → r ≡ at + length (byteWriting byte)) ⌝ }
-    ensures written { λ r. ⌜ (at < 2 ^ 33 → now (out .exit) ≡ sets (now (out .entry)) at (byteWriting byte)) ⌝ }
+    requires { ⌜ at < 2 ^ 33 ⌝ }
+    ensures place { λ r. ⌜ r ≡ at + length (byteWriting byte) ⌝ }
+    ensures written { λ r. ⌜ now (out .exit) ≡ sets (now (out .entry)) at (byteWriting byte) ⌝ }
 {
-    if at >= 8589934592 {
-        return at;
-    }
     if is_escaped(byte) {
-        put(out, at, b'\\');
-        put(out, at + 1, byte);
+        set_byte(out, at, b'\\');
+        set_byte(out, at + 1, byte);
         return at + 2;
     }
     if byte >= 33 && byte <= 126 {
-        put(out, at, byte);
+        set_byte(out, at, byte);
         return at + 1;
     }
-    put(out, at, b'\\');
-    put(out, at + 1, b'x');
-    put(out, at + 2, hex_digit(byte / 16));
-    put(out, at + 3, hex_digit(byte % 16));
+    set_byte(out, at, b'\\');
+    set_byte(out, at + 1, b'x');
+    set_byte(out, at + 2, hex_digit(byte / 16));
+    set_byte(out, at + 3, hex_digit(byte % 16));
     at + 4
 }
 
 // "a run of one as the byte, a longer run as `lo-hi`"
 fn write_run(out: &mut [u8], at: usize, lo: u8, hi: u8) -> usize
-    ensures place { λ r. ⌜ (at < 2 ^ 32 → r ≡ at + length (runWriting lo hi)) ⌝ }
-    ensures written { λ r. ⌜ (at < 2 ^ 32 → now (out .exit) ≡ sets (now (out .entry)) at (runWriting lo hi)) ⌝ }
+    requires { ⌜ at < 2 ^ 32 ⌝ }
+    ensures place { λ r. ⌜ r ≡ at + length (runWriting lo hi) ⌝ }
+    ensures written { λ r. ⌜ now (out .exit) ≡ sets (now (out .entry)) at (runWriting lo hi) ⌝ }
 {
-    if at >= 4294967296 {
-        return at;
-    }
     let p = write_byte(out, at, lo);
     if lo == hi {
         return p;
     }
-    put(out, p, b'-');
+    set_byte(out, p, b'-');
     write_byte(out, p + 1, hi)
 }

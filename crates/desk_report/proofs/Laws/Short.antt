@@ -51,7 +51,7 @@ found-short : (writing : List ℕ) (total : ℕ) (ends : List ℕ) → length wr
 found-short writing total ends w t e S =
     omega (arith, length-append (line writing) (totalText total ++ endLines ends), length-append writing (10 ∷ []), length-append (totalText total) (endLines ends), number-short 4 total t, ends-short 4 ends S)
 
-pub matches-short : {words journal writing text : List ℕ} → length writing ≤ 16384 → Matches words journal writing text → length text ≤ 22397
+matches-short : {words journal writing text : List ℕ} → length writing ≤ 16384 → Matches words journal writing text → length text ≤ 22397
 matches-short w (Matches.refused a M l e) = omega (arith, ap length e, refused-short (a .number) (few-digits M .number))
 matches-short {writing = writing} w (found a M z e) =
     let F = few-digits M in

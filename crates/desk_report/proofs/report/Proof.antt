@@ -18,32 +18,32 @@ build-requires c κs = search needs
 enum-told : tie.Need-enum-told
 enum-told c = search needs
 
-refuse-requires : tie.Need-refuse-requires
-refuse-requires c κs = search needs
+put-refusal-requires : tie.Need-put-refusal-requires
+put-refusal-requires c κs = search needs
 
 enum-told-2 : tie.Need-enum-told-2
 enum-told-2 c = search needs
 
-refuse-requires-2 : tie.Need-refuse-requires-2
-refuse-requires-2 c κs = search needs
+put-refusal-requires-2 : tie.Need-put-refusal-requires-2
+put-refusal-requires-2 c κs = search needs
 
 enum-told-3 : tie.Need-enum-told-3
 enum-told-3 c = search needs
 
-refuse-requires-3 : tie.Need-refuse-requires-3
-refuse-requires-3 c κs = search needs
+put-refusal-requires-3 : tie.Need-put-refusal-requires-3
+put-refusal-requires-3 c κs = search needs
 
 enum-told-4 : tie.Need-enum-told-4
 enum-told-4 c = search needs
 
-refuse-requires-4 : tie.Need-refuse-requires-4
-refuse-requires-4 c κs = search needs
+put-refusal-requires-4 : tie.Need-put-refusal-requires-4
+put-refusal-requires-4 c κs = search needs
 
 enum-told-5 : tie.Need-enum-told-5
 enum-told-5 c = search needs
 
-refuse-requires-5 : tie.Need-refuse-requires-5
-refuse-requires-5 c κs = search needs
+put-refusal-requires-5 : tie.Need-put-refusal-requires-5
+put-refusal-requires-5 c κs = search needs
 
 enum-known-built : tie.Need-enum-known-built
 enum-known-built c = search needs
@@ -67,7 +67,7 @@ same-length c = search needs
 returns : tie.Need-returns
 returns c =
     let b = c .before .before .before .before .before .before .before .build in
-    reports (c .before .before .refuse .ensures)
+    reports (c .before .before .put-refusal .ensures)
     (build-refused (b .ensures) 1 (ap (λ (r : Built). builtAnswer r (b .last .1 .0) .number) (c .before .before .before .before .enum-told .given .1)) (omega arith))
 
 same-length-2 : tie.Need-same-length-2
@@ -76,7 +76,7 @@ same-length-2 c = search needs
 returns-2 : tie.Need-returns-2
 returns-2 c =
     let b = c .before .before .before .before .before .before .before .build in
-    reports (c .before .before .refuse2 .ensures)
+    reports (c .before .before .put-refusal2 .ensures)
     (build-refused (b .ensures) 2 (ap (λ (r : Built). builtAnswer r (b .last .1 .0) .number) (c .before .before .before .before .enum-told2 .given .1)) (omega arith))
 
 same-length-3 : tie.Need-same-length-3
@@ -85,7 +85,7 @@ same-length-3 c = search needs
 returns-3 : tie.Need-returns-3
 returns-3 c =
     let b = c .before .before .before .before .before .before .before .build in
-    reports (c .before .before .refuse3 .ensures)
+    reports (c .before .before .put-refusal3 .ensures)
     (build-refused (b .ensures) 3 (ap (λ (r : Built). builtAnswer r (b .last .1 .0) .number) (c .before .before .before .before .enum-told3 .given .1)) (omega arith))
 
 same-length-4 : tie.Need-same-length-4
@@ -94,7 +94,7 @@ same-length-4 c = search needs
 returns-4 : tie.Need-returns-4
 returns-4 c =
     let b = c .before .before .before .before .before .before .before .build in
-    reports (c .before .before .refuse4 .ensures)
+    reports (c .before .before .put-refusal4 .ensures)
     (build-refused (b .ensures) 4 (ap (λ (r : Built). builtAnswer r (b .last .1 .0) .number) (c .before .before .before .before .enum-told4 .given .1)) (omega arith))
 
 same-length-5 : tie.Need-same-length-5
@@ -103,7 +103,7 @@ same-length-5 c = search needs
 returns-5 : tie.Need-returns-5
 returns-5 c =
     let b = c .before .before .before .before .before .before .before .build in
-    reports (c .before .before .refuse5 .ensures)
+    reports (c .before .before .put-refusal5 .ensures)
     (build-refused (b .ensures) 5 (ap (λ (r : Built). builtAnswer r (b .last .1 .0) .number) (c .before .before .before .before .enum-told5 .given .1)) (omega arith))
 
 same-length-6 : tie.Need-same-length-6
@@ -121,15 +121,15 @@ report-spec =
     slice-aggregate-build
     build-requires
     enum-told
-    refuse-requires
+    put-refusal-requires
     enum-told-2
-    refuse-requires-2
+    put-refusal-requires-2
     enum-told-3
-    refuse-requires-3
+    put-refusal-requires-3
     enum-told-4
-    refuse-requires-4
+    put-refusal-requires-4
     enum-told-5
-    refuse-requires-5
+    put-refusal-requires-5
     enum-known-built
     array-share-prefix-image
     slice-aggregate-report-image

@@ -18,14 +18,14 @@ read-back-requires c κs = search needs
 enum-told : tie.Need-enum-told
 enum-told c = search needs
 
-refuse-requires : tie.Need-refuse-requires
-refuse-requires c κs = search needs
+put-refusal-requires : tie.Need-put-refusal-requires
+put-refusal-requires c κs = search needs
 
 enum-told-2 : tie.Need-enum-told-2
 enum-told-2 c = search needs
 
-refuse-requires-2 : tie.Need-refuse-requires-2
-refuse-requires-2 c κs = search needs
+put-refusal-requires-2 : tie.Need-put-refusal-requires-2
+put-refusal-requires-2 c κs = search needs
 
 enum-known-written : tie.Need-enum-known-written
 enum-known-written c = search needs
@@ -52,7 +52,7 @@ same-length c = search needs
 returns : tie.Need-returns
 returns c =
     let b = c .before .before .before .before .before .before .before .read-back in
-    reports (c .before .before .refuse .ensures)
+    reports (c .before .before .put-refusal .ensures)
     (read-back-refused (b .ensures) 6 (ap (λ (r : Written). writtenAnswer r (b .last .1 .0) .number) (c .before .before .before .before .enum-told .given .1)) (omega arith))
 
 same-length-2 : tie.Need-same-length-2
@@ -61,7 +61,7 @@ same-length-2 c = search needs
 returns-2 : tie.Need-returns-2
 returns-2 c =
     let b = c .before .before .before .before .before .before .before .read-back in
-    reports (c .before .before .refuse2 .ensures)
+    reports (c .before .before .put-refusal2 .ensures)
     (read-back-refused (b .ensures) 8 (ap (λ (r : Written). writtenAnswer r (b .last .1 .0) .number) (c .before .before .before .before .enum-told2 .given .1)) (omega arith))
 
 same-length-3 : tie.Need-same-length-3
@@ -79,9 +79,9 @@ report-image-spec =
     slice-aggregate-read-back
     read-back-requires
     enum-told
-    refuse-requires
+    put-refusal-requires
     enum-told-2
-    refuse-requires-2
+    put-refusal-requires-2
     enum-known-written
     array-share-prefix-writing
     slice-aggregate-report-ends

@@ -15,32 +15,32 @@ build-requires c κs = search needs
 enum-told : tie.Need-enum-told
 enum-told c = search needs
 
-refuse-requires : tie.Need-refuse-requires
-refuse-requires c κs = search needs
+put-refusal-requires : tie.Need-put-refusal-requires
+put-refusal-requires c κs = search needs
 
 enum-told-2 : tie.Need-enum-told-2
 enum-told-2 c = search needs
 
-refuse-requires-2 : tie.Need-refuse-requires-2
-refuse-requires-2 c κs = search needs
+put-refusal-requires-2 : tie.Need-put-refusal-requires-2
+put-refusal-requires-2 c κs = search needs
 
 enum-told-3 : tie.Need-enum-told-3
 enum-told-3 c = search needs
 
-refuse-requires-3 : tie.Need-refuse-requires-3
-refuse-requires-3 c κs = search needs
+put-refusal-requires-3 : tie.Need-put-refusal-requires-3
+put-refusal-requires-3 c κs = search needs
 
 enum-told-4 : tie.Need-enum-told-4
 enum-told-4 c = search needs
 
-refuse-requires-4 : tie.Need-refuse-requires-4
-refuse-requires-4 c κs = search needs
+put-refusal-requires-4 : tie.Need-put-refusal-requires-4
+put-refusal-requires-4 c κs = search needs
 
 enum-told-5 : tie.Need-enum-told-5
 enum-told-5 c = search needs
 
-refuse-requires-5 : tie.Need-refuse-requires-5
-refuse-requires-5 c κs = search needs
+put-refusal-requires-5 : tie.Need-put-refusal-requires-5
+put-refusal-requires-5 c κs = search needs
 
 enum-known-built : tie.Need-enum-known-built
 enum-known-built c = search needs
@@ -58,31 +58,31 @@ same-length : tie.Need-same-length
 same-length c = search needs
 
 returns : tie.Need-returns
-returns c = omega (arith, refused-short 1 (omega arith) (c .before .before .refuse .ensures))
+returns c = omega (arith, refused-short 1 (omega arith) (c .before .before .put-refusal .ensures))
 
 same-length-2 : tie.Need-same-length-2
 same-length-2 c = search needs
 
 returns-2 : tie.Need-returns-2
-returns-2 c = omega (arith, refused-short 2 (omega arith) (c .before .before .refuse2 .ensures))
+returns-2 c = omega (arith, refused-short 2 (omega arith) (c .before .before .put-refusal2 .ensures))
 
 same-length-3 : tie.Need-same-length-3
 same-length-3 c = search needs
 
 returns-3 : tie.Need-returns-3
-returns-3 c = omega (arith, refused-short 3 (omega arith) (c .before .before .refuse3 .ensures))
+returns-3 c = omega (arith, refused-short 3 (omega arith) (c .before .before .put-refusal3 .ensures))
 
 same-length-4 : tie.Need-same-length-4
 same-length-4 c = search needs
 
 returns-4 : tie.Need-returns-4
-returns-4 c = omega (arith, refused-short 4 (omega arith) (c .before .before .refuse4 .ensures))
+returns-4 c = omega (arith, refused-short 4 (omega arith) (c .before .before .put-refusal4 .ensures))
 
 same-length-5 : tie.Need-same-length-5
 same-length-5 c = search needs
 
 returns-5 : tie.Need-returns-5
-returns-5 c = omega (arith, refused-short 5 (omega arith) (c .before .before .refuse5 .ensures))
+returns-5 c = omega (arith, refused-short 5 (omega arith) (c .before .before .put-refusal5 .ensures))
 
 same-length-6 : tie.Need-same-length-6
 same-length-6 c = search needs
@@ -97,15 +97,15 @@ answer-spec =
     slice-aggregate-build
     build-requires
     enum-told
-    refuse-requires
+    put-refusal-requires
     enum-told-2
-    refuse-requires-2
+    put-refusal-requires-2
     enum-told-3
-    refuse-requires-3
+    put-refusal-requires-3
     enum-told-4
-    refuse-requires-4
+    put-refusal-requires-4
     enum-told-5
-    refuse-requires-5
+    put-refusal-requires-5
     enum-known-built
     array-share-prefix-image
     slice-aggregate-respond

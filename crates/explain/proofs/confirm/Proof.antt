@@ -33,13 +33,13 @@ same-length : tie.Need-same-length
 same-length c = search needs
 
 returns : tie.Need-returns
-returns c = omega (arith, c .before .before .put-line .ensures (omega arith) .place)
+returns c = omega (arith, c .before .before .put-line .ensures .place)
 
 same-length-2 : tie.Need-same-length-2
 same-length-2 c = search needs
 
 returns-2 : tie.Need-returns-2
-returns-2 c = omega (arith, c .before .before .put-line2 .ensures (omega arith) .place)
+returns-2 c = omega (arith, c .before .before .put-line2 .ensures .place)
 
 pub confirm-spec : {M : Type 1} → statement M
 confirm-spec =

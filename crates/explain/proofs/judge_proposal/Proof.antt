@@ -12,14 +12,14 @@ check-spelling-requires c κs = search needs
 enum-told : tie.Need-enum-told
 enum-told c = search needs
 
-refuse-requires : tie.Need-refuse-requires
-refuse-requires c κs = search needs
+put-refusal-requires : tie.Need-put-refusal-requires
+put-refusal-requires c κs = search needs
 
 enum-told-2 : tie.Need-enum-told-2
 enum-told-2 c = search needs
 
-refuse-requires-2 : tie.Need-refuse-requires-2
-refuse-requires-2 c κs = search needs
+put-refusal-requires-2 : tie.Need-put-refusal-requires-2
+put-refusal-requires-2 c κs = search needs
 
 enum-told-3 : tie.Need-enum-told-3
 enum-told-3 c = search needs
@@ -49,19 +49,19 @@ same-length : tie.Need-same-length
 same-length c = search needs
 
 returns : tie.Need-returns
-returns c = omega (arith, refused-short 6 (omega arith) (c .before .before .refuse .ensures))
+returns c = omega (arith, refused-short 6 (omega arith) (c .before .before .put-refusal .ensures))
 
 same-length-2 : tie.Need-same-length-2
 same-length-2 c = search needs
 
 returns-2 : tie.Need-returns-2
-returns-2 c = omega (arith, refused-short 7 (omega arith) (c .before .before .refuse2 .ensures))
+returns-2 c = omega (arith, refused-short 7 (omega arith) (c .before .before .put-refusal2 .ensures))
 
 same-length-3 : tie.Need-same-length-3
 same-length-3 c = search needs
 
 returns-3 : tie.Need-returns-3
-returns-3 c = omega (arith, c .before .before .put-line .ensures (omega arith) .place)
+returns-3 c = omega (arith, c .before .before .put-line .ensures .place)
 
 same-length-4 : tie.Need-same-length-4
 same-length-4 c = search needs
@@ -75,9 +75,9 @@ judge-proposal-spec =
     (tie.spec
     check-spelling-requires
     enum-told
-    refuse-requires
+    put-refusal-requires
     enum-told-2
-    refuse-requires-2
+    put-refusal-requires-2
     enum-told-3
     slice-aggregate-put-line
     put-line-requires

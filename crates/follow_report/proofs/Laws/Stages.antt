@@ -23,7 +23,6 @@ use Rattle.follow_report.specs.Follow.{Begins, built, found, Hears, mask
 use Rattle.follow_report.specs.Work.{Goes, keptIn, nextIf, nextIn, Stops}
 use Rattle.follow_report.specs.declared.Said.{Said}
 use Rattle.follow_report.specs.declared.Watching.{Watching}
-use Rattle.follow_report.proofs.Laws.Short.{begin-short, step-short}
 
 -- ---- any answer of the watch in writing
 module _ (words : List ℕ) {before after : List ℕ} {r : Said} where
@@ -63,7 +62,7 @@ module _ (words : List ℕ) {width : ℕ} (e : width ≡ maskWords words) (b : B
   begin-goes {n = n} rest d G f l =
       let C : BeginSays words (take (maskWords words) (replicate 8 0)) 0 (0 ∷ []) (begunAnswer (begins.Done n) mask place ends) =
       subst (λ (q : Begun). BeginSays words (take (maskWords words) (replicate 8 0)) 0 (0 ∷ []) (begunAnswer q mask place ends)) d said in
-      reports (G .put (omega (arith, begin-short C .1))) (record {
+      reports (G .put) (record {
         answer = begunAnswer (begins.Done n) mask place ends;
         says = C;
         told = goes words mask rest place ends G (as-wide words (replicate 8 0) e refl mask l) (omega (arith, f));
@@ -85,7 +84,7 @@ module _ (words : List ℕ) {width : ℕ} (e : width ≡ maskWords words) (w : W
   step-goes {n = n} {t} rest d G f eight l =
       let C : StepSays words (take (maskWords words) (w .mask)) (w .place) stretch (replicate 4096 0) (steppedAnswer (steps.Done n) mask place ends) =
       subst (λ (q : Stepped). StepSays words (take (maskWords words) (w .mask)) (w .place) stretch (replicate 4096 0) (steppedAnswer q mask place ends)) d says in
-      reports (G .put (omega (arith, step-short C .1))) (record {
+      reports (G .put) (record {
         answer = steppedAnswer (steps.Done n) mask place ends;
         says = C;
         told = goes words mask rest place ends G (as-wide words (w .mask) e eight mask l) f;

@@ -10,10 +10,9 @@ use Rattle.model.specs.Tree.{Alts, end, last, letter, Mark, more, Seq, T
 use Rattle.model.specs.Edges.{altsEmpty, seqEmpty, seqEnd}
 use Rattle.model.specs.Writing.{altsWriting, classWriting, markWriting, repeatWriting, writing}
 use Rattle.model.specs.Models.LayOut.{begin, Frame, nextAlternative, opened, owns, Scan, step}
-use Rattle.model.specs.Models.Tokens.{aBar, aClose, aLetter, altsTokens, anOpen, kept, shown, Token, tokens}
+use Rattle.model.specs.Models.Tokens.{aBar, aClose, aLetter, altsTokens, anOpen, kept, several, shown, Token, tokens}
 use Rattle.model.proofs.Image.Scan.{after, after-end, after-letter, after-union, afterUnion, alternativeAt}
 use Rattle.model.proofs.Image.Unions.{GoodAlts, GoodUnions, kept-shown}
-use Rattle.model.proofs.Reading.WellFormed.{several}
 
 abbrev pub tokenWriting : Token → List ℕ
 tokenWriting (aLetter c r) = classWriting c ++ repeatWriting r

@@ -8,10 +8,9 @@ use native.Mathlib.Omega.{arith}
 use lib.ListN.{length}
 use Rattle.model.specs.Tree.{Alts, end, glue, last, letter, Mark, more, Seq, union}
 use Rattle.model.specs.Edges.{altsEmpty, altsEnd, seqEnd}
-use Rattle.model.specs.Models.Tokens.{aBar, aClose, aLetter, altsTokens, anOpen, Begun, closed, parse, Parsed, parsed, prepend, put, shown, Token, tokens}
+use Rattle.model.specs.Models.Tokens.{aBar, aClose, aLetter, altsTokens, anOpen, Begun, closed, parse, Parsed, parsed, prepend, put, several, shown, Token, tokens}
 use Rattle.model.proofs.Image.Unions.{GoodAlts, GoodUnions, kept-shown}
 use Rattle.model.proofs.Laws.Trees.{glue-end}
-use Rattle.model.proofs.Reading.WellFormed.{several}
 
 -- ---- reading back
 abbrev first : Alts → Seq

@@ -11,12 +11,11 @@ use lib.ListN.{length}
 use Rattle.model.specs.Tree.{Alts, canOmit, canSkip, end, last, letter, Mark, more, Seq, union}
 use Rattle.model.specs.Edges.{altsDepth, altsEmpty, depth, seqEmpty, seqEnd}
 use Rattle.model.specs.Models.LayOut.{afterBar, afterClose, begin, fitting, fittingIn, Frame, inside, nextAlternative, opened, outside, Scan, step, valid}
-use Rattle.model.specs.Models.Tokens.{aBar, aClose, aLetter, altsTokens, anOpen, Begun, parse, Parsed, parsed, prepend, put, shown, Token, tokens}
+use Rattle.model.specs.Models.Tokens.{aBar, aClose, aLetter, altsTokens, anOpen, Begun, parse, Parsed, parsed, prepend, put, several, shown, Token, tokens}
 use Rattle.model.proofs.Image.Scan.{after, after-end, after-letter, after-union, afterUnion, alternativeAt, isEnd}
 use Rattle.model.proofs.Image.Unions.{GoodAlts, GoodUnions, kept-empty, kept-marks, shown-fits, shown-kept}
 use Rattle.model.proofs.Laws.Bool.{and-both, and-split}
 use Rattle.model.proofs.Laws.Trees.{NonEmpty}
-use Rattle.model.proofs.Reading.WellFormed.{several}
 
 -- ---- the tokens of a good tree are valid
 not-end : (s : Seq) → NonEmpty s → T (not (isEnd s))

@@ -9,18 +9,9 @@ use lib.ListN.{length, length-append}
 use Rattle.model.specs.Bytes.{byte}
 use Rattle.model.specs.Tree.{Alts, glue, last, more, Seq}
 use Rattle.model.specs.Grammar.{grouped, IsItem, IsSeq}
-use Rattle.model.specs.Models.Reader.{bind, case, got, over, past, Read, readAlts, readItem, readMark, readPiece, readSeq}
+use Rattle.model.specs.Models.Reader.{alts, bind, case, got, item, over, past, Read, readAlts, readItem, readMark, readPiece, readSeq, seq}
 use Rattle.model.proofs.Reading.Answers.{Holds, opens-long, past-cases, Sound, sound-holds, stopped, took}
 use Rattle.model.proofs.Reading.Decides.{item-opens, seq-opens, sound-item, sound-seq}
-
-abbrev pub alts : List ℕ → Read Alts
-alts l = readAlts (3 * length l + 3) l
-
-abbrev pub seq : List ℕ → Read Seq
-seq l = readSeq (3 * length l + 2) l
-
-abbrev pub item : List ℕ → Read Seq
-item l = readItem (3 * length l + 1) l
 
 -- the bodies, over what they call
 abbrev pub altsBody : (List ℕ → Read Seq) → (List ℕ → Read Alts) → List ℕ → Read Alts

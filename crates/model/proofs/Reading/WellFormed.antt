@@ -16,6 +16,7 @@ use Rattle.model.specs.Bytes.{byte, IsEscape, number, plain, sign, signs
 use Rattle.model.specs.Tree.{Alts, end, glue, last, letter, Mark, more, once, option, optional, plus, Repeat, Seq, star, starred, union, unmarked}
 use Rattle.model.specs.Grammar.{absent, also, any-number, asterisk, beside, braces, bracket, class, copies, cross, cycle, dot, escape, escaped, group, grouped, IsAlts, IsItem, IsLetter, IsMark, IsMember, IsMembers, IsRule, IsSeq, IsSign, IsSingle, item, itself, lone, member, nothing, only, plain-byte, query, question, range, repeated, rule, Sign, single, some-number, span, then, times}
 use Rattle.model.specs.Edges.{altsEmpty}
+use Rattle.model.specs.Models.Tokens.{several}
 use Rattle.model.proofs.Laws.Bits.{bit-some}
 use Rattle.model.proofs.Laws.Bool.{and-both, and-split, cond-cases}
 use Rattle.model.proofs.Laws.Trees.{NonEmpty}
@@ -29,10 +30,6 @@ pub record Class (c : ℕ) : Type 0 where
   pub bytes-only : c < 2 ^ 256
 
 -- the mark that the grammar leaves a union: none where it has several alternatives, `?` where none of them can be empty, `*` where it has one
-abbrev pub several : Alts → Bool
-several (last s) = false
-several (more s a) = true
-
 abbrev pub marking : Mark → (several empty : Bool) → Bool
 marking unmarked n e = n
 marking optional n e = not e

@@ -161,6 +161,16 @@ abbrev mutual
   readItem (suc n) l =
       case (past (byte "(") l) (λ x r. bind (readAlts n r) (λ a r′. bind (past (byte ")") r′) (λ y r″. bind (readMark r″) (λ m r‴. got (grouped a m) r‴)))) (readPiece l)
 
+-- without a bound: three calls for each byte, and up to three more, are always enough (proofs/Reading/Cycle)
+abbrev pub alts : List ℕ → Read Alts
+alts l = readAlts (3 * length l + 3) l
+
+abbrev pub seq : List ℕ → Read Seq
+seq l = readSeq (3 * length l + 2) l
+
+abbrev pub item : List ℕ → Read Seq
+item l = readItem (3 * length l + 1) l
+
 -- ---- rules
 -- alternatives with nothing after them
 abbrev pub whole : Read Alts → Option Seq
@@ -170,4 +180,4 @@ whole (got a (x ∷ xs)) = none
 
 -- THE READER OF RULES: the tree of a rule, if the bytes are one
 abbrev pub readRule : List ℕ → Option Seq
-readRule w = whole (readAlts (3 * length w + 3) w)
+readRule w = whole (alts w)

@@ -27,6 +27,11 @@ loopClassOf anOpen = 0
 loopClassOf aBar = 0
 loopClassOf (aClose m) = 0
 
+-- whether alternatives are several: those of a union without a mark are, and brackets around one vanish
+abbrev pub several : Alts → Bool
+several (last s) = false
+several (more s a) = true
+
 -- the mark that a close shows, by the union's own mark and whether an alternative can be empty; and the union's own mark from it
 abbrev pub shown : Mark → Bool → Mark
 shown unmarked false = unmarked

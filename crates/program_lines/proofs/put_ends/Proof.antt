@@ -1,17 +1,19 @@
--- Each turn puts one end's line more.
+-- Each turn puts one end's line more, of at most 21 bytes.
 use mathlib.Core.Path.{_≡_, refl, _∙_}
-use Prim.Native.Nat.{_-_, _≤_}
+use Prim.Native.Nat.{_+_, _-_, _*_, _≤_}
 use native.Mathlib.Omega.{arith}
-use lib.ListN.{length, take}
+use lib.ListN.{getD, length, take}
 use borrow.Author.Needs.{needs}
 use Rattle.program_lines.specs.Lines.{endLines}
-use Rattle.program_lines.specs.Work.{Puts}
+use Rattle.program_lines.specs.Work.{PutAt}
+use Rattle.program_lines.proofs.Laws.Numbers.{number-short}
 use Rattle.program_lines.proofs.Laws.Puts.{ends-put, put-end, put-none}
 use Rattle.program_lines.proofs.put_ends.Statement.{statement}
 use Rattle.program_lines.proofs.put_ends.Tie as tie
 
 abbrev Inv-loop : tie.InvT-loop
-Inv-loop text₀ at ends count shown next₀ i₀ text next i = Puts (endLines (take i ends)) text₀ at next text × (i ≤ shown) × (length text ≡ length text₀)
+Inv-loop text₀ at ends count shown next₀ i₀ text next i =
+    PutAt (endLines (take i ends)) text₀ at next text × (i ≤ shown) × (length text ≡ length text₀) × (next ≤ at + 21 * i)
 
 abbrev μ-loop : tie.MeasureT-loop
 μ-loop text₀ at ends count shown next₀ i₀ text next i = shown - i
@@ -20,7 +22,7 @@ least-requires : tie.Need-least-requires Inv-loop μ-loop
 least-requires c κs = search needs
 
 loop-holds : tie.Need-loop-holds Inv-loop μ-loop
-loop-holds c = let a = c .before .before .before .args in (put-none (a .text .now) (a .at) refl, omega arith, refl)
+loop-holds c = let a = c .before .before .before .args in (put-none (a .text .now) (a .at) refl, omega arith, refl, omega arith)
 
 mul-put-number : tie.Need-mul-put-number Inv-loop μ-loop
 mul-put-number c = omega (arith, c .before .loop-test .taken, c .before .before .before .least .ensures, c .before .before .before .before .before .before .good)
@@ -32,7 +34,9 @@ cast-put-number : tie.Need-cast-put-number Inv-loop μ-loop
 cast-put-number c = omega (arith, c .shared-slice-known2 .given (c .before .before .before .loop .i))
 
 put-number-requires : tie.Need-put-number-requires Inv-loop μ-loop
-put-number-requires c κs = search needs
+put-number-requires c κs =
+    let l = c .before .before .before in
+    omega (arith, l .loop .inv .3, c .before .before .loop-test .taken, l .before .least .ensures, l .before .before .before .before .pre)
 
 add-i : tie.Need-add-i Inv-loop μ-loop
 add-i c = search needs
@@ -49,6 +53,7 @@ loop-again c =
       put-end (a .ends .now) (a .text .now) (l .text) (a .at) (l .next) (l .i) (l .inv .0) (omega (arith, g .loop-test .taken, m .ensures)) (c .before .before .put-number .ensures),
       omega (arith, g .loop-test .taken),
       c .before .text .given ∙ l .inv .2,
+      omega (arith, l .inv .3, c .before .before .put-number .ensures .place, number-short 19 (getD (a .ends .now) (l .i) 0) (omega (arith, c .before .before .before .shared-slice-known2 .given (l .i)))),
     )
 
 same-length : tie.Need-same-length Inv-loop μ-loop

@@ -9,21 +9,21 @@ use lib.ListN.{drop, getD, length}
 use lib.Seq.{sets}
 use Rattle.model.specs.Bytes.{byte}
 use Rattle.model.specs.Edges.{altsEmpty, seqEmpty}
-use Rattle.model.specs.Models.Reader.{bad, bind, case, got, over, past, Read, readPiece}
+use Rattle.model.specs.Models.Reader.{alts, bad, bind, case, got, item, over, past, Read, readPiece, seq}
 use Rattle.model.specs.Models.Tokens.{aBar, Token}
 use Rattle.model.specs.Tree.{Alts, glue, last, more, Seq}
 use Rattle.model.proofs.Image.Groups.{empty-glue}
 use Rattle.model.proofs.Laws.Bool.{is-true, unequal}
-use Rattle.model.proofs.Reading.Cycle.{alts, alts-is, item, item-falls, item-is, seq, seq-falls, seq-is}
+use Rattle.model.proofs.Reading.Cycle.{alts-is, item-falls, item-is, seq-falls, seq-is}
 use Rattle.rule_bytes.specs.Places.{Stopped}
 use Rattle.rule.specs.Groups.{closed}
 use Rattle.rule.specs.Parts.{AlternativesSay, PartSays, seqTokens, severalOf, Wrote}
 use Rattle.tokens.specs.Rows.{tokenWords}
 use Rattle.rule.specs.Tokens.{between, cut}
-use Rattle.rule.specs.declared.Alternatives.{Alternatives}
-use Rattle.rule.specs.declared.Alternatives.the-variants.{Bad as noAlternatives, Got as someAlternatives}
-use Rattle.rule.specs.declared.Part.{Part}
-use Rattle.rule.specs.declared.Part.the-variants.{Bad as noPart, Got as aPart}
+use Rattle.rule.specs.declared.parts.Alternatives.{Alternatives}
+use Rattle.rule.specs.declared.parts.Alternatives.the-variants.{Bad as noAlternatives, Got as someAlternatives}
+use Rattle.rule.specs.declared.parts.Part.{Part}
+use Rattle.rule.specs.declared.parts.Part.the-variants.{Bad as noPart, Got as aPart}
 use Rattle.rule_bytes.proofs.Laws.Binds.{bind-stops}
 use Rattle.rule_bytes.proofs.Laws.Places.{here, inside, stays}
 use Rattle.rule_bytes.proofs.Laws.Progress.{further}

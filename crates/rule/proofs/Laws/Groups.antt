@@ -10,17 +10,16 @@ use Rattle.model.specs.Bytes.{byte}
 use Rattle.model.specs.Edges.{altsEmpty, seqEmpty}
 use Rattle.model.specs.Grammar.{bracket, cycle, grouped}
 use Rattle.model.specs.Models.Reader.{bind, got, past, Read, readMark}
-use Rattle.model.specs.Models.Tokens.{aClose, anOpen, shown, Token}
+use Rattle.model.specs.Models.Tokens.{aClose, anOpen, several, shown, Token}
 use Rattle.model.specs.Tree.{Alts, canSkip, end, last, more, once, option, optional, plus, Repeat, star, starred, union, unmarked}
 use Rattle.model.proofs.Image.Groups.{empty-bracket, empty-glue, option-dropped, option-tokens, plus-tokens, star-tokens}
-use Rattle.model.proofs.Reading.WellFormed.{several}
 use Rattle.rule_bytes.specs.Places.{Stopped, Took}
 use Rattle.rule.specs.Groups.{closed, Counted}
 use Rattle.rule.specs.Parts.{AlternativesSay, PartSays, seqTokens, Wrote}
 use Rattle.rule.specs.Tokens.{between, copied, cut, enclosed, Stands}
-use Rattle.rule.specs.declared.Alternatives.{Alternatives}
-use Rattle.rule.specs.declared.Alternatives.the-variants.{Bad as noAlternatives, Got as someAlternatives}
-use Rattle.rule.specs.declared.Part.the-variants.{Got as aPart}
+use Rattle.rule.specs.declared.parts.Alternatives.{Alternatives}
+use Rattle.rule.specs.declared.parts.Alternatives.the-variants.{Bad as noAlternatives, Got as someAlternatives}
+use Rattle.rule.specs.declared.parts.Part.the-variants.{Got as aPart}
 use Rattle.rule_bytes.proofs.Laws.Binds.{bind-stops}
 use Rattle.rule_bytes.proofs.Laws.Places.{inside}
 use Rattle.rule.proofs.Laws.Cycle.{past-one, past-other}

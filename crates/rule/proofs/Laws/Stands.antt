@@ -12,9 +12,9 @@ use Rattle.model.specs.Tree.{Mark}
 use Rattle.model.proofs.Laws.Bool.{le-or-lt}
 use Rattle.tokens.specs.Rows.{rowWords, tokenWords}
 use Rattle.rule.specs.Tokens.{copied, cut, enclosed, opened, Stands}
-use Rattle.rule.proofs.Laws.Writes.{sets-past, take-written}
+use Rattle.rule.proofs.Laws.Stores.{sets-past, take-written}
 use Rattle.tokens.proofs.Rows.{row-length}
-use Rattle.rule.proofs.Laws.Written.{opened-row, sets-row-append}
+use Rattle.rule.proofs.Laws.RowWords.{opened-row, sets-row-append}
 
 -- ---- numbers of tokens that are the same as far as they are counted
 module _ (l : List ℕ) (room : length l ≡ 2555) where

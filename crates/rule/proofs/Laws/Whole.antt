@@ -12,11 +12,10 @@ use denote.Enum.Declared.{tagOf}
 use types.Run.{miss, OneOf}
 use Rattle.model.specs.Edges.{states}
 use Rattle.model.specs.Grammar.{bracket, IsRule}
-use Rattle.model.specs.Models.Reader.{readRule, whole}
+use Rattle.model.specs.Models.Reader.{alts, readRule, whole}
 use Rattle.model.specs.Tree as tree
 use Rattle.model.proofs.Image.Tokens.{length-tokens}
 use Rattle.model.proofs.Laws.Bool.{le-false, le-or-lt, le-true}
-use Rattle.model.proofs.Reading.Cycle.{alts}
 use Rattle.model.proofs.Reading.Decides.{reads}
 use Rattle.rule_bytes.specs.Places.{Took}
 use Rattle.rule.specs.Groups.{WholeSays}
@@ -25,8 +24,8 @@ use Rattle.rule.specs.Says.{not-a-rule, outcomeOf, read, reading, ReadSa
 use Rattle.rule.specs.Tokens.{noTokens, Stands}
 use Rattle.rule.specs.declared.Outcome.{Outcome}
 use Rattle.rule.specs.declared.Outcome.the-variants.{NotARule, TooLong, TooManyStates, Tree}
-use Rattle.rule.specs.declared.Part.{Part}
-use Rattle.rule.specs.declared.Part.the-variants.{Bad as noPart, Got as aPart}
+use Rattle.rule.specs.declared.parts.Part.{Part}
+use Rattle.rule.specs.declared.parts.Part.the-variants.{Bad as noPart, Got as aPart}
 use Rattle.rule.specs.declared.Reading.{Reading}
 use Rattle.rule.proofs.Outcome.{the-type}
 
@@ -38,11 +37,11 @@ answered TooManyStates row = reading TooManyStates noTokens
 answered (Tree m) row = reading (Tree m) row
 
 -- an outcome of another key than the tree's
-pub refused : (o : Outcome) (row : List ℕ) → OneOf (0 ∷ 1 ∷ 2 ∷ []) (tagOf the-type o) → answered o row ≡ reading o noTokens
-refused TooLong row h = refl
-refused NotARule row h = refl
-refused TooManyStates row h = refl
-refused (Tree m) row h = absurd (miss (0 ∷ 1 ∷ 2 ∷ []) 3 tt h)
+pub answered-other : (o : Outcome) (row : List ℕ) → OneOf (0 ∷ 1 ∷ 2 ∷ []) (tagOf the-type o) → answered o row ≡ reading o noTokens
+answered-other TooLong row h = refl
+answered-other NotARule row h = refl
+answered-other TooManyStates row h = refl
+answered-other (Tree m) row h = absurd (miss (0 ∷ 1 ∷ 2 ∷ []) 3 tt h)
 
 module _ (rule row : List ℕ) (short : length rule ≤ 1024) where
   unread : readRule rule ≡ none → (t : tree.Tree) → IsRule rule t → ⊥

@@ -5,15 +5,15 @@ use Prim.Native.Nat.{ℕ, _≤_}
 use native.Mathlib.Omega.{arith}
 use lib.ListN.{length, length-replicate}
 use borrow.Author.Needs.{needs}
-use Rattle.model.proofs.Reading.Cycle.{alts}
+use Rattle.model.specs.Models.Reader.{alts}
 use Rattle.rule.specs.Groups.{WholeSays}
 use Rattle.rule.specs.Says.{outcomeOf, ReadSays, too-long}
 use Rattle.rule.specs.Tokens.{noTokens}
 use Rattle.rule.specs.declared.Outcome.{Outcome}
 use Rattle.rule.specs.declared.Outcome.the-variants.{Tree}
-use Rattle.rule.specs.declared.Part.{Part}
+use Rattle.rule.specs.declared.parts.Part.{Part}
 use Rattle.rule.proofs.Laws.Groups.{says-counted}
-use Rattle.rule.proofs.Laws.Whole.{answered, refused, whole-says}
+use Rattle.rule.proofs.Laws.Whole.{answered, answered-other, whole-says}
 use Rattle.rule.proofs.read_rule.Statement.{statement}
 use Rattle.rule.proofs.read_rule.Tie as tie
 
@@ -53,7 +53,7 @@ returns-2 c =
     let r = k .before .before in
     let rule = r .before .before .before .before .args .rule .now in
     let row = k .bracket .last .0 in
-    rw (c .refuse2 .ensures, ← refused (o .outcome-of .result) row (c .before .match .keys2))
+    rw (c .refuse2 .ensures, ← answered-other (o .outcome-of .result) row (c .before .match .keys2))
     (says rule row (k .bracket .result) (o .outcome-of .result) (r .before .before .if1 .left) (k .bracket .ensures rule (alts rule) noTokens (r .read-alternatives .ensures)) (o .outcome-of .ensures))
 
 returns-3 : tie.Need-returns-3

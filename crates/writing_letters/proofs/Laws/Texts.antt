@@ -29,10 +29,3 @@ module _ (l : List ℕ) (at : ℕ) where
 pub writes-next : (l : List ℕ) (at : ℕ) (us : List ℕ) (b q : ℕ) {m r : List ℕ} {p : ℕ} → Writes l at us m p → r ≡ set m p b → q ≡ p + 1
     → Writes l at (us ++ (b ∷ [])) r q
 writes-next l at us b q {m} {r} {p} f e h = subst (Writes l at (us ++ (b ∷ [])) r) (sym h) (writes-then l at us (b ∷ []) f (writes-one m p b e))
-
--- a promise under a condition: where it holds anyway, and where the condition is known
-pub under : {A P Q : Type 0} → P × Q → (A → P) × (A → Q)
-under w = (λ h. w .0, λ h. w .1)
-
-pub known : {A P Q : Type 0} → A → (A → P) × (A → Q) → P × Q
-known h w = (w .0 h, w .1 h)

@@ -1,4 +1,4 @@
--- `write_byte`: two tests choose between three texts, each of them stored byte by byte. Past the bound nothing is promised.
+-- `write_byte`: two tests choose between three texts, each of them stored byte by byte.
 use mathlib.Core.Path.{sym, ap, _∙_}
 use mathlib.Core.Logic.{⊎-elim, inl, inr}
 use mathlib.Core.List.{[], _∷_}
@@ -10,24 +10,21 @@ use lib.ListN.{set}
 use Rattle.model.specs.Bytes.{byte}
 use Rattle.model.specs.Writing.{hexDigit}
 use Rattle.writing_letters.proofs.Laws.Bytes.{number-writing, plain-writing, sign-writing}
-use Rattle.writing_letters.proofs.Laws.Texts.{under, writes-as, writes-next, writes-one}
+use Rattle.writing_letters.proofs.Laws.Texts.{writes-as, writes-next, writes-one}
 use Rattle.writing_letters.proofs.write_byte.Statement.{statement}
 use Rattle.writing_letters.proofs.write_byte.Tie as tie
-
-returns : tie.Need-returns
-returns c = (λ h. absurd (omega (arith, c .if1 .taken)), λ h. absurd (omega (arith, c .if1 .taken)))
 
 is-escaped-requires : tie.Need-is-escaped-requires
 is-escaped-requires c κs = search needs
 
-put-requires : tie.Need-put-requires
-put-requires c κs = search needs
+set-byte-requires : tie.Need-set-byte-requires
+set-byte-requires c κs = search needs
 
-add-put : tie.Need-add-put
-add-put c = search needs
+add-set-byte : tie.Need-add-set-byte
+add-set-byte c = search needs
 
-put-requires-2 : tie.Need-put-requires-2
-put-requires-2 c κs = search needs
+set-byte-requires-2 : tie.Need-set-byte-requires-2
+set-byte-requires-2 c κs = search needs
 
 add-result : tie.Need-add-result
 add-result c = search needs
@@ -35,18 +32,17 @@ add-result c = search needs
 same-length : tie.Need-same-length
 same-length c = search needs
 
-returns-2 : tie.Need-returns-2
-returns-2 c =
+returns : tie.Need-returns
+returns c =
     let t = c .before .before .before .before .before .before .before .before in
-    let a = t .before .before .before .before .args in
+    let a = t .before .before .before .args in
     let l = a .out .now in
-    under
-    (writes-as l (a .at) (sym (sign-writing (a .byte) (sym (t .before .is-escaped .ensures) ∙ t .if2 .taken)))
-    (writes-next l (a .at) (byte "\\" ∷ []) (a .byte) (a .at + 2) (writes-one l (a .at) (byte "\\") (c .before .before .before .before .before .before .put .ensures))
-    (c .before .before .put2 .ensures) (omega arith)))
+    writes-as l (a .at) (sym (sign-writing (a .byte) (sym (t .before .is-escaped .ensures) ∙ t .if1 .taken)))
+    (writes-next l (a .at) (byte "\\" ∷ []) (a .byte) (a .at + 2) (writes-one l (a .at) (byte "\\") (c .before .before .before .before .before .before .set-byte .ensures))
+    (c .before .before .set-byte2 .ensures) (omega arith))
 
-put-requires-3 : tie.Need-put-requires-3
-put-requires-3 c κs = search needs
+set-byte-requires-3 : tie.Need-set-byte-requires-3
+set-byte-requires-3 c κs = search needs
 
 add-result-2 : tie.Need-add-result-2
 add-result-2 c = search needs
@@ -54,41 +50,41 @@ add-result-2 c = search needs
 same-length-2 : tie.Need-same-length-2
 same-length-2 c = search needs
 
-returns-3 : tie.Need-returns-3
-returns-3 c =
+returns-2 : tie.Need-returns-2
+returns-2 c =
     let t = c .before .before .before .before in
     let s = t .before .before in
-    let a = s .before .before .before .before .args in
+    let a = s .before .before .before .args in
     let l = a .out .now in
-    let e = plain-writing (a .byte) (sym (s .before .is-escaped .ensures) ∙ s .if2 .left) (t .before .if3 .taken) (leb-true _ _ (t .if4 .taken)) in
-    under (writes-as l (a .at) (sym e) (writes-one l (a .at) (a .byte) (c .before .before .put3 .ensures)))
+    let e = plain-writing (a .byte) (sym (s .before .is-escaped .ensures) ∙ s .if1 .left) (t .before .if2 .taken) (leb-true _ _ (t .if3 .taken)) in
+    writes-as l (a .at) (sym e) (writes-one l (a .at) (a .byte) (c .before .before .set-byte3 .ensures))
 
-put-requires-4 : tie.Need-put-requires-4
-put-requires-4 c κs = search needs
+set-byte-requires-4 : tie.Need-set-byte-requires-4
+set-byte-requires-4 c κs = search needs
 
-add-put-2 : tie.Need-add-put-2
-add-put-2 c = search needs
+add-set-byte-2 : tie.Need-add-set-byte-2
+add-set-byte-2 c = search needs
 
-put-requires-5 : tie.Need-put-requires-5
-put-requires-5 c κs = search needs
+set-byte-requires-5 : tie.Need-set-byte-requires-5
+set-byte-requires-5 c κs = search needs
 
-add-put-3 : tie.Need-add-put-3
-add-put-3 c = search needs
+add-set-byte-3 : tie.Need-add-set-byte-3
+add-set-byte-3 c = search needs
 
 hex-digit-requires : tie.Need-hex-digit-requires
 hex-digit-requires c κs = search needs
 
-put-requires-6 : tie.Need-put-requires-6
-put-requires-6 c κs = search needs
+set-byte-requires-6 : tie.Need-set-byte-requires-6
+set-byte-requires-6 c κs = search needs
 
-add-put-4 : tie.Need-add-put-4
-add-put-4 c = search needs
+add-set-byte-4 : tie.Need-add-set-byte-4
+add-set-byte-4 c = search needs
 
 hex-digit-requires-2 : tie.Need-hex-digit-requires-2
 hex-digit-requires-2 c κs = search needs
 
-put-requires-7 : tie.Need-put-requires-7
-put-requires-7 c κs = search needs
+set-byte-requires-7 : tie.Need-set-byte-requires-7
+set-byte-requires-7 c κs = search needs
 
 add-result-3 : tie.Need-add-result-3
 add-result-3 c = search needs
@@ -96,51 +92,50 @@ add-result-3 c = search needs
 same-length-3 : tie.Need-same-length-3
 same-length-3 c = search needs
 
-returns-4 : tie.Need-returns-4
-returns-4 c =
+returns-3 : tie.Need-returns-3
+returns-3 c =
     let fourth = c .before .before in
     let third = fourth .before .before .before .before .before in
     let second = third .before .before .before .before .before in
     let first = second .before .before .before .before in
     let t = first .before .before in
     let s = t .before in
-    let a = s .before .before .before .before .args in
+    let a = s .before .before .before .args in
     let l = a .out .now in
     let h = hexDigit (a .byte / 16) in
-    let beyond = ⊎-elim (λ w. inr (leb-false _ _ (w .1 .left))) (λ w. inl (w .left)) (t .if3 .came) in
-    let e = number-writing (a .byte) (sym (s .before .is-escaped .ensures) ∙ s .if2 .left) beyond in
-    let one = writes-one l (a .at) (byte "\\") (first .put4 .ensures) in
-    let two = writes-next l (a .at) (byte "\\" ∷ []) (byte "x") (a .at + 2) one (second .put5 .ensures) (omega arith) in
-    let p = third .put6 .ensures ∙ ap (set (second .put5 .last .0) (a .at + 2)) (third .before .hex-digit .ensures) in
+    let beyond = ⊎-elim (λ w. inr (leb-false _ _ (w .1 .left))) (λ w. inl (w .left)) (t .if2 .came) in
+    let e = number-writing (a .byte) (sym (s .before .is-escaped .ensures) ∙ s .if1 .left) beyond in
+    let one = writes-one l (a .at) (byte "\\") (first .set-byte4 .ensures) in
+    let two = writes-next l (a .at) (byte "\\" ∷ []) (byte "x") (a .at + 2) one (second .set-byte5 .ensures) (omega arith) in
+    let p = third .set-byte6 .ensures ∙ ap (set (second .set-byte5 .last .0) (a .at + 2)) (third .before .hex-digit .ensures) in
     let three = writes-next l (a .at) (byte "\\" ∷ byte "x" ∷ []) h (a .at + 3) two p (omega arith) in
-    let q = fourth .put7 .ensures ∙ ap (set (third .put6 .last .0) (a .at + 3)) (fourth .before .hex-digit2 .ensures) in
-    under (writes-as l (a .at) (sym e) (writes-next l (a .at) (byte "\\" ∷ byte "x" ∷ h ∷ []) (hexDigit (a .byte % 16)) (a .at + 4) three q (omega arith)))
+    let q = fourth .set-byte7 .ensures ∙ ap (set (third .set-byte6 .last .0) (a .at + 3)) (fourth .before .hex-digit2 .ensures) in
+    writes-as l (a .at) (sym e) (writes-next l (a .at) (byte "\\" ∷ byte "x" ∷ h ∷ []) (hexDigit (a .byte % 16)) (a .at + 4) three q (omega arith))
 
 pub write-byte-spec : {M : Type 1} → statement M
 write-byte-spec =
     tie.close
     (tie.spec
-    returns
     is-escaped-requires
-    put-requires
-    add-put
-    put-requires-2
+    set-byte-requires
+    add-set-byte
+    set-byte-requires-2
     add-result
     same-length
-    returns-2
-    put-requires-3
+    returns
+    set-byte-requires-3
     add-result-2
     same-length-2
-    returns-3
-    put-requires-4
-    add-put-2
-    put-requires-5
-    add-put-3
+    returns-2
+    set-byte-requires-4
+    add-set-byte-2
+    set-byte-requires-5
+    add-set-byte-3
     hex-digit-requires
-    put-requires-6
-    add-put-4
+    set-byte-requires-6
+    add-set-byte-4
     hex-digit-requires-2
-    put-requires-7
+    set-byte-requires-7
     add-result-3
     same-length-3
-    returns-4)
+    returns-3)

@@ -12,17 +12,18 @@ put-requires : tie.Need-put-requires
 put-requires c κs = search needs
 
 put-number-requires : tie.Need-put-number-requires
-put-number-requires c κs = search needs
+put-number-requires c κs = let p = c .before .before .before in omega (arith, p .put .ensures .place, p .before .before .before .before .pre)
 
 same-length : tie.Need-same-length
 same-length c = search needs
 
 returns : tie.Need-returns
 returns c =
-    let s = c .before .before .before .before .before .before .before .before .before .before in
+    let p = c .before .before .before .before .before .before in
+    let s = p .before .before .before .before in
     let n = number-short 9 (s .args .number) (omega (arith, s .pre .2)) in
     let l = length-append (s .args .word .now) (line (decimal (s .args .number))) in
-    omega (arith, put-then (c .before .before .before .before .before .before .put .ensures) (c .before .before .put-number .ensures) (omega (arith, n, l, s .pre)) .place, n, l)
+    omega (arith, put-then (p .put .ensures) (c .before .before .put-number .ensures) .place, n, l)
 
 pub put-numbered-spec : {M : Type 1} → statement M
 put-numbered-spec = tie.close (tie.spec put-requires put-number-requires same-length returns)

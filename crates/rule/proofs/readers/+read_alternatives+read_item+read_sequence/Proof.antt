@@ -8,11 +8,11 @@ use native.Mathlib.Nat.{le-refl}
 use native.Mathlib.Omega.{arith}
 use borrow.Author.Needs.{needs}
 use lib.ListN.{drop, length}
+use Rattle.model.specs.Models.Reader.{alts, item, seq}
 use Rattle.model.specs.Models.Tokens.{aBar}
-use Rattle.model.proofs.Reading.Cycle.{alts, item, seq}
 use Rattle.rule.specs.Parts.{AlternativesSay, PartSays, Ready}
-use Rattle.rule.specs.declared.Part.{Part}
-use Rattle.rule.specs.declared.Part.the-variants.{Got as aPart}
+use Rattle.rule.specs.declared.parts.Part.{Part}
+use Rattle.rule.specs.declared.parts.Part.the-variants.{Got as aPart}
 use Rattle.rule.proofs.Laws.Cycle.{alternatives-end, alternatives-go, alternatives-stop, item-bracket, item-letter, item-on, sequence-ends, sequence-goes, sequence-on, sequence-stops}
 use Rattle.rule.proofs.Laws.Groups.{says-counted}
 use Rattle.rule.proofs.Laws.Stands.{room-after, stands-one}

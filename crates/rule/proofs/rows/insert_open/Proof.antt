@@ -8,7 +8,7 @@ use lib.ListN.{drop, take}
 use lib.Seq.{sets}
 use Rattle.model.specs.Models.Tokens.{anOpen}
 use Rattle.tokens.specs.Rows.{tokenWords}
-use Rattle.rule.proofs.Laws.Writes.{sets-before}
+use Rattle.rule.proofs.Laws.Stores.{sets-before}
 use Rattle.rule.proofs.rows.insert_open.Statement.{statement}
 use Rattle.rule.proofs.rows.insert_open.Tie as tie
 

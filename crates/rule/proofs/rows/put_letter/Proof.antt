@@ -19,7 +19,7 @@ use Rattle.tokens.specs.Tokens.{repeatOf}
 use Rattle.rule.specs.Tokens.{cut, Stands, timesWords}
 use Rattle.rule_signs.specs.declared.HowOften.{HowOften}
 use Rattle.rule.proofs.Laws.Stands.{sets-alike}
-use Rattle.rule.proofs.Laws.Written.{copies-length, letter-words, times-length, times-row}
+use Rattle.rule.proofs.Laws.RowWords.{copies-length, letter-words, times-length, times-row}
 use Rattle.rule.proofs.rows.put_letter.Statement.{statement}
 use Rattle.rule.proofs.rows.put_letter.Tie as tie
 
@@ -79,8 +79,8 @@ enum-known-how-often c = search needs
 repeat-kind-requires : tie.Need-repeat-kind-requires
 repeat-kind-requires c κs = search needs
 
-put-requires : tie.Need-put-requires
-put-requires c κs = search needs
+put-token-requires : tie.Need-put-token-requires
+put-token-requires c κs = search needs
 
 enum-known-how-often-2 : tie.Need-enum-known-how-often-2
 enum-known-how-often-2 c = search needs
@@ -106,7 +106,7 @@ returns c =
     let k = c .before .repeat-kind in
     let o = c .before .before .before .before in
     let g = o .how-often .given in
-    plain (o .before .before) (repeatOf (g .0 .0)) (k .result) (c .put .result) (c .put .last .0) (ap signOf (g .1)) (k .ensures) (c .put .ensures)
+    plain (o .before .before) (repeatOf (g .0 .0)) (k .result) (c .put-token .result) (c .put-token .last .0) (ap signOf (g .1)) (k .ensures) (c .put-token .ensures)
 
 returns-2 : tie.Need-returns-2
 returns-2 c =
@@ -122,7 +122,7 @@ put-letter-spec =
     (tie.spec
     enum-known-how-often
     repeat-kind-requires
-    put-requires
+    put-token-requires
     enum-known-how-often-2
     sub-put-many
     put-many-requires

@@ -9,7 +9,7 @@ use lib.Seq.{length-sets, sets}
 use Rattle.rule_letters.specs.Classes.{wordsOf}
 use Rattle.rule.specs.Tokens.{cut, timesWords}
 use Rattle.rule.proofs.Laws.Stands.{sets-alike}
-use Rattle.rule.proofs.Laws.Written.{sets-times}
+use Rattle.rule.proofs.Laws.RowWords.{sets-times}
 use Rattle.rule.proofs.rows.put_many.Statement.{statement}
 use Rattle.rule.proofs.rows.put_many.Tie as tie
 
@@ -23,8 +23,8 @@ abbrev μ-loop : tie.MeasureT-loop
 loop-holds : tie.Need-loop-holds Inv-loop μ-loop
 loop-holds c = (omega arith, omega arith, refl)
 
-put-requires : tie.Need-put-requires Inv-loop μ-loop
-put-requires c κs = search needs
+put-token-requires : tie.Need-put-token-requires Inv-loop μ-loop
+put-token-requires c κs = search needs
 
 add-i : tie.Need-add-i Inv-loop μ-loop
 add-i c = omega arith
@@ -41,8 +41,8 @@ loop-again c =
     let ws = a .kind ∷ wordsOf (a .class) in
     let written = sets t (5 * a .n) (timesWords (l .i) ws) in (
       omega arith,
-      omega (arith, c .put .ensures .0, l .inv .1),
-      c .put .ensures .1
+      omega (arith, c .put-token .ensures .0, l .inv .1),
+      c .put-token .ensures .1
           ∙ ap (λ (k : List ℕ). sets k (5 * l .next) ws) (l .inv .2)
           ∙ sets-alike written (length-sets t (5 * a .n) (timesWords (l .i) ws) ∙ s .pre .0) (l .next) (a .n + l .i) ws (omega (arith, l .inv .1))
           ∙ sets-times t (a .n) (l .i) ws refl
@@ -59,4 +59,4 @@ returns c =
     )
 
 pub put-many-spec : {M : Type 1} → statement M
-put-many-spec = tie.close (tie.spec Inv-loop μ-loop loop-holds put-requires add-i loop-less loop-again returns)
+put-many-spec = tie.close (tie.spec Inv-loop μ-loop loop-holds put-token-requires add-i loop-less loop-again returns)

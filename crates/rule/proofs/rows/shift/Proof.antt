@@ -6,7 +6,7 @@ use native.Mathlib.Omega.{arith}
 use borrow.Author.Needs.{needs}
 use lib.ListN.{drop, length, take}
 use lib.Seq.{sets}
-use Rattle.rule.proofs.Laws.Writes.{Moved, moved-all, moved-none, moved-one}
+use Rattle.rule.proofs.Laws.Stores.{Moved, moved-all, moved-none, moved-one}
 use Rattle.rule.proofs.rows.shift.Statement.{statement}
 use Rattle.rule.proofs.rows.shift.Tie as tie
 

@@ -15,8 +15,8 @@ use Rattle.writing.proofs.ranges.write_close.Tie as tie
 abbrev text : Mark → List ℕ
 text m = byte ")" ∷ markWriting (markOf m)
 
-put-requires : tie.Need-put-requires
-put-requires c κs = search needs
+set-byte-requires : tie.Need-set-byte-requires
+set-byte-requires c κs = search needs
 
 enum-told : tie.Need-enum-told
 enum-told c = search needs
@@ -27,11 +27,11 @@ add-result c = search needs
 enum-told-2 : tie.Need-enum-told-2
 enum-told-2 c = search needs
 
-add-put : tie.Need-add-put
-add-put c = search needs
+add-set-byte : tie.Need-add-set-byte
+add-set-byte c = search needs
 
-put-requires-2 : tie.Need-put-requires-2
-put-requires-2 c κs = search needs
+set-byte-requires-2 : tie.Need-set-byte-requires-2
+set-byte-requires-2 c κs = search needs
 
 add-result-2 : tie.Need-add-result-2
 add-result-2 c = search needs
@@ -39,11 +39,11 @@ add-result-2 c = search needs
 enum-told-3 : tie.Need-enum-told-3
 enum-told-3 c = search needs
 
-add-put-2 : tie.Need-add-put-2
-add-put-2 c = search needs
+add-set-byte-2 : tie.Need-add-set-byte-2
+add-set-byte-2 c = search needs
 
-put-requires-3 : tie.Need-put-requires-3
-put-requires-3 c κs = search needs
+set-byte-requires-3 : tie.Need-set-byte-requires-3
+set-byte-requires-3 c κs = search needs
 
 add-result-3 : tie.Need-add-result-3
 add-result-3 c = search needs
@@ -54,7 +54,7 @@ same-length c = search needs
 returns : tie.Need-returns
 returns c =
     let a = c .before .before .before .before .before .before .before .args in
-    writes-as (a .out .now) (a .at) (sym (ap text (c .enum-told .given .1))) (writes-one (a .out .now) (a .at) 41 (c .before .before .before .before .put .ensures))
+    writes-as (a .out .now) (a .at) (sym (ap text (c .enum-told .given .1))) (writes-one (a .out .now) (a .at) 41 (c .before .before .before .before .set-byte .ensures))
 
 same-length-2 : tie.Need-same-length-2
 same-length-2 c = search needs
@@ -65,7 +65,7 @@ returns-2 c =
     let closed = told .before .before .before .before in
     let a = closed .before .before .before .args in
     writes-as (a .out .now) (a .at) (sym (ap text (told .enum-told2 .given .1)))
-    (writes-next (a .out .now) (a .at) (41 ∷ []) 63 (a .at + 2) (writes-one (a .out .now) (a .at) 41 (closed .put .ensures)) (c .before .before .put2 .ensures) (omega arith))
+    (writes-next (a .out .now) (a .at) (41 ∷ []) 63 (a .at + 2) (writes-one (a .out .now) (a .at) 41 (closed .set-byte .ensures)) (c .before .before .set-byte2 .ensures) (omega arith))
 
 same-length-3 : tie.Need-same-length-3
 same-length-3 c = search needs
@@ -76,22 +76,22 @@ returns-3 c =
     let closed = told .before .before .before .before in
     let a = closed .before .before .before .args in
     writes-as (a .out .now) (a .at) (sym (ap text (told .enum-told3 .given .1)))
-    (writes-next (a .out .now) (a .at) (41 ∷ []) 42 (a .at + 2) (writes-one (a .out .now) (a .at) 41 (closed .put .ensures)) (c .before .before .put3 .ensures) (omega arith))
+    (writes-next (a .out .now) (a .at) (41 ∷ []) 42 (a .at + 2) (writes-one (a .out .now) (a .at) 41 (closed .set-byte .ensures)) (c .before .before .set-byte3 .ensures) (omega arith))
 
 pub write-close-spec : {M : Type 1} → statement M
 write-close-spec =
     tie.close
     (tie.spec
-    put-requires
+    set-byte-requires
     enum-told
     add-result
     enum-told-2
-    add-put
-    put-requires-2
+    add-set-byte
+    set-byte-requires-2
     add-result-2
     enum-told-3
-    add-put-2
-    put-requires-3
+    add-set-byte-2
+    set-byte-requires-3
     add-result-3
     same-length
     returns

@@ -22,8 +22,8 @@ write-letter-requires c κs = search needs
 enum-told : tie.Need-enum-told
 enum-told c = search needs
 
-put-requires : tie.Need-put-requires
-put-requires c κs = search needs
+set-byte-requires : tie.Need-set-byte-requires
+set-byte-requires c κs = search needs
 
 add-result : tie.Need-add-result
 add-result c = search needs
@@ -31,8 +31,8 @@ add-result c = search needs
 enum-told-2 : tie.Need-enum-told-2
 enum-told-2 c = search needs
 
-put-requires-2 : tie.Need-put-requires-2
-put-requires-2 c κs = search needs
+set-byte-requires-2 : tie.Need-set-byte-requires-2
+set-byte-requires-2 c κs = search needs
 
 add-result-2 : tie.Need-add-result-2
 add-result-2 c = search needs
@@ -59,7 +59,7 @@ returns-2 : tie.Need-returns-2
 returns-2 c =
     let s = c .before .before .before .before .before .before .before .before in
     let a = s .args in
-    writes-as (a .out .now) (a .at) (sym (ap (text s) (c .before .before .before .before .enum-told .given .1))) (writes-one (a .out .now) (a .at) 40 (c .before .before .put .ensures))
+    writes-as (a .out .now) (a .at) (sym (ap (text s) (c .before .before .before .before .enum-told .given .1))) (writes-one (a .out .now) (a .at) 40 (c .before .before .set-byte .ensures))
 
 same-length-3 : tie.Need-same-length-3
 same-length-3 c = search needs
@@ -68,7 +68,7 @@ returns-3 : tie.Need-returns-3
 returns-3 c =
     let s = c .before .before .before .before .before .before .before .before in
     let a = s .args in
-    writes-as (a .out .now) (a .at) (sym (ap (text s) (c .before .before .before .before .enum-told2 .given .1))) (writes-one (a .out .now) (a .at) 124 (c .before .before .put2 .ensures))
+    writes-as (a .out .now) (a .at) (sym (ap (text s) (c .before .before .before .before .enum-told2 .given .1))) (writes-one (a .out .now) (a .at) 124 (c .before .before .set-byte2 .ensures))
 
 same-length-4 : tie.Need-same-length-4
 same-length-4 c = search needs
@@ -86,10 +86,10 @@ write-token-spec =
     enum-known-token
     write-letter-requires
     enum-told
-    put-requires
+    set-byte-requires
     add-result
     enum-told-2
-    put-requires-2
+    set-byte-requires-2
     add-result-2
     enum-known-token-2
     write-close-requires

@@ -12,7 +12,7 @@ use Rattle.model.specs.Writing.{outside}
 use Rattle.mask.proofs.Laws.Bits.{fit-row}
 use Rattle.writing_letters.proofs.Laws.Bounds.{outside-short}
 use Rattle.writing_letters.proofs.Laws.Classes.{class-of, every-byte, every-written, no-byte, not-every, NotOne, one-byte, one-written, runs-written, two-bytes}
-use Rattle.writing_letters.proofs.Laws.Texts.{known, under, writes-as, writes-one, writes-then}
+use Rattle.writing_letters.proofs.Laws.Texts.{writes-as, writes-one, writes-then}
 use Rattle.writing_letters.proofs.classes.write_class.Statement.{statement}
 use Rattle.writing_letters.proofs.classes.write_class.Tie as tie
 
@@ -21,22 +21,26 @@ small : (c : tie.Start) → value (c .args .class) < 2 ^ 256
 small c = class-of (c .args .class) (c .good .1 .1 .0 .1 .0 .1) (fit-row (c .args .class) (λ k. search needs))
 
 -- no byte was found, or two were
-several : (c : tie.Joined2) → NotOne (value (c .before .before .before .before .args .class))
+several : (c : tie.Joined1) → NotOne (value (c .before .before .before .args .class))
 several c =
-    let v = value (c .before .before .before .before .args .class) in
+    let v = value (c .before .before .before .args .class) in
     let f = c .before .next-in in
     ⊎-elim
     (λ w. two-bytes v (f .result) (w .1 .result) (omega (arith, w .1 .ensures .from)) (f .ensures .hit (w .0 .taken))
     (w .1 .ensures .hit (omega (arith, w .1 .ensures .upto, w .2 .left))))
     (λ w. no-byte v (λ x h k. f .ensures .skipped x h (omega (arith, w .left))))
-    (c .if2 .came)
+    (c .if1 .came)
+
+-- the moment at which the class is neither one byte nor every byte, and the start
+abbrev neither : tie.After-write-runs → tie.Else3
+neither c = c .before .before .before .before .before .before
+
+abbrev start : tie.Else3 → tie.Start
+start c = c .before .before .before .before .before
 
 -- the place after the runs leaves room for one more
 room : (at n p : ℕ) → at < 2 ^ 30 → n ≤ 2304 → p ≡ at + 1 + n → p + 1 < 2 ^ 64
 room at n p h k e = omega arith
-
-returns : tie.Need-returns
-returns c = (λ h. absurd (omega (arith, c .if1 .taken)), λ h. absurd (omega (arith, c .if1 .taken)))
 
 next-in-requires : tie.Need-next-in-requires
 next-in-requires c κs = search needs
@@ -56,24 +60,22 @@ write-byte-requires c κs = search needs
 same-length : tie.Need-same-length
 same-length c = search needs
 
-returns-2 : tie.Need-returns-2
-returns-2 c =
+returns : tie.Need-returns
+returns c =
     let t = c .before .before .before .before in
     let f = t .before .before .before .next-in in
-    let o = t .before .before .before .before in
-    let s = o .before .before in
+    let s = t .before .before .before .before .before in
     let v = value (s .args .class) in
-    let taken = t .before .before .if2 .taken in
+    let taken = t .before .before .if1 .taken in
     let e = one-byte v (f .result) (small s) taken (f .ensures .skipped) (f .ensures .hit taken)
-    (λ x h k. t .before .next-in2 .ensures .skipped x h (omega (arith, t .if3 .taken))) in
-    let w = known (omega (arith, o .if1 .left)) (c .before .before .write-byte .ensures) in
-    under (writes-as (s .args .out .now) (s .args .at) (sym (one-written v (f .result) taken e)) w)
+    (λ x h k. t .before .next-in2 .ensures .skipped x h (omega (arith, t .if2 .taken))) in
+    writes-as (s .args .out .now) (s .args .at) (sym (one-written v (f .result) taken e)) (c .before .before .write-byte .ensures)
 
 next-out-requires : tie.Need-next-out-requires
 next-out-requires c κs = search needs
 
-put-requires : tie.Need-put-requires
-put-requires c κs = search needs
+set-byte-requires : tie.Need-set-byte-requires
+set-byte-requires c κs = search needs
 
 add-result : tie.Need-add-result
 add-result c = search needs
@@ -81,18 +83,18 @@ add-result c = search needs
 same-length-2 : tie.Need-same-length-2
 same-length-2 c = search needs
 
-returns-3 : tie.Need-returns-3
-returns-3 c =
+returns-2 : tie.Need-returns-2
+returns-2 c =
     let t = c .before .before .before .before in
     let j = t .before .before in
-    let s = j .before .before .before .before in
+    let s = j .before .before .before in
     let v = value (s .args .class) in
-    let e = every-byte v (small s) (λ x h k. t .before .next-out .ensures .skipped x h (omega (arith, t .if4 .taken))) in
+    let e = every-byte v (small s) (λ x h k. t .before .next-out .ensures .skipped x h (omega (arith, t .if3 .taken))) in
     let l = s .args .out .now in
-    under (writes-as l (s .args .at) (sym (every-written v (several j) e)) (writes-one l (s .args .at) (byte ".") (c .before .before .put .ensures)))
+    writes-as l (s .args .at) (sym (every-written v (several j) e)) (writes-one l (s .args .at) (byte ".") (c .before .before .set-byte .ensures))
 
-put-requires-2 : tie.Need-put-requires-2
-put-requires-2 c κs = search needs
+set-byte-requires-2 : tie.Need-set-byte-requires-2
+set-byte-requires-2 c κs = search needs
 
 add-write-runs : tie.Need-add-write-runs
 add-write-runs c = search needs
@@ -100,60 +102,58 @@ add-write-runs c = search needs
 write-runs-requires : tie.Need-write-runs-requires
 write-runs-requires c κs = search needs
 
-put-requires-3 : tie.Need-put-requires-3
-put-requires-3 c κs = search needs
+set-byte-requires-3 : tie.Need-set-byte-requires-3
+set-byte-requires-3 c κs = search needs
 
 add-result-2 : tie.Need-add-result-2
 add-result-2 c =
-    let w = c .before .before .before .before .before .before .write-runs in
-    let j = c .before .before .before .before .before .before .before .before .before .before .before .before .before .before in
-    let s = j .before .before .before .before in
+    let w = c .before .before .before .before .before .before in
+    let s = start (neither w) in
     let v = value (s .args .class) in
-    record { fits = room (s .args .at) (length (outside 256 v 0)) (w .result) (j .before .before .if1 .left) (outside-short 256 v 0) (w .ensures .0) }
+    record { fits = room (s .args .at) (length (outside 256 v 0)) (w .write-runs .result) (s .pre) (outside-short 256 v 0) (w .write-runs .ensures .0) }
 
 same-length-3 : tie.Need-same-length-3
 same-length-3 c = search needs
 
-returns-4 : tie.Need-returns-4
-returns-4 c =
-    let w = c .before .before .before .before .before .before .write-runs in
-    let m = c .before .before .before .before .before .before .before .before .before .before .put2 in
-    let o = c .before .before .before .before .before .before .before .before .before .before .before .before in
+returns-3 : tie.Need-returns-3
+returns-3 c =
+    let k = c .before .before .before .before .before .before in
+    let w = k .write-runs in
+    let m = k .before .before .before .before .set-byte2 in
+    let o = neither k in
     let f = o .before .next-out in
     let j = o .before .before in
-    let s = j .before .before .before .before in
+    let s = start o in
     let v = value (s .args .class) in
     let l = s .args .out .now in
     let at = s .args .at in
     let runs = outside 256 v 0 in
-    let r : f .result < 256 = omega (arith, f .ensures .upto, o .if4 .left) in
-    under
-    (writes-as l at (sym (runs-written v (several j) (not-every v (f .result) r (f .ensures .hit r))))
+    let r : f .result < 256 = omega (arith, f .ensures .upto, o .if3 .left) in
+    writes-as l at (sym (runs-written v (several j) (not-every v (f .result) r (f .ensures .hit r))))
     (writes-then l at (byte "[" ∷ []) (runs ++ (byte "]" ∷ [])) (writes-one l at (byte "[") (m .ensures))
     (writes-then (m .last .0) (at + 1) runs (byte "]" ∷ []) (w .ensures)
-    (writes-one (w .last .0) (w .result) (byte "]") (c .before .before .put3 .ensures)))))
+    (writes-one (w .last .0) (w .result) (byte "]") (c .before .before .set-byte3 .ensures))))
 
 pub write-class-spec : {M : Type 1} → statement M
 write-class-spec =
     tie.close
     (tie.spec
-    returns
     next-in-requires
     add-next-in
     next-in-requires-2
     cast-write-byte
     write-byte-requires
     same-length
-    returns-2
+    returns
     next-out-requires
-    put-requires
+    set-byte-requires
     add-result
     same-length-2
-    returns-3
-    put-requires-2
+    returns-2
+    set-byte-requires-2
     add-write-runs
     write-runs-requires
-    put-requires-3
+    set-byte-requires-3
     add-result-2
     same-length-3
-    returns-4)
+    returns-3)

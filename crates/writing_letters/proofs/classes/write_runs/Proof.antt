@@ -8,7 +8,6 @@ use lib.Seq.{length-sets}
 use Rattle.model.specs.Models.Words.{value}
 use Rattle.model.specs.Writing.{outside}
 use Rattle.writing_letters.proofs.Laws.Runs.{first-out, Left, left-all, left-next, left-none}
-use Rattle.writing_letters.proofs.Laws.Texts.{known}
 use Rattle.writing_letters.proofs.classes.write_runs.Statement.{statement}
 use Rattle.writing_letters.proofs.classes.write_runs.Tie as tie
 
@@ -44,7 +43,9 @@ cast-write-run-2 : tie.Need-cast-write-run-2 Inv-loop μ-loop
 cast-write-run-2 c = search needs
 
 write-run-requires : tie.Need-write-run-requires Inv-loop μ-loop
-write-run-requires c κs = search needs
+write-run-requires c κs =
+    let l = c .before .before .before .loop in
+    omega (arith, c .before .before .before .before .before .before .pre, l .inv .writes .0, l .inv .short, l .inv .upto)
 
 next-in-requires-2 : tie.Need-next-in-requires-2 Inv-loop μ-loop
 next-in-requires-2 c κs = search needs
@@ -56,12 +57,10 @@ loop-again : tie.Need-loop-again Inv-loop μ-loop
 loop-again c =
     let o = c .before .before .before .before .before in
     let l = o .before .before .loop in
-    let s = o .before .before .before .before .before in
-    let a = s .args in
+    let a = o .before .before .before .before .before .args in
     let w = c .before .before .before .write-run in
-    let run = known (omega (arith, s .pre, l .inv .writes .0, l .inv .short, l .inv .upto)) (w .ensures) in
     left-next (value (a .class)) (a .at) (a .out .now) (outside 256 (value (a .class)) 0) (l .lo) (l .p) (l .out) (l .inv) (o .next-out .result)
-    (c .next-in2 .result) (w .result) (w .last .0) (o .before .loop-test .taken) (o .next-out .ensures) (c .next-in2 .ensures) run
+    (c .next-in2 .result) (w .result) (w .last .0) (o .before .loop-test .taken) (o .next-out .ensures) (c .next-in2 .ensures) (w .ensures)
 
 same-length : tie.Need-same-length Inv-loop μ-loop
 same-length c = let l = c .before .loop in ap length (l .inv .writes .1) ∙ simp length-sets

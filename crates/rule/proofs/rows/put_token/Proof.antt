@@ -1,4 +1,4 @@
--- `put`: five stores one after another; or the token lies past the end, where a run of stores changes nothing.
+-- `put_token`: five stores one after another; or the token lies past the end, where a run of stores changes nothing.
 use mathlib.Core.Path.{sym}
 use mathlib.Core.List.{_∷_}
 use Prim.Native.Nat.{_*_}
@@ -6,9 +6,9 @@ use native.Mathlib.Numerals.{towards-suc}
 use native.Mathlib.Omega.{arith}
 use borrow.Author.Needs.{needs}
 use Rattle.rule_letters.specs.Classes.{wordsOf}
-use Rattle.rule.proofs.Laws.Writes.{sets-past}
-use Rattle.rule.proofs.rows.put.Statement.{statement}
-use Rattle.rule.proofs.rows.put.Tie as tie
+use Rattle.rule.proofs.Laws.Stores.{sets-past}
+use Rattle.rule.proofs.rows.put_token.Statement.{statement}
+use Rattle.rule.proofs.rows.put_token.Tie as tie
 
 room-requires : tie.Need-room-requires
 room-requires c κs = search needs
@@ -69,8 +69,8 @@ add-result c = omega arith
 returns-2 : tie.Need-returns-2
 returns-2 c = (omega arith, simp towards-suc)
 
-pub put-spec : {M : Type 1} → statement M
-put-spec =
+pub put-token-spec : {M : Type 1} → statement M
+put-token-spec =
     tie.close
     (tie.spec
     room-requires

@@ -17,7 +17,7 @@ use Rattle.tokens.proofs.Rows.{row-append, row-length}
 use Rattle.rule.specs.Tokens.{opened, timesWords}
 use Rattle.rule_letters.specs.declared.Class.{Class}
 use Rattle.rule_letters.proofs.Laws.Classes.{class-words}
-use Rattle.rule.proofs.Laws.Writes.{sets-opened}
+use Rattle.rule.proofs.Laws.Stores.{sets-opened}
 
 -- ---- rows of tokens
 pub sets-row-append : (l : List ℕ) (n : ℕ) (a b : List Token)

@@ -1,0 +1,23 @@
+-- The word `refused `, and the number after it.
+use borrow.Author.Needs.{needs}
+use Rattle.program_lines.proofs.Laws.Puts.{put-then}
+use Rattle.program_lines.proofs.put_refusal.Statement.{statement}
+use Rattle.program_lines.proofs.put_refusal.Tie as tie
+
+slice-aggregate-put : tie.Need-slice-aggregate-put
+slice-aggregate-put c = search needs
+
+put-requires : tie.Need-put-requires
+put-requires c κs = search needs
+
+put-number-requires : tie.Need-put-number-requires
+put-number-requires c κs = search needs
+
+same-length : tie.Need-same-length
+same-length c = search needs
+
+returns : tie.Need-returns
+returns c = put-then (c .before .before .before .before .before .before .put .ensures) (c .before .before .put-number .ensures)
+
+pub put-refusal-spec : {M : Type 1} → statement M
+put-refusal-spec = tie.close (tie.spec slice-aggregate-put put-requires put-number-requires same-length returns)

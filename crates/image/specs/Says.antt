@@ -10,7 +10,7 @@ use Rattle.model.specs.Models.Tokens.{tokens}
 use Rattle.model.specs.Tree.{Tree}
 use Rattle.tokens.specs.Rows.{rowWords}
 use Rattle.image.specs.declared.Stored.{Stored}
-use Rattle.image.specs.declared.Stored.the-variants.{Done, NoRoom, NoTree}
+use Rattle.image.specs.declared.Stored.the-variants.{Done, NoRoom, TooDeep}
 
 -- the first n of the tokens are those of the tree of a rule, which has at most 512 states
 pub record TokensOf (t : Tree) (row : List ℕ) (n : ℕ) : Type 0 where
@@ -20,17 +20,14 @@ pub record TokensOf (t : Tree) (row : List ℕ) (n : ℕ) : Type 0 where
   pub long : n ≡ length (tokens t [])
   pub are : take (5 * n) row ≡ rowWords (tokens t [])
 
+abbrev pub OfRule : List ℕ → ℕ → Type 0
+OfRule row n = (t : Tree) × TokensOf t row n
+
 pub data TreeSays (t : Tree) (before : List ℕ) (r : Stored) (after : List ℕ) : Type 0 where
-  too-deep : 8 < depth t → r ≡ NoTree → after ≡ before → TreeSays t before r after
+  too-deep : 8 < depth t → r ≡ TooDeep → after ≡ before → TreeSays t before r after
   no-room : depth t ≤ 8 → length before < length (image t) → r ≡ NoRoom → after ≡ before → TreeSays t before r after
   stored : depth t ≤ 8 → length (image t) ≤ length before → r ≡ Done (length (image t)) → after ≡ image t ++ drop (length (image t)) before
       → TreeSays t before r after
 
 abbrev pub StoreSays : List ℕ → ℕ → List ℕ → Stored → List ℕ → Type 0
 StoreSays row n before r after = (t : Tree) → TokensOf t row n → TreeSays t before r after
-
--- and of any tokens at all: a refusal changes no word; words past the image stay as they were
-abbrev pub Kept : List ℕ → Stored → List ℕ → Type 0
-Kept before NoTree after = after ≡ before
-Kept before NoRoom after = after ≡ before
-Kept before (Done k) after = (k ≤ length before) × (drop k after ≡ drop k before)

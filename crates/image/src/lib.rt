@@ -10,20 +10,20 @@ use crate::tape::tape_of;
 use image_sections::sections_of;
 use tokens_masks::Shape;
 use tokens_masks::lay_out;
-ghost use Rattle.image.specs.Says.{Kept, StoreSays};
+ghost use Rattle.image.specs.Says.{OfRule, StoreSays};
 
-// What became of a tree's tokens: no image, since they are not those of a tree within 512 states and depth 8, or since it is longer than the
-// words lent; or the image of so many words.
+// What became of a tree's tokens: no image, since the tree is deeper than 8, or since the image is longer than the words lent; or the image of so
+// many words.
 pub enum Stored {
-    NoTree,
+    TooDeep,
     NoRoom,
     Done(usize),
 }
 
 // The image of a tree, from its tokens. Nothing is written before it is known that all of it will be.
 pub fn store(tokens: [u64; 2555], length: usize, words: &mut [u64]) -> Stored
-    ensures image { λ r. ⌜ StoreSays tokens length (now (words .entry)) r (now (words .exit)) ⌝ }
-    ensures past { λ r. ⌜ Kept (now (words .entry)) r (now (words .exit)) ⌝ }
+    requires { ⌜ OfRule tokens length ⌝ }
+    ensures { λ r. ⌜ StoreSays tokens length (now (words .entry)) r (now (words .exit)) ⌝ }
 {
     let tape = tape_of(tokens, length);
     let mut places = [0u64; 16];
@@ -40,7 +40,7 @@ pub fn store(tokens: [u64; 2555], length: usize, words: &mut [u64]) -> Stored
         &mut back,
     );
     let Shape::Tree(depth) = shape else {
-        return Stored::NoTree;
+        return Stored::TooDeep;
     };
     let sections = sections_of(length + 1, depth);
     if words.len() < sections.length {

@@ -226,44 +226,15 @@ fn after_close(scan: Scan, frame: Frame, mark: Mark) -> Next
     }
 }
 
-// The scan after a token that fits. Of one that does not nothing is said, and where a step would lead out of 512 states or nine frames none is made.
+// The scan after a token that fits.
 pub fn step_over(scan: Scan, frame: Frame, token: Token) -> Next
-    ensures { λ r. ⌜ (ReadyAt scan frame token → StepSays scan frame (tokenOf token) r) ⌝ }
+    requires { ⌜ ReadyAt scan frame token ⌝ }
+    ensures { λ r. ⌜ StepSays scan frame (tokenOf token) r ⌝ }
 {
-    let depth = scan.depth;
-    let stays = Next {
-        scan,
-        frame,
-        place: 0,
-    };
-    if scan.position > 510 {
-        return stays;
-    }
-    if depth > 8 {
-        return stays;
-    }
     match token {
         Token::Letter(repeat) => after_letter(scan, frame, repeat),
-        Token::Open => {
-            if depth < 8 {
-                after_open(scan, frame)
-            } else {
-                stays
-            }
-        }
-        Token::Bar => {
-            if depth > 0 {
-                after_bar(scan, frame)
-            } else {
-                stays
-            }
-        }
-        Token::Close(mark) => {
-            if depth > 0 {
-                after_close(scan, frame, mark)
-            } else {
-                stays
-            }
-        }
+        Token::Open => after_open(scan, frame),
+        Token::Bar => after_bar(scan, frame),
+        Token::Close(mark) => after_close(scan, frame, mark),
     }
 }

@@ -26,7 +26,7 @@ matchedAnswer (matching.Done n) lent = record { number = 0; count = n; lent = le
 
 -- ---- what becomes of a tree's tokens
 abbrev pub builtOf : Stored → Built
-builtOf stored.NoTree = TooDeep
+builtOf stored.TooDeep = TooDeep
 builtOf stored.NoRoom = NoRoom
 builtOf (stored.Done n) = Done n
 

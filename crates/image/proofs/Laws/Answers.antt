@@ -7,7 +7,7 @@ use Prim.Native.Nat.{ℕ, _+_, _≤_, _<_}
 use native.Mathlib.Nat.{zero-add}
 use native.Mathlib.Omega.{arith}
 use lib.ListN.{drop, length, length-map}
-use lib.Seq.{drop-at, sets, sets-eq}
+use lib.Seq.{sets, sets-eq}
 use Rattle.model.specs.Edges.{depth, states}
 use Rattle.model.specs.Image.{image}
 use Rattle.model.specs.Tree as tree
@@ -20,9 +20,9 @@ use Rattle.tokens_masks.specs.declared.Shape.the-variants.{Other, Tree}
 use Rattle.tokens_masks.specs.declared.Tape.{Tape}
 use Rattle.image.specs.Says.{no-room, stored, StoreSays, TokensOf, too-deep, TreeSays}
 use Rattle.image.specs.Work.{imageWords, KindsAre}
-use Rattle.image.specs.declared.Stored.the-variants.{Done, NoRoom, NoTree}
+use Rattle.image.specs.declared.Stored.the-variants.{Done, NoRoom, TooDeep}
 use Rattle.image.proofs.Laws.Tapes.{depth-is, on-tape, states-are, tape-of}
-use Rattle.image.proofs.Laws.Written.{image-written, length-image, length-written}
+use Rattle.image.proofs.Laws.Written.{image-written, length-image}
 
 not-other : (d : ℕ) → Other ≡ Tree d → ⊥
 not-other d e = let z : _≡_ {A = ℕ} 0 1 = cc in omega arith
@@ -56,10 +56,10 @@ module _ {row : List ℕ} {n : ℕ} {tape : Tape} {shape : Shape} (T : Taped row
   shallow-on-tape t R h = on-tape row tape (T .kinds) (T .room) t (all-tokens t R) h
 
   -- NO TREE
-  pub says-no-tree : (before : List ℕ) → shape ≡ Other → StoreSays row n before NoTree before
+  pub says-no-tree : (before : List ℕ) → shape ≡ Other → StoreSays row n before TooDeep before
   says-no-tree before e t R = go (le-or-lt (depth t) 8)
     where
-      go : (depth t ≤ 8) ⊎ (8 < depth t) → TreeSays t before NoTree before
+      go : (depth t ≤ 8) ⊎ (8 < depth t) → TreeSays t before TooDeep before
       go (inl h) = absurd (not-other (depth t) (sym e ∙ T .says .of-tree t (shallow-on-tape t R h)))
       go (inr h) = too-deep h refl refl
 
@@ -109,14 +109,3 @@ module _ {row : List ℕ} {n : ℕ} {tape : Tape} {shape : Shape} (T : Taped row
             stored (P .shallow) (omega (arith, e)) (ap Done e)
             (is ∙ ap (sets before 0) (words-as t P ∙ image-written row tape t P (all-tokens t R))
             ∙ written-first before (image t) (omega (arith, e)))
-
-        pub keeps : (p .length ≤ length before) × (drop (p .length) after ≡ drop (p .length) before)
-        keeps =
-            let s = there .0 in
-            let P = there .1 in
-            let ws = imageWords p row tape in
-            let l = ap length (words-as s P) ∙ length-written row tape s P ∙ sym (length-image s) ∙ sym (size-is s P) in (
-              fits,
-              ap (drop (p .length)) (is ∙ written-first before ws (omega (arith, l)))
-                  ∙ drop-at ws (drop (length ws) before) (p .length) l ∙ ap (λ (k : ℕ). drop k before) l,
-            )

@@ -110,9 +110,6 @@ module _ (row : List ℕ) (tape : Tape) (s : Tree) (O : TreeOnTape s tape) where
       (propagateTarget s) (propagate-block-says tape s O) (propagate-source-says tape s O) (propagate-target-says tape s O))
       (two-rows (depth s) (tableOf tape back-source) (tableOf tape back-target) (backSource s) (backTarget s) (back-source-says tape s O) (back-target-says tape s O))
 
-  pub length-written : length (imageWords (sectionsOf (states s) (depth s)) row tape) ≡ imageLength W (depth s)
-  length-written = ap length written ∙ length-assembled m W (depth s) (leads row) looped (edgeSet s)
-
   -- ---- and with the tree's own classes
   module _ (R : TokensOf s row (tape .length)) where
     letters-lead : (b x : ℕ) → b < 256 → x < states s → leads row b x ≡ letters s b x

@@ -1,9 +1,9 @@
 -- `store`: each answer says what `Laws.Answers` proves of it; a tape told to be a tree's is within the limits that the callees ask for.
-use mathlib.Core.Path.{refl, ap}
+use mathlib.Core.Path.{ap}
 use native.Mathlib.Omega.{arith}
 use Rattle.image_sections.specs.declared.Sections.{Sections}
 use Rattle.image_sections.proofs.Laws.Within.{within-limits}
-use Rattle.image.proofs.Laws.Answers.{few, keeps, says-no-room, says-no-tree, says-stored, shallow, Taped, taped}
+use Rattle.image.proofs.Laws.Answers.{few, says-no-room, says-no-tree, says-stored, shallow, Taped, taped}
 use borrow.Author.Needs.{needs}
 use Rattle.image.proofs.store.Statement.{statement}
 use Rattle.image.proofs.store.Tie as tie
@@ -37,7 +37,7 @@ enum-told : tie.Need-enum-told
 enum-told c = search needs
 
 returns : tie.Need-returns
-returns c = let l = c .before .before in (says-no-tree (told l) (start l .args .words .now) (c .enum-told .given .1), refl)
+returns c = let l = c .before .before in says-no-tree (told l) (start l .args .words .now) (c .enum-told .given .1)
 
 add-sections-of : tie.Need-add-sections-of
 add-sections-of c = omega (arith, few (told (c .before .before .before)) (c .before .shape .given .1))
@@ -52,7 +52,7 @@ returns-2 : tie.Need-returns-2
 returns-2 c =
     let m = c .before .before in
     let l = laidOut m in
-    (says-no-room (told l) (m .before .before .shape .given .1) (start l .args .words .now) (m .sections-of .ensures) (c .if1 .taken), refl)
+    says-no-room (told l) (m .before .before .shape .given .1) (start l .args .words .now) (m .sections-of .ensures) (c .if1 .taken)
 
 put-image-requires : tie.Need-put-image-requires
 put-image-requires c κs =
@@ -84,7 +84,7 @@ returns-3 c =
     let d = m .before .before .shape .given .1 in
     let before = start l .args .words .now in
     let places = m .sections-of .ensures in
-    (says-stored T d before places (roomy .if1 .left) (put .put-image .ensures), keeps T d before places (roomy .if1 .left) (put .put-image .ensures))
+    says-stored T d before places (roomy .if1 .left) (put .put-image .ensures)
 
 pub store-spec : {M : Type 1} → statement M
 store-spec =

@@ -46,7 +46,7 @@ module _ (rule before : List ℕ) where
 
   -- ---- a tree that was read
   module _ {t : tree.Tree} {m : ℕ} {row : List ℕ} (T : TreeRead t m row) where
-    pub some-states : 1 ≤ m
+    some-states : 1 ≤ m
     some-states = omega (arith, T .size)
 
     long : m - 1 ≡ length (tokens t [])
@@ -64,6 +64,9 @@ module _ (rule before : List ℕ) where
 
     is-held : image.TokensOf t row (m - 1)
     is-held = record { rule = rule; is-rule = T .is-rule; few = T .few; long = long; are = held-words }
+
+    pub of-rule : (1 ≤ m) × image.OfRule row (m - 1)
+    of-rule = (some-states, (t, is-held))
 
     pub tree-built : (r : Built) (after : List ℕ) → TreeBuilt row (m - 1) before r after → BuildSays rule before (builtAnswer r after)
     tree-built r after B = rw (B .is) (go (B .says t is-held))

@@ -1,7 +1,7 @@
 -- Each outcome of the reading is a row of the table, or a tree whose tokens go on to be stored.
 use mathlib.Core.Path.{subst}
 use borrow.Author.Needs.{needs}
-use Rattle.watcher.proofs.Laws.Build.{Answered, answered, some-states, tree-built}
+use Rattle.watcher.proofs.Laws.Build.{Answered, answered, of-rule, tree-built}
 use Rattle.watcher.proofs.build.Statement.{statement}
 use Rattle.watcher.proofs.build.Tie as tie
 
@@ -26,7 +26,7 @@ store-tree-requires c κs =
     let r = c .before .before .before .before .before .read-rule in
     let T = subst (λ o. Answered (a .rule .now) (a .image .now) o (r .result .tokens)) (c .before .before .outcome .given .1)
     (answered (a .rule .now) (a .image .now) (r .result) (r .ensures)) in
-    some-states (a .rule .now) (a .image .now) (T .1)
+    of-rule (a .rule .now) (a .image .now) (T .1)
 
 returns : tie.Need-returns
 returns c =

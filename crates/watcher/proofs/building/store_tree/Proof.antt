@@ -26,7 +26,7 @@ same-length c = search needs
 returns : tie.Need-returns
 returns c =
     let s = c .before .before .before .before .store in
-    record { stored = s .result; is = ap builtOf (sym (c .enum-told .given .1)); says = s .ensures .0 }
+    record { stored = s .result; is = ap builtOf (sym (c .enum-told .given .1)); says = s .ensures }
 
 same-length-2 : tie.Need-same-length-2
 same-length-2 c = search needs
@@ -34,7 +34,7 @@ same-length-2 c = search needs
 returns-2 : tie.Need-returns-2
 returns-2 c =
     let s = c .before .before .before .before .store in
-    record { stored = s .result; is = ap builtOf (sym (c .enum-told2 .given .1)); says = s .ensures .0 }
+    record { stored = s .result; is = ap builtOf (sym (c .enum-told2 .given .1)); says = s .ensures }
 
 same-length-3 : tie.Need-same-length-3
 same-length-3 c = search needs
@@ -42,7 +42,7 @@ same-length-3 c = search needs
 returns-3 : tie.Need-returns-3
 returns-3 c =
     let s = c .before .before .before .before .before .store in
-    record { stored = s .result; is = ap builtOf (sym (c .before .stored .given .1)); says = s .ensures .0 }
+    record { stored = s .result; is = ap builtOf (sym (c .before .stored .given .1)); says = s .ensures }
 
 pub store-tree-spec : {M : Type 1} → statement M
 store-tree-spec =

@@ -49,9 +49,6 @@ array-write-kinds c = omega (arith, c .before .before .before .before .before .b
 read-kind-requires : tie.Need-read-kind-requires Inv-loop μ-loop
 read-kind-requires c κs = search needs
 
-step-over-requires : tie.Need-step-over-requires Inv-loop μ-loop
-step-over-requires c κs = search needs
-
 -- the token that was read may be passed
 ready : (c : tie.After-read-kind Inv-loop μ-loop)
     → ReadyAt (c .before .before .before .before .before .before .before .loop .scan)
@@ -63,11 +60,14 @@ ready c =
     owning-ready (turn .before .before .before .before .before .pre) (l .inv) (turn .loop-test .taken) (c .read-kind .ensures)
     (top-here (l .scan) (l .frames) (c .before .before .before .before .before .innermost .ensures))
 
+step-over-requires : tie.Need-step-over-requires Inv-loop μ-loop
+step-over-requires c κs = ready c
+
 mul-frames : tie.Need-mul-frames Inv-loop μ-loop
-mul-frames c = omega (arith, c .before .step-over .ensures (ready (c .before .before)) .inside)
+mul-frames c = omega (arith, c .before .step-over .ensures .inside)
 
 array-set-from-frames : tie.Need-array-set-from-frames Inv-loop μ-loop
-array-set-from-frames c = c .before .step-over .ensures (ready (c .before .before)) .inside
+array-set-from-frames c = c .before .step-over .ensures .inside
 
 add-i : tie.Need-add-i Inv-loop μ-loop
 add-i c = omega (arith, c .before .before .before .before .before .before .before .before .before .before .loop .inv .along .short)
@@ -81,7 +81,7 @@ loop-again c =
     let turn = read .before .before .before .before .before .before in
     let l = turn .before .loop in
     owning-step (turn .before .before .before .before .before .pre) (l .inv) (turn .loop-test .taken) (read .read-kind .ensures)
-    (top-here (l .scan) (l .frames) (read .before .before .before .before .before .innermost .ensures)) _ (c .before .before .step-over .ensures (ready read)) (read .before .own-kind .ensures)
+    (top-here (l .scan) (l .frames) (read .before .before .before .before .before .innermost .ensures)) _ (c .before .before .step-over .ensures) (read .before .own-kind .ensures)
 
 returns : tie.Need-returns Inv-loop μ-loop
 returns c = owning-end (c .before .before .before .before .before .pre) (c .before .loop .inv) (c .loop-test .left)

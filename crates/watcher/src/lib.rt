@@ -2,9 +2,8 @@
 // that was lent and gives count 0. What each answer means, its number and its count, is defined in specs/Answers.antt, and for the watch and for
 // spellings in their crates.
 
-mod building;
-
-use crate::building::store_tree;
+use image::Stored;
+use image::store;
 use image_check::Verdict;
 use image_check::check;
 use rule::Outcome;
@@ -15,14 +14,16 @@ use spelling_propose::Proposed;
 use watch::Begun;
 use watch::Stepped;
 use writing::Written;
+ghost use Prim.Native.Nat.{_-_, _≤_};
 ghost use Rattle.model.specs.Answers.{BuildSays, MatchSays, ReadBackSays};
 ghost use Rattle.model.specs.Spelling.{CheckSays, ProposeSays};
+ghost use Rattle.image.specs.Says.{OfRule};
 ghost use Rattle.model.specs.Watch.{BeginSays, StepSays};
 ghost use Rattle.spelling_propose.specs.Answers.{proposedAnswer};
 ghost use Rattle.spelling.specs.Answers.{checkedNumber, checkedYes};
 ghost use Rattle.watch.specs.Answers.{begunAnswer, steppedAnswer};
 ghost use Rattle.writing.specs.Says.{writtenAnswer};
-ghost use Rattle.watcher.specs.Answers.{builtAnswer, matchedAnswer};
+ghost use Rattle.watcher.specs.Answers.{builtAnswer, matchedAnswer, TreeBuilt};
 
 // What build answers: the refusals 1 to 5 in the table's order, or done, with the image's length.
 pub enum Built {
@@ -32,6 +33,19 @@ pub enum Built {
     TooDeep,
     NoRoom,
     Done(usize),
+}
+
+// The image of a tree of so many states, from its tokens.
+fn store_tree(tokens: [u64; 2555], states: usize, image: &mut [u64]) -> Built
+    requires { ⌜ (1 ≤ states) × OfRule tokens (states - 1) ⌝ }
+    ensures { λ r. ⌜ TreeBuilt tokens (states - 1) (now (image .entry)) r (now (image .exit)) ⌝ }
+{
+    let stored = store(tokens, states - 1, image);
+    match stored {
+        Stored::TooDeep => Built::TooDeep,
+        Stored::NoRoom => Built::NoRoom,
+        Stored::Done(length) => Built::Done(length),
+    }
 }
 
 // Build: from rule bytes to an image in lent words.

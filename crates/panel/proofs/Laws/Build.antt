@@ -2,14 +2,15 @@
 use mathlib.Core.Path.{_≡_, refl, ap}
 use mathlib.Core.List.{List, []}
 use Prim.Native.Nat.{ℕ, _+_, _*_, _/_, _%_, _^_, _≤_, _<_}
-use native.Mathlib.Nat.{mul-le-mul}
 use native.Mathlib.Omega.{arith}
 use lib.ListN.{length}
 use Rattle.model.specs.Answers.{Answer, BuildSays, built, no-room, not-a-rule, rule-too-long, too-deep, too-many-states}
 use Rattle.model.specs.Edges.{depth, states}
-use Rattle.model.specs.Image.{image, width}
+use Rattle.model.specs.Image.{image}
 use Rattle.model.specs.Tree.{Tree}
 use Rattle.model.proofs.Answers.Build.{build-one}
+use Rattle.image_sections.specs.Sections.{sectionsOf}
+use Rattle.image_sections.proofs.Laws.Within.{within-limits}
 use Rattle.image.proofs.Laws.Written.{length-image}
 use Rattle.watcher.specs.Answers.{builtAnswer}
 use Rattle.watcher.specs.declared.Built.{Built}
@@ -18,10 +19,7 @@ use Rattle.panel.specs.Says.{Gives}
 use Rattle.panel.proofs.Laws.Given.{count-is, number-is, one-given}
 
 image-small : (t : Tree) → states t ≤ 512 → depth t ≤ 8 → length (image t) ≤ 4834
-image-small t m d =
-    let narrow : width (states t) ≤ 8 = omega arith in
-    let deep : 515 + 11 * depth t ≤ 603 = omega arith in
-    omega (arith, length-image t, mul-le-mul narrow deep)
+image-small t m d = omega (arith, length-image t, within-limits {p = sectionsOf (states t) (depth t)} refl m d .short)
 
 module _ {rule before : List ℕ} where
   pub count-small : {a : Answer} → BuildSays rule before a → a .count ≤ 4834

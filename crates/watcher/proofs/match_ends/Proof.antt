@@ -54,7 +54,7 @@ returns-3 c =
     let a = start k .args in
     let known = k .before .before .shared-slice-known2 .given in
     all-found (a .image .now) (a .text .now) (a .ends .now) (k .check .ensures) (v .verdict .given .1) (e .if1 .left)
-    (all-bytes (a .text .now) (λ i. omega (arith, known i))) (f .find .result) (f .find .last .1 .1 .0) (f .find .ensures)
+    (all-bytes (a .text .now) (λ i. omega (arith, known i))) (f .find .result) (f .find .last .1 .1 .1 .0) (f .find .ensures)
 
 pub match-ends-spec : {M : Type 1} → statement M
 match-ends-spec =

@@ -2,8 +2,8 @@
 use mathlib.Core.Path.{sym, ap}
 use borrow.Author.Needs.{needs}
 use Rattle.watcher.specs.Answers.{builtOf}
-use Rattle.watcher.proofs.building.store_tree.Statement.{statement}
-use Rattle.watcher.proofs.building.store_tree.Tie as tie
+use Rattle.watcher.proofs.store_tree.Statement.{statement}
+use Rattle.watcher.proofs.store_tree.Tie as tie
 
 sub-store : tie.Need-sub-store
 sub-store c = search needs

@@ -5,8 +5,9 @@ use Prim.Native.Nat.{_-_}
 use native.Mathlib.Omega.{arith}
 use borrow.Author.Tests.{not-false, not-true}
 use lib.Dec.{T}
-use lib.ListN.{length-map}
+use lib.ListN.{getD, length-map}
 use Rattle.model.specs.Models.LayOut.{begin, reach}
+use Rattle.tokens.specs.Scans.{noFrame, ReadyAt}
 use Rattle.tokens_masks.proofs.Along.{tapeOf, too-long}
 use Rattle.tokens_masks.proofs.Scanning.{Scanning, scanning-begin, scanning-depth, scanning-misfit, scanning-other, scanning-ready, scanning-step, scanning-tree, top-here}
 use Rattle.tokens_masks.specs.Tapes.{tokensOf}
@@ -82,49 +83,52 @@ returns-2 c =
     let I = top-here (l .scan) (l .frames) (c .before .before .before .innermost .ensures) in
     scanning-misfit (l .inv) h (c .before .before .before .before .read-kind .ensures) I (sym (c .before .fits2 .ensures (l .frames) I) ∙ not-true _ (c .if2 .taken))
 
+-- the token that was read may be passed
+ready : (c : tie.Else2 Inv-loop μ-loop)
+    → let l = c .before .before .before .before .before .before .loop in
+    ReadyAt (l .scan) (getD (l .frames) (c .before .before .before .innermost .result) noFrame) (c .before .before .before .before .read-kind .result)
+ready c =
+    let l = c .before .before .before .before .before .before .loop in
+    let I = top-here (l .scan) (l .frames) (c .before .before .before .innermost .ensures) in
+    scanning-ready (l .inv) (c .before .before .before .before .before .loop-test .taken) (c .before .before .before .before .read-kind .ensures) I (sym (c .before .fits2 .ensures (l .frames) I) ∙ not-false _ (c .if2 .left))
+
+-- the test that it fits, from what was marked, and that from the depth
+abbrev marked : tie.After-deeper Inv-loop μ-loop → tie.After-mark-token Inv-loop μ-loop
+marked c = c .before .before .before .before .before .before .before .before .before .before .before
+
+abbrev passed : tie.After-mark-token Inv-loop μ-loop → tie.Else2 Inv-loop μ-loop
+passed c = c .before .before .before .before .before .before
+
 mark-token-requires : tie.Need-mark-token-requires Inv-loop μ-loop
-mark-token-requires c κs =
-    let l = c .before .before .before .before .before .before .before .before .before .before .before .loop in
-    let h = c .before .before .before .before .before .before .before .before .before .before .loop-test .taken in
-    let I = top-here (l .scan) (l .frames) (c .before .before .before .before .before .before .before .before .innermost .ensures) in
-    (scanning-ready (l .inv) h (c .before .before .before .before .before .before .before .before .before .read-kind .ensures) I (sym (c .before .before .before .before .before .before .fits2 .ensures (l .frames) I) ∙ not-false _ (c .before .before .before .before .before .if2 .left)), l .inv .sized)
+mark-token-requires c κs = let p = c .before .before .before .before .before in (ready p, p .before .before .before .before .before .before .loop .inv .sized)
 
 deeper-requires : tie.Need-deeper-requires Inv-loop μ-loop
-deeper-requires c κs = omega (arith, scanning-depth (c .before .before .before .before .before .before .before .before .before .before .before .before .before .before .before .before .before .before .before .before .before .before .loop .inv))
+deeper-requires c κs = omega (arith, scanning-depth (passed (c .before .before .before .before .before .before .before .before .before .before) .before .before .before .before .before .before .loop .inv))
 
 step-over-requires : tie.Need-step-over-requires Inv-loop μ-loop
-step-over-requires c κs = search needs
+step-over-requires c κs = ready (passed (marked c))
 
 mul-frames : tie.Need-mul-frames Inv-loop μ-loop
-mul-frames c =
-    let l = c .before .before .before .before .before .before .before .before .before .before .before .before .before .before .before .before .before .before .before .before .before .before .before .before .before .loop in
-    let I = top-here (l .scan) (l .frames) (c .before .before .before .before .before .before .before .before .before .before .before .before .before .before .before .before .before .before .before .before .before .before .innermost .ensures) in
-    let R = scanning-ready (l .inv) (c .before .before .before .before .before .before .before .before .before .before .before .before .before .before .before .before .before .before .before .before .before .before .before .before .loop-test .taken) (c .before .before .before .before .before .before .before .before .before .before .before .before .before .before .before .before .before .before .before .before .before .before .before .read-kind .ensures) I
-    (sym (c .before .before .before .before .before .before .before .before .before .before .before .before .before .before .before .before .before .before .before .before .fits2 .ensures (l .frames) I) ∙ not-false _ (c .before .before .before .before .before .before .before .before .before .before .before .before .before .before .before .before .before .before .before .if2 .left)) in
-    omega (arith, c .before .step-over .ensures R .inside)
+mul-frames c = omega (arith, c .before .step-over .ensures .inside)
 
 array-set-from-frames : tie.Need-array-set-from-frames Inv-loop μ-loop
-array-set-from-frames c =
-    let l = c .before .before .before .before .before .before .before .before .before .before .before .before .before .before .before .before .before .before .before .before .before .before .before .before .before .loop in
-    let I = top-here (l .scan) (l .frames) (c .before .before .before .before .before .before .before .before .before .before .before .before .before .before .before .before .before .before .before .before .before .before .innermost .ensures) in
-    let R = scanning-ready (l .inv) (c .before .before .before .before .before .before .before .before .before .before .before .before .before .before .before .before .before .before .before .before .before .before .before .before .loop-test .taken) (c .before .before .before .before .before .before .before .before .before .before .before .before .before .before .before .before .before .before .before .before .before .before .before .read-kind .ensures) I
-    (sym (c .before .before .before .before .before .before .before .before .before .before .before .before .before .before .before .before .before .before .before .before .fits2 .ensures (l .frames) I) ∙ not-false _ (c .before .before .before .before .before .before .before .before .before .before .before .before .before .before .before .before .before .before .before .if2 .left)) in
-    c .before .step-over .ensures R .inside
+array-set-from-frames c = c .before .step-over .ensures .inside
 
 add-i : tie.Need-add-i Inv-loop μ-loop
-add-i c = omega (arith, c .before .before .before .before .before .before .before .before .before .before .before .before .before .before .before .before .before .before .before .before .before .before .before .before .before .before .loop .inv .along .short, c .before .before .before .before .before .before .before .before .before .before .before .before .before .before .before .before .before .before .before .before .before .before .before .before .before .loop-test .taken)
+add-i c = let t = passed (marked (c .before .before .before)) .before .before .before .before .before in omega (arith, t .before .loop .inv .along .short, t .loop-test .taken)
 
 loop-less : tie.Need-loop-less Inv-loop μ-loop
-loop-less c = omega (arith, c .before .before .before .before .before .before .before .before .before .before .before .before .before .before .before .before .before .before .before .before .before .before .before .before .before .loop-test .taken)
+loop-less c = let t = passed (marked (c .before .before .before)) .before .before .before .before .before in omega (arith, t .loop-test .taken)
 
 loop-again : tie.Need-loop-again Inv-loop μ-loop
 loop-again c =
-    let l = c .before .before .before .before .before .before .before .before .before .before .before .before .before .before .before .before .before .before .before .before .before .before .before .before .before .before .loop in
-    let h = c .before .before .before .before .before .before .before .before .before .before .before .before .before .before .before .before .before .before .before .before .before .before .before .before .before .loop-test .taken in
-    let k = c .before .before .before .before .before .before .before .before .before .before .before .before .before .before .before .before .before .before .before .before .before .before .before .before .read-kind .ensures in
-    let I = top-here (l .scan) (l .frames) (c .before .before .before .before .before .before .before .before .before .before .before .before .before .before .before .before .before .before .before .before .before .before .before .innermost .ensures) in
-    let f = sym (c .before .before .before .before .before .before .before .before .before .before .before .before .before .before .before .before .before .before .before .before .before .fits2 .ensures (l .frames) I) ∙ not-false _ (c .before .before .before .before .before .before .before .before .before .before .before .before .before .before .before .before .before .before .before .before .if2 .left) in
-    scanning-step (l .inv) h k I f (c .before .before .step-over .ensures (scanning-ready (l .inv) h k I f)) (c .before .before .before .deeper .ensures) (c .before .before .before .before .before .before .before .before .before .before .before .before .before .before .mark-token .ensures (l .frames) I)
+    let d = c .before .before .before in
+    let p = passed (marked d) in
+    let l = p .before .before .before .before .before .before .loop in
+    let I = top-here (l .scan) (l .frames) (p .before .before .before .innermost .ensures) in
+    let f = sym (p .before .fits2 .ensures (l .frames) I) ∙ not-false _ (p .if2 .left) in
+    scanning-step (l .inv) (p .before .before .before .before .before .loop-test .taken) (p .before .before .before .before .read-kind .ensures) I f (c .before .before .step-over .ensures) (d .deeper .ensures)
+    (marked d .mark-token .ensures (l .frames) I)
 
 is-ended-requires : tie.Need-is-ended-requires Inv-loop μ-loop
 is-ended-requires c κs = search needs

@@ -26,19 +26,8 @@ pub fn store(tokens: [u64; 2555], length: usize, words: &mut [u64]) -> Stored
     ensures { λ r. ⌜ StoreSays tokens length (now (words .entry)) r (now (words .exit)) ⌝ }
 {
     let tape = tape_of(tokens, length);
-    let mut places = [0u64; 16];
-    let mut scatter = [0u64; 216];
-    let mut gather = [0u64; 216];
-    let mut propagate = [0u64; 216];
-    let mut back = [0u64; 216];
-    let shape = lay_out(
-        tape,
-        &mut places,
-        &mut scatter,
-        &mut gather,
-        &mut propagate,
-        &mut back,
-    );
+    let mut masks = [0u64; 936];
+    let shape = lay_out(tape, &mut masks);
     let Shape::Tree(depth) = shape else {
         return Stored::TooDeep;
     };
@@ -46,16 +35,6 @@ pub fn store(tokens: [u64; 2555], length: usize, words: &mut [u64]) -> Stored
     if words.len() < sections.length {
         return Stored::NoRoom;
     }
-    put_image(
-        words,
-        tokens,
-        tape,
-        sections,
-        &places,
-        &scatter,
-        &gather,
-        &propagate,
-        &back,
-    );
+    put_image(words, tokens, tape, sections, &masks);
     Stored::Done(sections.length)
 }

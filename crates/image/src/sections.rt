@@ -4,6 +4,12 @@ use crate::letter_masks::put_letters;
 use crate::letter_masks::put_repeats;
 use image_sections::Sections;
 use tokens_masks::Tape;
+use tokens_masks::plane::BACK_SOURCE;
+use tokens_masks::plane::BACK_TARGET;
+use tokens_masks::plane::GATHER_BLOCK;
+use tokens_masks::plane::LOOP_PLACE;
+use tokens_masks::plane::PROPAGATE_BLOCK;
+use tokens_masks::plane::SCATTER_BLOCK;
 use tokens_masks::row_of;
 ghost use mathlib.Core.Path.{_≡_};
 ghost use Prim.Native.Nat.{_+_, _-_, _*_, _≤_, _<_};
@@ -64,17 +70,24 @@ fn put_shape(words: &mut [u64], sections: Sections)
     words[3] = sections.depth as u64;
 }
 
-// Three masks for each of the first depths.
-fn put_tables(words: &mut [u64], at: usize, width: usize, depths: usize, masks: &[u64])
-    requires { ⌜ (width ≤ 8) × (depths ≤ 9) × (1 ≤ at) × (at + width * (3 * depths) ≤ lengthOf (now words)) × (lengthOf (now masks) ≡ 216) ⌝ }
-    ensures { λ r. ⌜ now (words .exit) ≡ sets (now (words .entry)) (at - 1) (tablesPart width depths (tableIn (now (masks .entry)) 0) (tableIn (now (masks .entry)) 1) (tableIn (now (masks .entry)) 2)) ⌝ }
+// Three masks for each of the first depths, those of kind `first` and of the two after it.
+fn put_tables(
+    words: &mut [u64],
+    at: usize,
+    width: usize,
+    depths: usize,
+    first: usize,
+    masks: &[u64],
+)
+    requires { ⌜ (width ≤ 8) × (depths ≤ 9) × (1 ≤ at) × (at + width * (3 * depths) ≤ lengthOf (now words)) × (first < 11) × (lengthOf (now masks) ≡ 936) ⌝ }
+    ensures { λ r. ⌜ now (words .exit) ≡ sets (now (words .entry)) (at - 1) (tablesPart width depths (tableIn (now (masks .entry)) first) (tableIn (now (masks .entry)) (first + 1)) (tableIn (now (masks .entry)) (first + 2))) ⌝ }
 {
     words[at - 1] = (3 * width * depths) as u64;
     let mut k: usize = 0;
     while k < depths {
-        let block = row_of(masks, 3 * k);
-        let source = row_of(masks, 3 * k + 1);
-        let target = row_of(masks, 3 * k + 2);
+        let block = row_of(masks, 13 * k + first);
+        let source = row_of(masks, 13 * k + first + 1);
+        let target = row_of(masks, 13 * k + first + 2);
         put_three(words, at + 3 * width * k, width, block, source, target);
         k += 1;
     }
@@ -82,14 +95,14 @@ fn put_tables(words: &mut [u64], at: usize, width: usize, depths: usize, masks: 
 
 // "the back edges as two masks, source and target", for each of the first depths.
 fn put_back(words: &mut [u64], at: usize, width: usize, depths: usize, masks: &[u64])
-    requires { ⌜ (width ≤ 8) × (depths ≤ 9) × (1 ≤ at) × (at + width * (2 * depths) ≤ lengthOf (now words)) × (lengthOf (now masks) ≡ 216) ⌝ }
-    ensures { λ r. ⌜ now (words .exit) ≡ sets (now (words .entry)) (at - 1) (backPart width depths (tableIn (now (masks .entry)) 1) (tableIn (now (masks .entry)) 2)) ⌝ }
+    requires { ⌜ (width ≤ 8) × (depths ≤ 9) × (1 ≤ at) × (at + width * (2 * depths) ≤ lengthOf (now words)) × (lengthOf (now masks) ≡ 936) ⌝ }
+    ensures { λ r. ⌜ now (words .exit) ≡ sets (now (words .entry)) (at - 1) (backPart width depths (tableIn (now (masks .entry)) 11) (tableIn (now (masks .entry)) 12)) ⌝ }
 {
     words[at - 1] = (2 * width * depths) as u64;
     let mut k: usize = 0;
     while k < depths {
-        let source = row_of(masks, 3 * k + 1);
-        let target = row_of(masks, 3 * k + 2);
+        let source = row_of(masks, 13 * k + BACK_SOURCE);
+        let target = row_of(masks, 13 * k + BACK_TARGET);
         put_two(words, at + 2 * width * k, width, source, target);
         k += 1;
     }
@@ -101,25 +114,28 @@ pub fn put_image(
     tokens: [u64; 2555],
     tape: Tape,
     sections: Sections,
-    places: &[u64; 16],
-    scatters: &[u64; 216],
-    gathers: &[u64; 216],
-    propagates: &[u64; 216],
-    backs: &[u64; 216],
+    masks: &[u64; 936],
 )
     requires limits { ⌜ Within sections (sections .length) × (sections .letters ≡ lettersAt) × (sections .length ≤ lengthOf (now words)) × (tape .length < sections .states) ⌝ }
-    requires laid { ⌜ Laid tape (now places) (now scatters) (now gathers) (now propagates) (now backs) ⌝ }
+    requires laid { ⌜ Laid tape (now masks) ⌝ }
     ensures { λ r. ⌜ now (words .exit) ≡ sets (now (words .entry)) 0 (imageWords sections tokens tape) ⌝ }
 {
     let letters = sections.letters;
     let width = sections.width;
     let depth = sections.depth;
-    let loops = row_of(places, 1);
+    let loops = row_of(masks, LOOP_PLACE);
     put_shape(words, sections);
     put_letters(words, letters, width, &tokens, tape.length);
     put_repeats(words, letters, sections.repeats, width, loops);
-    put_tables(words, sections.scatter, width, depth, scatters);
-    put_tables(words, sections.gather, width, depth, gathers);
-    put_tables(words, sections.propagate, width, depth + 1, propagates);
-    put_back(words, sections.back, width, depth, backs);
+    put_tables(words, sections.scatter, width, depth, SCATTER_BLOCK, masks);
+    put_tables(words, sections.gather, width, depth, GATHER_BLOCK, masks);
+    put_tables(
+        words,
+        sections.propagate,
+        width,
+        depth + 1,
+        PROPAGATE_BLOCK,
+        masks,
+    );
+    put_back(words, sections.back, width, depth, masks);
 }

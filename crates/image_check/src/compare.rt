@@ -2,6 +2,12 @@
 use image_sections::Sections;
 use mask::bits::same_rows;
 use tokens_masks::Tape;
+use tokens_masks::plane::BACK_SOURCE;
+use tokens_masks::plane::GATHER_BLOCK;
+use tokens_masks::plane::LETTER_PLACE;
+use tokens_masks::plane::LOOP_PLACE;
+use tokens_masks::plane::PROPAGATE_BLOCK;
+use tokens_masks::plane::SCATTER_BLOCK;
 use tokens_masks::row_of;
 ghost use mathlib.Core.Path.{_≡_};
 ghost use mathlib.Core.Bool.{not};
@@ -35,8 +41,7 @@ fn repeats_differ(words: &[u64], sections: Sections, loops: [u64; 8]) -> bool
     differ
 }
 
-// Masks for each of the first depths, from a place on, with those laid out, of which there are three to a depth: `count` of them, from `first` on. By
-// depths, masks and words.
+// Masks for each of the first depths, from a place on, with those laid out: `count` kinds of them, from `first` on. By depths, masks and words.
 fn masks_differ(
     words: &[u64],
     at: usize,
@@ -46,7 +51,7 @@ fn masks_differ(
     count: usize,
     masks: &[u64],
 ) -> bool
-    requires { ⌜ (width ≤ 8) × (depths ≤ 9) × (first + count ≤ 3) × (at + count * width * depths ≤ lengthOf (now words)) × (lengthOf (now masks) ≡ 216) ⌝ }
+    requires { ⌜ (width ≤ 8) × (depths ≤ 9) × (first + count ≤ 13) × (at + count * width * depths ≤ lengthOf (now words)) × (lengthOf (now masks) ≡ 936) ⌝ }
     ensures { λ r. ⌜ r ≡ not (sameMasks (now (words .entry)) at width depths first count (now (masks .entry))) ⌝ }
 {
     let mut differ = false;
@@ -57,7 +62,7 @@ fn masks_differ(
             let mut j: usize = 0;
             while j < width {
                 if words[at + (count * k + which) * width + j]
-                    != masks[8 * (3 * k + first + which) + j]
+                    != masks[8 * (13 * k + first + which) + j]
                 {
                     differ = true;
                     break 'search;
@@ -77,30 +82,34 @@ pub fn agrees(
     sections: Sections,
     letters: [u64; 8],
     tape: Tape,
-    places: &[u64; 16],
-    scatters: &[u64; 216],
-    gathers: &[u64; 216],
-    propagates: &[u64; 216],
-    backs: &[u64; 216],
+    masks: &[u64; 936],
 ) -> bool
     requires shape { ⌜ Within sections (lengthOf (now words)) ⌝ }
-    requires laid { ⌜ Laid tape (now places) (now scatters) (now gathers) (now propagates) (now backs) ⌝ }
+    requires laid { ⌜ Laid tape (now masks) ⌝ }
     ensures { λ r. ⌜ r ≡ sameAll (now (words .entry)) sections letters tape ⌝ }
 {
     let width = sections.width;
     let depth = sections.depth;
-    let letter_places = row_of(places, 0);
+    let letter_places = row_of(masks, LETTER_PLACE);
     if !same_rows(letters, letter_places) {
         return false;
     }
-    let loop_places = row_of(places, 1);
+    let loop_places = row_of(masks, LOOP_PLACE);
     if repeats_differ(words, sections, loop_places) {
         return false;
     }
-    if masks_differ(words, sections.scatter, width, depth, 0, 3, scatters) {
+    if masks_differ(
+        words,
+        sections.scatter,
+        width,
+        depth,
+        SCATTER_BLOCK,
+        3,
+        masks,
+    ) {
         return false;
     }
-    if masks_differ(words, sections.gather, width, depth, 0, 3, gathers) {
+    if masks_differ(words, sections.gather, width, depth, GATHER_BLOCK, 3, masks) {
         return false;
     }
     if masks_differ(
@@ -108,11 +117,11 @@ pub fn agrees(
         sections.propagate,
         width,
         depth + 1,
-        0,
+        PROPAGATE_BLOCK,
         3,
-        propagates,
+        masks,
     ) {
         return false;
     }
-    !masks_differ(words, sections.back, width, depth, 1, 2, backs)
+    !masks_differ(words, sections.back, width, depth, BACK_SOURCE, 2, masks)
 }

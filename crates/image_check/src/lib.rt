@@ -49,19 +49,8 @@ pub fn check(words: &[u64]) -> Checked
         return refuse();
     };
     let tape = parts.tape;
-    let mut places = [0u64; 16];
-    let mut scatter = [0u64; 216];
-    let mut gather = [0u64; 216];
-    let mut propagate = [0u64; 216];
-    let mut back = [0u64; 216];
-    let shape = lay_out(
-        tape,
-        &mut places,
-        &mut scatter,
-        &mut gather,
-        &mut propagate,
-        &mut back,
-    );
+    let mut masks = [0u64; 936];
+    let shape = lay_out(tape, &mut masks);
     let Shape::Tree(deepest) = shape else {
         return refuse();
     };
@@ -69,17 +58,7 @@ pub fn check(words: &[u64]) -> Checked
         return refuse();
     }
     let letters = parts.letters;
-    if !agrees(
-        words,
-        sections,
-        letters,
-        tape,
-        &places,
-        &scatter,
-        &gather,
-        &propagate,
-        &back,
-    ) {
+    if !agrees(words, sections, letters, tape, &masks) {
         return refuse();
     }
     Checked {

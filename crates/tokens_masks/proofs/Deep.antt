@@ -16,7 +16,7 @@ use Rattle.tokens_masks.proofs.Within.{close-all, letter-all}
 
 -- the masks of unions, by the kinds' numbers: scatter's, gather's and the back edges'
 abbrev ofUnionAt : ℕ → Bool
-ofUnionAt n = (leb 3 n && ltb n 9) || leb 12 n
+ofUnionAt n = (leb 2 n && ltb n 8) || leb 11 n
 
 abbrev pub ofUnion : Which → Bool
 ofUnion w = ofUnionAt (number w)

@@ -1,4 +1,5 @@
--- PROPAGATE'S MASKS JOINED WORD BY WORD: the words before word n of the nine depths' masks are joined, those from n on are as they were.
+-- PROPAGATE'S MASKS JOINED WORD BY WORD: the words before word n of the nine depths' masks are joined, those from n on are as they were, and so are all
+-- words of other masks.
 use mathlib.Core.Path.{_≡_, refl, sym, ap, ap₂, _∙_}
 use mathlib.Core.List.{List, []}
 use Prim.Native.Nat.{ℕ, _+_, _*_, _/_, _%_, _≤_, _<_}
@@ -16,7 +17,7 @@ use Rattle.tokens_masks.proofs.Joins.{joined-at, length-joined}
 
 -- where word n of the blocks stands; the sources are 8 words after it, the targets 16
 abbrev pub at : ℕ → ℕ
-at n = 24 * (n / 8) + n % 8
+at n = 8 * (13 * (n / 8) + 8) + n % 8
 
 -- word n of the three masks is joined; it is as it was
 pub record Now (r ms : List ℕ) (n : ℕ) : Type 0 where
@@ -28,13 +29,18 @@ pub record Still (r ms : List ℕ) (n : ℕ) : Type 0 where
   pub source : getD ms (at n + 8) 0 ≡ getD r (at n + 8) 0
   pub target : getD ms (at n + 16) 0 ≡ getD r (at n + 16) 0
 
+-- a word of other masks
+abbrev Elsewhere : ℕ → Type 0
+Elsewhere x = (m i : ℕ) → i < 3 → x ≡ at m + 8 * i → ⊥
+
 pub record Joining (r : List ℕ) (n : ℕ) (ms : List ℕ) : Type 0 where
-  pub long : length ms ≡ 216
+  pub long : length ms ≡ 936
+  pub others : (x : ℕ) → Elsewhere x → getD ms x 0 ≡ getD r x 0
   pub done : (m : ℕ) → m < n → Now r ms m
   pub todo : (m : ℕ) → n ≤ m → m < 72 → Still r ms m
 
-pub joining-begin : (r : List ℕ) → length r ≡ 216 → Joining r 0 r
-joining-begin r l = record { long = l; done = λ m h. absurd (not-suc-le-zero h); todo = λ m h k. record { source = refl; target = refl } }
+pub joining-begin : (r : List ℕ) → length r ≡ 936 → Joining r 0 r
+joining-begin r l = record { long = l; others = λ x E. refl; done = λ m h. absurd (not-suc-le-zero h); todo = λ m h k. record { source = refl; target = refl } }
 
 -- ---- three words stored
 module _ (ms : List ℕ) (a u v w : ℕ) (fits : a + 16 < length ms) where
@@ -98,6 +104,7 @@ module _ {r : List ℕ} {n : ℕ} {ms : List ℕ} (J : Joining r n ms) (h : n < 
   pub joining-step : Joining r (n + 1) next
   joining-step = record {
     long = stored-long ms (at n) (joinWord Either l e) (joinWord Only l e) (joinWord Only e l) fits ∙ J .long;
+    others = λ x E. same x (λ q. E n 0 (omega arith) (omega arith)) (λ q. E n 1 (omega arith) (omega arith)) (λ q. E n 2 (omega arith) (omega arith)) ∙ J .others x E;
     done =
         below-more (Now r next) n
         (λ m k. let N = J .done m k in
@@ -116,64 +123,79 @@ module _ {r : List ℕ} {n : ℕ} {ms : List ℕ} (J : Joining r n ms) (h : n < 
   }
 
 -- ---- the tables
-module _ (r ms : List ℕ) (lr : length r ≡ 216) (lm : length ms ≡ 216) (J : Join) (i u v : ℕ) (hi : i < 3) (hu : u < 3) (hv : v < 3)
-    (words : (m : ℕ) → m < 72 → getD ms (at m + 8 * i) 0 ≡ joinWord J (getD r (at m + 8 * u) 0) (getD r (at m + 8 * v) 0)) where
-  word : (k j : ℕ) → k < 9 → j < 8 → getD ms (8 * (3 * k + i) + j) 0 ≡ joinWord J (getD r (8 * (3 * k + u) + j) 0) (getD r (8 * (3 * k + v) + j) 0)
-  word k j hk hj =
-      ap (λ (x : ℕ). getD ms x 0) (here i)
-      ∙ words (8 * k + j) (omega arith)
-      ∙ ap₂ (λ (x y : ℕ). joinWord J (getD r x 0) (getD r y 0)) (sym (here u)) (sym (here v))
+module _ (r ms : List ℕ) (lr : length r ≡ 936) (lm : length ms ≡ 936) where
+  module _ (J : Join) (i u v : ℕ) (hi : i < 3) (hu : u < 3) (hv : v < 3)
+      (words : (m : ℕ) → m < 72 → getD ms (at m + 8 * i) 0 ≡ joinWord J (getD r (at m + 8 * u) 0) (getD r (at m + 8 * v) 0)) where
+    row : (k : ℕ) → k < 9 → rowIn ms (13 * k + (8 + i)) ≡ eachWord (joinWord J) (rowIn r (13 * k + (8 + u))) (rowIn r (13 * k + (8 + v)))
+    row k hk =
+        ext-getD 0 (rowIn ms (13 * k + (8 + i))) (eachWord (joinWord J) a b) (long-m ∙ sym (each-length (joinWord J) a b (long-a ∙ sym long-b) ∙ long-a))
+        (λ j h. go j (omega (arith, long-m)))
+      where
+        a : List ℕ
+        a = rowIn r (13 * k + (8 + u))
+
+        b : List ℕ
+        b = rowIn r (13 * k + (8 + v))
+
+        long-m : length (rowIn ms (13 * k + (8 + i))) ≡ 8
+        long-m = row-long ms (13 * k + (8 + i)) (omega arith)
+
+        long-a : length a ≡ 8
+        long-a = row-long r (13 * k + (8 + u)) (omega arith)
+
+        long-b : length b ≡ 8
+        long-b = row-long r (13 * k + (8 + v)) (omega arith)
+
+        here : (x j : ℕ) → j < 8 → 8 * (13 * k + (8 + x)) + j ≡ at (8 * k + j) + 8 * x
+        here x j h = omega arith
+
+        go : (j : ℕ) → j < 8 → getD (rowIn ms (13 * k + (8 + i))) j 0 ≡ getD (eachWord (joinWord J) a b) j 0
+        go j h =
+            row-word ms (13 * k + (8 + i)) j h
+            ∙ ap (λ (x : ℕ). getD ms x 0) (here i j h)
+            ∙ words (8 * k + j) (omega arith)
+            ∙ ap₂ (λ (x y : ℕ). joinWord J (getD r x 0) (getD r y 0)) (sym (here u j h)) (sym (here v j h))
+            ∙ ap₂ (joinWord J) (sym (row-word r (13 * k + (8 + u)) j h)) (sym (row-word r (13 * k + (8 + v)) j h))
+            ∙ each-at (joinWord J) a b j (long-a ∙ sym long-b) (omega (arith, long-a))
+
+    joined-table : tableIn ms (8 + i) ≡ joinTables J (tableIn r (8 + u)) (tableIn r (8 + v))
+    joined-table =
+        ext-getD [] (tableIn ms (8 + i)) (joinTables J (tableIn r (8 + u)) (tableIn r (8 + v)))
+        (table-long ms (8 + i) ∙ sym (length-joined J (tableIn r (8 + u)) (tableIn r (8 + v)) same ∙ table-long r (8 + u)))
+        (λ k h. go k (omega (arith, table-long ms (8 + i))))
+      where
+        same : length (tableIn r (8 + u)) ≡ length (tableIn r (8 + v))
+        same = table-long r (8 + u) ∙ sym (table-long r (8 + v))
+
+        go : (k : ℕ) → k < 9 → getD (tableIn ms (8 + i)) k [] ≡ getD (joinTables J (tableIn r (8 + u)) (tableIn r (8 + v))) k []
+        go k h =
+            table-row ms (8 + i) k h
+            ∙ row k h
+            ∙ ap₂ (eachWord (joinWord J)) (sym (table-row r (8 + u) k h)) (sym (table-row r (8 + v) k h))
+            ∙ joined-at J (tableIn r (8 + u)) (tableIn r (8 + v)) k same (omega (arith, table-long r (8 + u)))
+
+  same-table : ((x : ℕ) → Elsewhere x → getD ms x 0 ≡ getD r x 0) → (i : ℕ) → i < 13 → ((c : ℕ) → c < 3 → i ≡ 8 + c → ⊥) → tableIn ms i ≡ tableIn r i
+  same-table others i hi d =
+      ext-getD [] (tableIn ms i) (tableIn r i) (table-long ms i ∙ sym (table-long r i)) (λ k h. go k (omega (arith, table-long ms i)))
     where
-      here : (x : ℕ) → 8 * (3 * k + x) + j ≡ at (8 * k + j) + 8 * x
-      here x = omega arith
+      away : (k j : ℕ) → j < 8 → Elsewhere (8 * (13 * k + i) + j)
+      away k j hj m c hc q = d c hc (omega arith)
 
-  row : (k : ℕ) → k < 9 → rowIn ms (3 * k + i) ≡ eachWord (joinWord J) (rowIn r (3 * k + u)) (rowIn r (3 * k + v))
-  row k hk =
-      ext-getD 0 (rowIn ms (3 * k + i)) (eachWord (joinWord J) a b) (long-m ∙ sym (each-length (joinWord J) a b (long-a ∙ sym long-b) ∙ long-a))
-      (λ j h. go j (omega (arith, long-m)))
-    where
-      a : List ℕ
-      a = rowIn r (3 * k + u)
-
-      b : List ℕ
-      b = rowIn r (3 * k + v)
-
-      long-m : length (rowIn ms (3 * k + i)) ≡ 8
-      long-m = row-long ms (3 * k + i) (omega arith)
-
-      long-a : length a ≡ 8
-      long-a = row-long r (3 * k + u) (omega arith)
-
-      long-b : length b ≡ 8
-      long-b = row-long r (3 * k + v) (omega arith)
-
-      go : (j : ℕ) → j < 8 → getD (rowIn ms (3 * k + i)) j 0 ≡ getD (eachWord (joinWord J) a b) j 0
-      go j h =
-          row-word ms (3 * k + i) j h
-          ∙ word k j hk h
-          ∙ ap₂ (joinWord J) (sym (row-word r (3 * k + u) j h)) (sym (row-word r (3 * k + v) j h))
-          ∙ each-at (joinWord J) a b j (long-a ∙ sym long-b) (omega (arith, long-a))
-
-  joined-table : tableIn ms i ≡ joinTables J (tableIn r u) (tableIn r v)
-  joined-table =
-      ext-getD [] (tableIn ms i) (joinTables J (tableIn r u) (tableIn r v))
-      (table-long ms i ∙ sym (length-joined J (tableIn r u) (tableIn r v) same ∙ table-long r u)) (λ k h. go k (omega (arith, table-long ms i)))
-    where
-      same : length (tableIn r u) ≡ length (tableIn r v)
-      same = table-long r u ∙ sym (table-long r v)
-
-      go : (k : ℕ) → k < 9 → getD (tableIn ms i) k [] ≡ getD (joinTables J (tableIn r u) (tableIn r v)) k []
+      go : (k : ℕ) → k < 9 → getD (tableIn ms i) k [] ≡ getD (tableIn r i) k []
       go k h =
+          let long-m = row-long ms (13 * k + i) (omega arith) in
           table-row ms i k h
-          ∙ row k h
-          ∙ ap₂ (eachWord (joinWord J)) (sym (table-row r u k h)) (sym (table-row r v k h))
-          ∙ joined-at J (tableIn r u) (tableIn r v) k same (omega (arith, table-long r u))
+          ∙ ext-getD 0 (rowIn ms (13 * k + i)) (rowIn r (13 * k + i)) (long-m ∙ sym (row-long r (13 * k + i) (omega arith)))
+          (λ j l. let hj : j < 8 = omega (arith, long-m) in row-word ms (13 * k + i) j hj ∙ others (8 * (13 * k + i) + j) (away k j hj) ∙ sym (row-word r (13 * k + i) j hj))
+          ∙ sym (table-row r i k h)
 
-pub joining-end : {r : List ℕ} {n : ℕ} {ms : List ℕ} → length r ≡ 216 → Joining r n ms → 72 ≤ n → Joined r ms
+pub joining-end : {r : List ℕ} {n : ℕ} {ms : List ℕ} → length r ≡ 936 → Joining r n ms → 72 ≤ n → Joined r ms
 joining-end {r} {n} {ms} l J h = record {
   block =
       joined-table r ms l (J .long) Either 0 1 2 (omega arith) (omega arith) (omega arith)
       (λ m k. ap (λ (x : ℕ). getD ms x 0) (let z : at m + 8 * 0 ≡ at m = omega arith in z) ∙ J .done m (omega arith) .block);
   source = joined-table r ms l (J .long) Only 1 1 2 (omega arith) (omega arith) (omega arith) (λ m k. J .done m (omega arith) .source);
   target = joined-table r ms l (J .long) Only 2 2 1 (omega arith) (omega arith) (omega arith) (λ m k. J .done m (omega arith) .target);
+  below = λ i k. same-table r ms l (J .long) (J .others) i (omega arith) (λ c hc q. omega arith);
+  above = λ i k m. same-table r ms l (J .long) (J .others) i m (λ c hc q. omega arith);
 }

@@ -4,6 +4,7 @@ use mathlib.Core.Path.{_≡_, refl, sym, ap, ap₂, _∙_, subst}
 use mathlib.Core.Bool.{Bool, false, _&&_, _||_, cond, not}
 use mathlib.Core.List.{List, []}
 use Prim.Native.Nat.{ℕ, zero, suc, _+_, _*_, _≤_, _<_}
+use native.Mathlib.Nat.{zero-add}
 use native.Mathlib.Omega.{arith}
 use lib.Dec.{T, le→leb, leb}
 use lib.ListN.{getD, length, replicate}
@@ -31,7 +32,7 @@ use Rattle.model.proofs.Laws.Bool.{and-both, is-not, is-true}
 use Rattle.model.proofs.Laws.Trees.{NonEmpty}
 use Rattle.model.proofs.Reading.WellFormed.{rule-well}
 use Rattle.tokens_masks.specs.Joins.{Either, joinTables, Only}
-use Rattle.tokens_masks.specs.Masks.{Joined, placesIn}
+use Rattle.tokens_masks.specs.Masks.{Joined, rowIn, tableIn}
 use Rattle.tokens_masks.specs.Says.{Laid, LettersSay, LoopsSay, MasksSay, PropagateSays, TreeOnTape, UnionsSay}
 use Rattle.tokens_masks.specs.Tables.{Table}
 use Rattle.tokens_masks.specs.Tapes.{bares, isTree, Kinds, propagateBlockTable, propagateSourceTable, propagateTargetTable, shapeOf, tableOf, tokensOf}
@@ -39,6 +40,7 @@ use Rattle.tokens_masks.specs.declared.Shape.the-variants.{Other, Tree}
 use Rattle.tokens_masks.specs.declared.Tape.{Tape}
 use Rattle.tokens_masks.proofs.Bare.{bares-lay, bares-length, bares-reach, bares-valid}
 use Rattle.tokens_masks.proofs.Deep.{deep, ofUnion}
+use Rattle.tokens_masks.proofs.InWords.{table-row}
 use Rattle.tokens_masks.proofs.Painted.{propagate-block-is, propagate-source-is, propagate-target-is, row-is}
 
 -- no state
@@ -235,25 +237,28 @@ pub loops-say : (t : Tape) → LoopsSay t (getD (tableOf t loop-place) 0 [])
 loops-say t s O = loops-row s t O
 
 -- LAY OUT: the words hold what is laid out, and that is what document 01 puts there
-pub laid-of : {t : Tape} {p s g r b r′ : List ℕ} → Kinds t p s g r b → Joined r r′ → Laid t p s g r′ b
-unfolding placesIn
-laid-of K J = record {
-  letter-places = ap (λ (a : Table). getD a 0 []) (K .held letter-place);
-  loop-places = ap (λ (a : Table). getD a 0 []) (K .held loop-place);
-  scatter-blocks = K .held scatter-block;
-  scatter-sources = K .held scatter-source;
-  scatter-targets = K .held scatter-target;
-  gather-blocks = K .held gather-block;
-  gather-sources = K .held gather-source;
-  gather-targets = K .held gather-target;
+pub laid-of : {t : Tape} {ms ms′ : List ℕ} → Kinds t ms → Joined ms ms′ → Laid t ms′
+laid-of {t} {ms} {ms′} K J = record {
+  letter-places = first 0 letter-place (J .below 0 (omega arith) ∙ K .held letter-place);
+  loop-places = first 1 loop-place (J .below 1 (omega arith) ∙ K .held loop-place);
+  scatter-blocks = J .below 2 (omega arith) ∙ K .held scatter-block;
+  scatter-sources = J .below 3 (omega arith) ∙ K .held scatter-source;
+  scatter-targets = J .below 4 (omega arith) ∙ K .held scatter-target;
+  gather-blocks = J .below 5 (omega arith) ∙ K .held gather-block;
+  gather-sources = J .below 6 (omega arith) ∙ K .held gather-source;
+  gather-targets = J .below 7 (omega arith) ∙ K .held gather-target;
   propagate-blocks = J .block ∙ ap₂ (joinTables Either) (K .held leaving) (K .held entering);
   propagate-sources = J .source ∙ ap₂ (joinTables Only) (K .held leaving) (K .held entering);
   propagate-targets = J .target ∙ ap₂ (joinTables Only) (K .held entering) (K .held leaving);
-  back-sources = K .held back-source;
-  back-targets = K .held back-target;
+  back-sources = J .above 11 (omega arith) (omega arith) ∙ K .held back-source;
+  back-targets = J .above 12 (omega arith) (omega arith) ∙ K .held back-target;
 }
+  where
+    -- row 0 of a table
+    first : (i : ℕ) (w : Which) → tableIn ms′ i ≡ tableOf t w → rowIn ms′ i ≡ getD (tableOf t w) 0 []
+    first i w e = sym (table-row ms′ i 0 (omega arith) ∙ ap (rowIn ms′) (zero-add i)) ∙ ap (λ (a : Table). getD a 0 []) e
 
-pub masks-say : {t : Tape} {p s g r b : List ℕ} → Laid t p s g r b → MasksSay t p s g r b
+pub masks-say : {t : Tape} {ms : List ℕ} → Laid t ms → MasksSay t ms
 masks-say {t} L = record {
   letter-places = subst (LettersSay t) (sym (L .letter-places)) (letters-say t);
   loop-places = subst (LoopsSay t) (sym (L .loop-places)) (loops-say t);

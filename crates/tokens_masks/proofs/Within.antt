@@ -1,5 +1,4 @@
 -- The strokes of a token before a state below 511 lie within nine rows of 512 states, in every sane scan.
-use mathlib.Core.Path.{_≡_, refl}
 use mathlib.Core.Bool.{Bool, true, false, cond}
 use mathlib.Core.List.{List, [], _∷_, _++_}
 use Prim.Native.Nat.{ℕ, suc, _≤_, _<_}
@@ -7,7 +6,7 @@ use native.Mathlib.Omega.{arith}
 use lib.ListN.{length}
 use Rattle.model.specs.Lists.{All}
 use Rattle.model.specs.Tree.{canLoop, canOmit, canReturn, canSkip, Mark, Repeat}
-use Rattle.model.specs.Models.LayOut.{back-source, back-target, backStrokes, barStrokesIn, closeStrokes, closeStrokesIn, endStrokes, entering, Frame, gather-source, gather-target, leaving, letter-place, letterStrokes, loop-place, number, oneState, propagateStrokes, Scan, scatter-block, scatter-source, scatter-target, Stroke, strokes, Which}
+use Rattle.model.specs.Models.LayOut.{back-source, back-target, backStrokes, barStrokesIn, closeStrokes, closeStrokesIn, endStrokes, entering, Frame, gather-source, gather-target, leaving, letter-place, letterStrokes, loop-place, oneState, propagateStrokes, Scan, scatter-source, scatter-target, Stroke, strokes, Which}
 use Rattle.model.specs.Models.Tokens.{aBar, aClose, aLetter, anOpen, Token}
 use Rattle.model.proofs.Laws.Lists.{all-app}
 use Rattle.tokens.specs.Scans.{Behind, Sane}
@@ -33,38 +32,22 @@ module _ (Q : Stroke → Type 0) where
       all-app Q (endStrokes f z d) (cond (canOmit m) os [] ++ cond (canReturn m) bs []) ends
       (all-app Q (cond (canOmit m) os []) (cond (canReturn m) bs []) (all-if (canOmit m) os over) (all-if (canReturn m) bs back))
 
--- letter and loop places have row 0 alone
-pub record Within (s : Stroke) : Type 0 where
-  pub row : s .row < 9
-  pub to : s .to ≤ 512
-  pub flat : number (s .which) < 3 → (number (s .which) < 2) × (s .row ≡ 0)
+abbrev pub Within : Stroke → Type 0
+Within s = (s .row < 9) × (s .to ≤ 512)
 
-place-within : (w : Which) (x : ℕ) → number w < 2 → x < 512 → Within (oneState w 0 x)
-place-within w x h l = record { row = omega arith; to = l; flat = λ n. (h, refl) }
-
--- at depth d
-module _ (d : ℕ) (hd : d < 9) where
-  one-within : (w : Which) (x : ℕ) → 2 < number w → x < 512 → Within (oneState w d x)
-  one-within w x h l = record { row = hd; to = l; flat = λ n. absurd (omega arith) }
-
-  two-within : (u w : Which) (x y : ℕ) → 2 < number u → 2 < number w → x < 512 → y < 512 → All Within (oneState u d x ∷ oneState w d y ∷ [])
-  two-within u w x y hu hw hx hy = (one-within u x hu hx, (one-within w y hw hy, tt))
-
-  end-within : (f : Frame) (z : ℕ) → z < 511 → f .alternative ≤ z → All Within (endStrokes f z d)
-  end-within f z h a = (
-    one-within scatter-block (suc (f .alternative)) (omega arith) (omega arith),
-    (record { row = hd; to = omega arith; flat = λ n. absurd (omega arith) }, two-within gather-source gather-target z (suc z) (omega arith) (omega arith) (omega arith) (omega arith)),
-  )
+-- two states of one depth
+two-within : (u w : Which) (d x y : ℕ) → d < 9 → x < 512 → y < 512 → All Within (oneState u d x ∷ oneState w d y ∷ [])
+two-within u w d x y hd hx hy = ((hd, hx), ((hd, hy), tt))
 
 -- EVERY TOKEN'S STROKES LIE WITHIN
 pub strokes-within : (y : Token) (q : Scan) → Sane q → q .position < 511 → All Within (strokes y q)
 strokes-within (aLetter c r) q S h =
     let t = q .position in
-    letter-all Within r t (length (q .stack)) (place-within letter-place (suc t) (omega arith) (omega arith)) (place-within loop-place (suc t) (omega arith) (omega arith))
-    (two-within (length (q .stack)) (omega (arith, S .shallow)) leaving entering t (suc t) (omega arith) (omega arith) (omega arith) (omega arith))
+    letter-all Within r t (length (q .stack)) (omega arith) (omega arith)
+    (two-within leaving entering (length (q .stack)) t (suc t) (omega (arith, S .shallow)) (omega arith) (omega arith))
 strokes-within anOpen q S h =
     let t = q .position in
-    two-within (length (q .stack)) (omega (arith, S .shallow)) scatter-source scatter-target t (suc t) (omega arith) (omega arith) (omega arith) (omega arith)
+    two-within scatter-source scatter-target (length (q .stack)) t (suc t) (omega (arith, S .shallow)) (omega arith) (omega arith)
 strokes-within aBar q S h = go (q .stack) (S .shallow)
   where
     z : ℕ
@@ -72,7 +55,7 @@ strokes-within aBar q S h = go (q .stack) (S .shallow)
 
     go : (st : List Frame) → length st ≤ 8 → All Within (barStrokesIn z st)
     go [] l = tt
-    go (f ∷ st) l = two-within (length st) (omega arith) scatter-target gather-source (suc z) z (omega arith) (omega arith) (omega arith) (omega arith)
+    go (f ∷ st) l = two-within scatter-target gather-source (length st) (suc z) z (omega arith) (omega arith) (omega arith)
 strokes-within (aClose m) q S h = go (q .stack) (S .behind) (S .shallow)
   where
     z : ℕ
@@ -83,6 +66,6 @@ strokes-within (aClose m) q S h = go (q .stack) (S .behind) (S .shallow)
     go (f ∷ st) B l =
         let d = length st in
         let hd : d < 9 = omega arith in
-        close-all Within m f z d (end-within d hd f z h (B .2))
-        (two-within d hd leaving entering (f .start) (suc z) (omega arith) (omega arith) (omega (arith, B .0)) (omega arith))
-        (two-within d hd back-source back-target z (suc (f .start)) (omega arith) (omega arith) (omega arith) (omega (arith, B .0)))
+        close-all Within m f z d ((hd, omega (arith, B .2)), ((hd, omega arith), two-within gather-source gather-target d z (suc z) hd (omega arith) (omega arith)))
+        (two-within leaving entering d (f .start) (suc z) hd (omega (arith, B .0)) (omega arith))
+        (two-within back-source back-target d z (suc (f .start)) hd (omega arith) (omega (arith, B .0)))

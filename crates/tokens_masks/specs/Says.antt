@@ -53,34 +53,34 @@ LettersSay t row = (s : tree.Tree) → TreeOnTape s t → row ≡ words 8 (mask 
 abbrev pub LoopsSay : Tape → List ℕ → Type 0
 LoopsSay t row = (s : tree.Tree) → TreeOnTape s t → (b x : ℕ) → x < states s → (letters s b x && bit (value row) x) ≡ repeats s b x
 
--- LAY OUT SAYS, of the words of letter and loop places, of scatter's, gather's, propagate's and the back edges' masks: what it computes
-pub record Laid (t : Tape) (p s g r b : List ℕ) : Type 0 where
-  pub letter-places : rowIn p 0 ≡ getD (tableOf t letter-place) 0 []
-  pub loop-places : rowIn p 1 ≡ getD (tableOf t loop-place) 0 []
-  pub scatter-blocks : tableIn s 0 ≡ tableOf t scatter-block
-  pub scatter-sources : tableIn s 1 ≡ tableOf t scatter-source
-  pub scatter-targets : tableIn s 2 ≡ tableOf t scatter-target
-  pub gather-blocks : tableIn g 0 ≡ tableOf t gather-block
-  pub gather-sources : tableIn g 1 ≡ tableOf t gather-source
-  pub gather-targets : tableIn g 2 ≡ tableOf t gather-target
-  pub propagate-blocks : tableIn r 0 ≡ propagateBlockTable t
-  pub propagate-sources : tableIn r 1 ≡ propagateSourceTable t
-  pub propagate-targets : tableIn r 2 ≡ propagateTargetTable t
-  pub back-sources : tableIn b 1 ≡ tableOf t back-source
-  pub back-targets : tableIn b 2 ≡ tableOf t back-target
+-- LAY OUT SAYS, of the words of all masks: what it computes
+pub record Laid (t : Tape) (ms : List ℕ) : Type 0 where
+  pub letter-places : rowIn ms 0 ≡ getD (tableOf t letter-place) 0 []
+  pub loop-places : rowIn ms 1 ≡ getD (tableOf t loop-place) 0 []
+  pub scatter-blocks : tableIn ms 2 ≡ tableOf t scatter-block
+  pub scatter-sources : tableIn ms 3 ≡ tableOf t scatter-source
+  pub scatter-targets : tableIn ms 4 ≡ tableOf t scatter-target
+  pub gather-blocks : tableIn ms 5 ≡ tableOf t gather-block
+  pub gather-sources : tableIn ms 6 ≡ tableOf t gather-source
+  pub gather-targets : tableIn ms 7 ≡ tableOf t gather-target
+  pub propagate-blocks : tableIn ms 8 ≡ propagateBlockTable t
+  pub propagate-sources : tableIn ms 9 ≡ propagateSourceTable t
+  pub propagate-targets : tableIn ms 10 ≡ propagateTargetTable t
+  pub back-sources : tableIn ms 11 ≡ tableOf t back-source
+  pub back-targets : tableIn ms 12 ≡ tableOf t back-target
 
 -- and, of the tape of a rule's tree, that it is what documents 01 and 02 put there
-pub record MasksSay (t : Tape) (p s g r b : List ℕ) : Type 0 where
-  pub letter-places : LettersSay t (rowIn p 0)
-  pub loop-places : LoopsSay t (rowIn p 1)
-  pub scatter-blocks : UnionsSay scatterBlock t (tableIn s 0)
-  pub scatter-sources : UnionsSay scatterSource t (tableIn s 1)
-  pub scatter-targets : UnionsSay scatterTarget t (tableIn s 2)
-  pub gather-blocks : UnionsSay gatherBlock t (tableIn g 0)
-  pub gather-sources : UnionsSay gatherSource t (tableIn g 1)
-  pub gather-targets : UnionsSay gatherTarget t (tableIn g 2)
-  pub propagate-blocks : PropagateSays propagateBlock t (tableIn r 0)
-  pub propagate-sources : PropagateSays propagateSource t (tableIn r 1)
-  pub propagate-targets : PropagateSays propagateTarget t (tableIn r 2)
-  pub back-sources : UnionsSay backSource t (tableIn b 1)
-  pub back-targets : UnionsSay backTarget t (tableIn b 2)
+pub record MasksSay (t : Tape) (ms : List ℕ) : Type 0 where
+  pub letter-places : LettersSay t (rowIn ms 0)
+  pub loop-places : LoopsSay t (rowIn ms 1)
+  pub scatter-blocks : UnionsSay scatterBlock t (tableIn ms 2)
+  pub scatter-sources : UnionsSay scatterSource t (tableIn ms 3)
+  pub scatter-targets : UnionsSay scatterTarget t (tableIn ms 4)
+  pub gather-blocks : UnionsSay gatherBlock t (tableIn ms 5)
+  pub gather-sources : UnionsSay gatherSource t (tableIn ms 6)
+  pub gather-targets : UnionsSay gatherTarget t (tableIn ms 7)
+  pub propagate-blocks : PropagateSays propagateBlock t (tableIn ms 8)
+  pub propagate-sources : PropagateSays propagateSource t (tableIn ms 9)
+  pub propagate-targets : PropagateSays propagateTarget t (tableIn ms 10)
+  pub back-sources : UnionsSay backSource t (tableIn ms 11)
+  pub back-targets : UnionsSay backTarget t (tableIn ms 12)

@@ -6,11 +6,11 @@ use Prim.Native.Nat.{ℕ, suc, max}
 use lib.Dec.{leb, T}
 use lib.ListN.{length, take}
 use Rattle.model.specs.Tree as tree
-use Rattle.model.specs.Models.LayOut.{begin, entering, leaving, reach, valid, Which}
+use Rattle.model.specs.Models.LayOut.{begin, entering, leaving, number, reach, valid, Which}
 use Rattle.model.specs.Models.Tokens.{aBar, aClose, aLetter, anOpen}
 use Rattle.model.specs.Models.Tokens as model
 use Rattle.tokens_masks.specs.Joins.{Either, joinTables, Only}
-use Rattle.tokens_masks.specs.Masks.{heldIn, Sized}
+use Rattle.tokens_masks.specs.Masks.{tableIn}
 use Rattle.tokens_masks.specs.Tables.{blank, paintAll, Table}
 use Rattle.tokens.specs.Kinds.{readKind}
 use Rattle.tokens.specs.Tokens.{bare, tokenOf}
@@ -65,10 +65,10 @@ abbrev pub propagateTargetTable : Tape → Table
 propagateTargetTable t = joinTables Only (tableOf t entering) (tableOf t leaving)
 
 -- the words hold what is laid out, before propagate's masks are joined; if the tape is a tree's, whatever else it is
-pub record Kinds (t : Tape) (p s g r b : List ℕ) : Type 0 where
-  pub sized : Sized p s g r b
-  pub held : (w : Which) → heldIn p s g r b w ≡ tableOf t w
+pub record Kinds (t : Tape) (ms : List ℕ) : Type 0 where
+  pub long : length ms ≡ 936
+  pub held : (w : Which) → tableIn ms (number w) ≡ tableOf t w
 
-pub record ScanLays (t : Tape) (p s g r b : List ℕ) : Type 0 where
-  pub sized : Sized p s g r b
-  pub held : T (isTree t) → (w : Which) → heldIn p s g r b w ≡ tableOf t w
+pub record ScanLays (t : Tape) (ms : List ℕ) : Type 0 where
+  pub long : length ms ≡ 936
+  pub held : T (isTree t) → (w : Which) → tableIn ms (number w) ≡ tableOf t w

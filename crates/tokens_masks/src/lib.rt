@@ -1,12 +1,13 @@
 // A tree as its tape, and lay out: from the tape to the masks of scatter, gather, propagate and back edges for each depth.
 //
 // A tree with m states is a row of m - 1 tokens, one between each two neighbouring states. One scan over them, from left to right, knows all that
-// the masks need: the crate `tokens` has the tokens and what is known before each, `stroke` the places that one token marks, `masks` the masks.
+// the masks need: the crate `tokens` has the tokens and what is known before each, `stroke` the strokes of one token, `masks` the masks.
 
 mod masks;
+pub mod plane;
 mod stroke;
 
-use crate::masks::blank_all;
+use crate::masks::blank;
 use crate::masks::join_propagate;
 use crate::stroke::mark_token;
 use tokens::begin_scan;
@@ -19,7 +20,8 @@ use tokens::step_over;
 use tokens::token::Token;
 ghost use mathlib.Core.Path.{_≡_};
 ghost use Prim.Native.Nat.{_<_, max};
-ghost use Rattle.tokens_masks.specs.Masks.{Blank, RowSays, Sized};
+ghost use lib.ListN.{length};
+ghost use Rattle.tokens_masks.specs.Masks.{Blank, RowSays};
 ghost use Rattle.tokens_masks.specs.Says.{Laid, MasksSay, ShapeSays};
 ghost use Rattle.tokens_masks.specs.Tapes.{deeperBy, Kinds, ScanLays, shapeOf};
 ghost use Rattle.tokens.specs.Tokens.{tokenOf};
@@ -56,17 +58,10 @@ fn deeper(deepest: usize, depth: usize, token: Token) -> usize
 }
 
 // The scan over the whole tape, which marks what each token marks.
-fn scan_tape(
-    tape: Tape,
-    places: &mut [u64],
-    scatter: &mut [u64],
-    gather: &mut [u64],
-    propagate: &mut [u64],
-    back: &mut [u64],
-) -> Shape
-    requires { ⌜ Blank (now places) (now scatter) (now gather) (now propagate) (now back) ⌝ }
+fn scan_tape(tape: Tape, masks: &mut [u64]) -> Shape
+    requires { ⌜ Blank (now masks) ⌝ }
     ensures shape { λ r. ⌜ r ≡ shapeOf tape ⌝ }
-    ensures masks { λ r. ⌜ ScanLays tape (now (places .exit)) (now (scatter .exit)) (now (gather .exit)) (now (propagate .exit)) (now (back .exit)) ⌝ }
+    ensures masks { λ r. ⌜ ScanLays tape (now (masks .exit)) ⌝ }
 {
     let kinds = tape.kinds;
     let length = tape.length;
@@ -85,7 +80,7 @@ fn scan_tape(
         if !fits(scan, frame, token) {
             return Shape::Other;
         }
-        mark_token(places, scatter, gather, propagate, back, scan, frame, token);
+        mark_token(masks, scan, frame, token);
         let d = deeper(deepest, scan.depth, token);
         deepest = d;
         let next = step_over(scan, frame, token);
@@ -104,43 +99,29 @@ fn scan_tape(
 }
 
 // What is marked for the tape. Where it is not a tree's, no mask has a state.
-fn lay_kinds(
-    tape: Tape,
-    places: &mut [u64],
-    scatter: &mut [u64],
-    gather: &mut [u64],
-    propagate: &mut [u64],
-    back: &mut [u64],
-) -> Shape
-    requires { ⌜ Sized (now places) (now scatter) (now gather) (now propagate) (now back) ⌝ }
+fn lay_kinds(tape: Tape, masks: &mut [u64]) -> Shape
+    requires { ⌜ length (now masks) ≡ 936 ⌝ }
     ensures shape { λ r. ⌜ r ≡ shapeOf tape ⌝ }
-    ensures kinds { λ r. ⌜ Kinds tape (now (places .exit)) (now (scatter .exit)) (now (gather .exit)) (now (propagate .exit)) (now (back .exit)) ⌝ }
+    ensures kinds { λ r. ⌜ Kinds tape (now (masks .exit)) ⌝ }
 {
-    blank_all(places, scatter, gather, propagate, back);
-    let shape = scan_tape(tape, places, scatter, gather, propagate, back);
+    blank(masks);
+    let shape = scan_tape(tape, masks);
     if let Shape::Other = shape {
-        blank_all(places, scatter, gather, propagate, back);
+        blank(masks);
     }
     shape
 }
 
 // Lay out: whether the tape is the tokens of a tree, and how deep that is; letter places and loop places; block, source and target of each depth; and
 // source and target of its back edges.
-pub fn lay_out(
-    tape: Tape,
-    places: &mut [u64; 16],
-    scatter: &mut [u64; 216],
-    gather: &mut [u64; 216],
-    propagate: &mut [u64; 216],
-    back: &mut [u64; 216],
-) -> Shape
+pub fn lay_out(tape: Tape, masks: &mut [u64; 936]) -> Shape
     ensures computed { λ r. ⌜ r ≡ shapeOf tape ⌝ }
     ensures shape { λ r. ⌜ ShapeSays tape r ⌝ }
-    ensures laid { λ r. ⌜ Laid tape (now (places .exit)) (now (scatter .exit)) (now (gather .exit)) (now (propagate .exit)) (now (back .exit)) ⌝ }
-    ensures masks { λ r. ⌜ MasksSay tape (now (places .exit)) (now (scatter .exit)) (now (gather .exit)) (now (propagate .exit)) (now (back .exit)) ⌝ }
+    ensures laid { λ r. ⌜ Laid tape (now (masks .exit)) ⌝ }
+    ensures masks { λ r. ⌜ MasksSay tape (now (masks .exit)) ⌝ }
 {
-    let shape = lay_kinds(tape, places, scatter, gather, propagate, back);
-    join_propagate(propagate);
+    let shape = lay_kinds(tape, masks);
+    join_propagate(masks);
     shape
 }
 

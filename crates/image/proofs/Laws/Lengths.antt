@@ -44,8 +44,8 @@ abbrev pub Eights : Table → Type 0
 Eights rows = (k : ℕ) → k < 9 → length (getD rows k []) ≡ 8
 
 -- the masks that lay out lends
-pub in-eights : (ms : List ℕ) (i : ℕ) → length ms ≡ 216 → i < 3 → Eights (tableIn ms i)
-in-eights ms i e hi k h = ap length (table-row ms i k h) ∙ row-long ms (3 * k + i) (omega arith)
+pub in-eights : (ms : List ℕ) (i : ℕ) → length ms ≡ 936 → i < 13 → Eights (tableIn ms i)
+in-eights ms i e hi k h = ap length (table-row ms i k h) ∙ row-long ms (13 * k + i) (omega arith)
 
 -- what lay out gives for any tape
 pub laid-eights : (t : Tape) (w : Which) → Eights (tableOf t w)
@@ -80,12 +80,13 @@ backs-long {W} source target narrow few s t k h =
     ∙ omega (arith, length-row (getD source k []) narrow (s k (omega arith)), length-row (getD target k []) narrow (t k (omega arith)))
 
 -- and of the masks that lay out lends, as they are read
-pub three-read : (W : ℕ) (ms : List ℕ) (k : ℕ) {block source target : List ℕ} → k < 9 → block ≡ rowIn ms (3 * k) → source ≡ rowIn ms (3 * k + 1)
-    → target ≡ rowIn ms (3 * k + 2) → threeRows W block source target ≡ depthRows W (tableIn ms 0) (tableIn ms 1) (tableIn ms 2) k
-three-read W ms k h b s t =
-    let first : 3 * k ≡ 3 * k + 0 = omega arith in
-    λ i. threeRows W ((b ∙ ap (rowIn ms) first ∙ sym (table-row ms 0 k h)) i) ((s ∙ sym (table-row ms 1 k h)) i) ((t ∙ sym (table-row ms 2 k h)) i)
+pub three-read : (W : ℕ) (ms : List ℕ) (first k : ℕ) {block source target : List ℕ} → k < 9 → block ≡ rowIn ms (13 * k + first) → source ≡ rowIn ms (13 * k + first + 1)
+    → target ≡ rowIn ms (13 * k + first + 2) → threeRows W block source target ≡ depthRows W (tableIn ms first) (tableIn ms (first + 1)) (tableIn ms (first + 2)) k
+three-read W ms first k h b s t = λ i. threeRows W ((b ∙ sym (table-row ms first k h)) i) ((s ∙ read 1) i) ((t ∙ read 2) i)
+  where
+    read : (j : ℕ) → rowIn ms (13 * k + first + j) ≡ getD (tableIn ms (first + j)) k []
+    read j = let e : 13 * k + first + j ≡ 13 * k + (first + j) = omega arith in ap (rowIn ms) e ∙ sym (table-row ms (first + j) k h)
 
-pub two-read : (W : ℕ) (ms : List ℕ) (k : ℕ) {source target : List ℕ} → k < 9 → source ≡ rowIn ms (3 * k + 1) → target ≡ rowIn ms (3 * k + 2)
-    → twoRows W source target ≡ backRows W (tableIn ms 1) (tableIn ms 2) k
-two-read W ms k h s t = λ i. twoRows W ((s ∙ sym (table-row ms 1 k h)) i) ((t ∙ sym (table-row ms 2 k h)) i)
+pub two-read : (W : ℕ) (ms : List ℕ) (k : ℕ) {source target : List ℕ} → k < 9 → source ≡ rowIn ms (13 * k + 11) → target ≡ rowIn ms (13 * k + 12)
+    → twoRows W source target ≡ backRows W (tableIn ms 11) (tableIn ms 12) k
+two-read W ms k h s t = λ i. twoRows W ((s ∙ sym (table-row ms 11 k h)) i) ((t ∙ sym (table-row ms 12 k h)) i)

@@ -68,24 +68,24 @@ module _ (p : Sections) (row : List ℕ) (t : Tape) (I : Within p (p .length)) w
   abbrev propagatePart : List ℕ
   propagatePart = tablesPart W (suc d) (propagateBlockTable t) (propagateSourceTable t) (propagateTargetTable t)
 
-  length-propagate : {q s g r b : List ℕ} → Laid t q s g r b → length r ≡ 216 → length propagatePart ≡ 1 + W * (3 * (d + 1))
-  length-propagate {r = r} L long =
+  length-propagate : {ms : List ℕ} → Laid t ms → length ms ≡ 936 → length propagatePart ≡ 1 + W * (3 * (d + 1))
+  length-propagate {ms = ms} L long =
       length-section (3 * W) (suc d) (depthRows W (propagateBlockTable t) (propagateSourceTable t) (propagateTargetTable t))
       (depths-long (propagateBlockTable t) (propagateSourceTable t) (propagateTargetTable t) (I .narrow) (omega (arith, I .deep))
-      (subst Eights (L .propagate-blocks) (in-eights r 0 long (omega arith))) (subst Eights (L .propagate-sources) (in-eights r 1 long (omega arith)))
-      (subst Eights (L .propagate-targets) (in-eights r 2 long (omega arith)))) ∙ omega arith
+      (subst Eights (L .propagate-blocks) (in-eights ms 8 long (omega arith))) (subst Eights (L .propagate-sources) (in-eights ms 9 long (omega arith)))
+      (subst Eights (L .propagate-targets) (in-eights ms 10 long (omega arith)))) ∙ omega arith
 
   -- the words after each section
-  pub whole : {q s g r b : List ℕ} → Laid t q s g r b → length r ≡ 216 → p .letters ≡ lettersAt → (l : List ℕ) → p .length ≤ length l
-      → {places shaped lettered repeated scattered gathered propagated after : List ℕ} → places ≡ rowIn q 1
+  pub whole : {ms : List ℕ} → Laid t ms → length ms ≡ 936 → p .letters ≡ lettersAt → (l : List ℕ) → p .length ≤ length l
+      → {places shaped lettered repeated scattered gathered propagated after : List ℕ} → places ≡ rowIn ms 1
       → shaped ≡ sets l 0 (shapePart p)
       → lettered ≡ sets shaped (p .letters - 1) letterPart
       → repeated ≡ sets lettered (p .repeats - 1) (bothPart W lettered (p .letters) places)
-      → scattered ≡ sets repeated (p .scatter - 1) (tablesPart W d (tableIn s 0) (tableIn s 1) (tableIn s 2))
-      → gathered ≡ sets scattered (p .gather - 1) (tablesPart W d (tableIn g 0) (tableIn g 1) (tableIn g 2))
-      → propagated ≡ sets gathered (p .propagate - 1) (tablesPart W (d + 1) (tableIn r 0) (tableIn r 1) (tableIn r 2))
-      → after ≡ sets propagated (p .back - 1) (backPart W d (tableIn b 1) (tableIn b 2)) → after ≡ sets l 0 (imageWords p row t)
-  whole {r = r} L long first l fits {places} {shaped} {lettered} {repeated} {scattered} {gathered} {propagated} are-loops by-shape by-letters
+      → scattered ≡ sets repeated (p .scatter - 1) (tablesPart W d (tableIn ms 2) (tableIn ms 3) (tableIn ms 4))
+      → gathered ≡ sets scattered (p .gather - 1) (tablesPart W d (tableIn ms 5) (tableIn ms 6) (tableIn ms 7))
+      → propagated ≡ sets gathered (p .propagate - 1) (tablesPart W (d + 1) (tableIn ms 8) (tableIn ms 9) (tableIn ms 10))
+      → after ≡ sets propagated (p .back - 1) (backPart W d (tableIn ms 11) (tableIn ms 12)) → after ≡ sets l 0 (imageWords p row t)
+  whole {ms = ms} L long first l fits {places} {shaped} {lettered} {repeated} {scattered} {gathered} {propagated} are-loops by-shape by-letters
       by-repeats by-scatter by-gather by-propagate by-back =
       let scatterPart = laidPart scatter-block scatter-source scatter-target in
       let gatherPart = laidPart gather-block gather-source gather-target in
@@ -111,5 +111,5 @@ module _ (p : Sections) (row : List ℕ) (t : Tape) (I : Within p (p .length)) w
       (tables-as (L .gather-blocks) (L .gather-sources) (L .gather-targets) W d scattered (p .gather - 1) by-gather)
       (both gathered (p .propagate) propagatePart backsPart (omega (arith, I .gathers)) (omega (arith, length-propagate L long, I .propagates))
       (tables-as (L .propagate-blocks) (L .propagate-sources) (L .propagate-targets) W (suc d) gathered (p .propagate - 1)
-      (by-propagate ∙ ap (λ (n : ℕ). sets gathered (p .propagate - 1) (tablesPart W n (tableIn r 0) (tableIn r 1) (tableIn r 2))) (add-one d)))
+      (by-propagate ∙ ap (λ (n : ℕ). sets gathered (p .propagate - 1) (tablesPart W n (tableIn ms 8) (tableIn ms 9) (tableIn ms 10))) (add-one d)))
       (by-back ∙ (λ j. sets propagated (p .back - 1) (backPart W d (L .back-sources j) (L .back-targets j)))))))))

@@ -10,7 +10,7 @@ use Rattle.image.proofs.store.Tie as tie
 
 -- ---- the moments after `lay_out` and after `sections_of`
 abbrev atTape : tie.After-lay-out → tie.After-tape-of
-atTape l = l .before .before .before .before .before .before
+atTape l = l .before .before
 
 abbrev start : tie.After-lay-out → tie.Start
 start l = atTape l .before .before
@@ -56,7 +56,7 @@ returns-2 c =
 
 put-image-requires : tie.Need-put-image-requires
 put-image-requires c κs =
-    let roomy = c .before .before .before .before .before .before in
+    let roomy = c .before .before in
     let m = roomy .before .before in
     let l = laidOut m in
     let T = told l in
@@ -77,7 +77,7 @@ same-length c = search needs
 returns-3 : tie.Need-returns-3
 returns-3 c =
     let put = c .before .before in
-    let roomy = put .before .before .before .before .before .before .before in
+    let roomy = put .before .before .before in
     let m = roomy .before .before in
     let l = laidOut m in
     let T = told l in

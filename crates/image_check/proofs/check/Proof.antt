@@ -19,7 +19,7 @@ parts c =
 
 -- the header, from what was laid out, and that from the tree told
 abbrev header-of : tie.After-lay-out → tie.After-header
-header-of c = c .before .before .before .before .before .before .before .before
+header-of c = c .before .before .before .before
 
 abbrev laid-of : tie.After-shape → tie.After-lay-out
 laid-of c = c .before .before
@@ -28,7 +28,7 @@ abbrev shape-of : tie.Else1 → tie.After-shape
 shape-of c = c .before .before .before
 
 abbrev told-of : tie.After-agrees → tie.Else1
-told-of c = c .before .before .before .before .before .before .before
+told-of c = c .before .before .before
 
 -- the tape is a tree's
 grown : (c : tie.After-shape) → shapeOf (header-of (laid-of c) .before .before .take-apart .result .tape) ≡ Tree (c .shape .given .0 .0)
@@ -78,7 +78,7 @@ returns-3 c =
 
 agrees-requires : tie.Need-agrees-requires
 agrees-requires c κs =
-    let l = laid-of (shape-of (c .before .before .before .before .before .before)) in
+    let l = laid-of (shape-of (c .before .before)) in
     (room-taken (parts (header-of l)), l .lay-out .ensures .1 .1 .0)
 
 refuse-requires-4 : tie.Need-refuse-requires-4

@@ -70,20 +70,20 @@ step (aClose m) q = afterClose m (q .position) (q .canBeEmpty) (q .stack)
 pub data Which : Type 0 where
   letter-place loop-place scatter-block scatter-source scatter-target gather-block gather-source gather-target leaving entering back-source back-target : Which
 
--- a number for each kind: from 3 on three for scatter, for gather, for propagate and for the back edges, of which the last two have no block
+-- a number for each kind; 8 is left to propagate's block, which is made of the two kinds after it
 abbrev pub number : Which → ℕ
 number letter-place = 0
 number loop-place = 1
-number scatter-block = 3
-number scatter-source = 4
-number scatter-target = 5
-number gather-block = 6
-number gather-source = 7
-number gather-target = 8
-number leaving = 10
-number entering = 11
-number back-source = 13
-number back-target = 14
+number scatter-block = 2
+number scatter-source = 3
+number scatter-target = 4
+number gather-block = 5
+number gather-source = 6
+number gather-target = 7
+number leaving = 9
+number entering = 10
+number back-source = 11
+number back-target = 12
 
 abbrev pub sameKind : Which → Which → Bool
 sameKind v w = eqb (number v) (number w)

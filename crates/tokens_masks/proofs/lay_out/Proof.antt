@@ -8,13 +8,7 @@ use Rattle.tokens_masks.proofs.lay_out.Statement.{statement}
 use Rattle.tokens_masks.proofs.lay_out.Tie as tie
 
 lay-kinds-requires : tie.Need-lay-kinds-requires
-lay-kinds-requires c κs = record {
-  places = c .before .before .before .before .lay-kinds-arg .given .0 .1;
-  scatter = c .before .before .before .lay-kinds-arg2 .given .0 .1;
-  gather = c .before .before .lay-kinds-arg3 .given .0 .1;
-  propagate = c .before .lay-kinds-arg4 .given .0 .1;
-  back = c .lay-kinds-arg5 .given .0 .1;
-}
+lay-kinds-requires c κs = c .lay-kinds-arg .given .0 .1
 
 join-propagate-requires : tie.Need-join-propagate-requires
 join-propagate-requires c κs = c .join-propagate-arg .given .0 .1
@@ -22,7 +16,7 @@ join-propagate-requires c κs = c .join-propagate-arg .given .0 .1
 returns : tie.Need-returns
 returns c =
     let k = c .before .before .lay-kinds .ensures in
-    let s = c .before .before .before .before .before .before .before .before in
+    let s = c .before .before .before .before in
     let t = s .args .tape in
     let L = laid-of (k .1) (c .join-propagate .ensures) in
     (k .0, (subst (ShapeSays t) (sym (k .0)) (shape-says t (sym (length-map (t .kinds) _) ∙ s .good .0 .1 .1 .0 .1 .0 .1)), (L, masks-say L)))

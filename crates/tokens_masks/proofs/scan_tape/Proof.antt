@@ -1,11 +1,11 @@
 -- `scan_tape`: each turn is a step of the scan, which marks what the token marks; at the end the scan tells what the tape is.
 use mathlib.Core.Bool.{Bool, cond}
-use mathlib.Core.Path.{refl, sym, ap, _∙_, subst}
+use mathlib.Core.Path.{_≡_, refl, sym, ap, _∙_, subst}
 use Prim.Native.Nat.{_-_}
 use native.Mathlib.Omega.{arith}
 use borrow.Author.Tests.{not-false, not-true}
 use lib.Dec.{T}
-use lib.ListN.{getD, length-map}
+use lib.ListN.{getD, length as lengthOf, length-map}
 use Rattle.model.specs.Models.LayOut.{begin, reach}
 use Rattle.tokens.specs.Scans.{noFrame, ReadyAt}
 use Rattle.tokens_masks.proofs.Along.{tapeOf, too-long}
@@ -17,19 +17,19 @@ use Rattle.tokens_masks.proofs.scan_tape.Statement.{statement}
 use Rattle.tokens_masks.proofs.scan_tape.Tie as tie
 
 abbrev Inv-loop : tie.InvT-loop
-Inv-loop places₀ scatter₀ gather₀ propagate₀ back₀ kinds length frames₀ scan₀ deepest₀ i₀ places scatter gather propagate back frames scan deepest i =
-    Scanning (tapeOf kinds length) places₀ scatter₀ gather₀ propagate₀ back₀ places scatter gather propagate back frames scan deepest i
+Inv-loop masks₀ kinds length frames₀ scan₀ deepest₀ i₀ masks frames scan deepest i =
+    (lengthOf masks₀ ≡ 936) × Scanning (tapeOf kinds length) masks frames scan deepest i
 
 abbrev μ-loop : tie.MeasureT-loop
-μ-loop places₀ scatter₀ gather₀ propagate₀ back₀ kinds length frames₀ scan₀ deepest₀ i₀ places scatter gather propagate back frames scan deepest i = length - i
+μ-loop masks₀ kinds length frames₀ scan₀ deepest₀ i₀ masks frames scan deepest i = length - i
 
 returns : tie.Need-returns Inv-loop μ-loop
 returns c =
-    let s = c .before .before .before .before .before .before .before in
+    let s = c .before .before .before in
     let t = s .args .tape in
     let no = too-long t (c .if1 .taken) in (
       sym (ap (λ (b : Bool). cond b (Tree (reach (tokensOf t) begin)) Other) no),
-      record { sized = s .pre .sized; held = λ z w. absurd (subst T no z) },
+      record { long = s .pre .long; held = λ z w. absurd (subst T no z) },
     )
 
 no-frame-requires : tie.Need-no-frame-requires Inv-loop μ-loop
@@ -40,11 +40,11 @@ begin-scan-requires c κs = search needs
 
 loop-holds : tie.Need-loop-holds Inv-loop μ-loop
 loop-holds c =
-    let s = c .before .before .before .before .before .before .before .before .before in
-    scanning-begin _ (sym (length-map (s .args .tape .kinds) _) ∙ s .good .0 .1 .1 .0 .1 .0 .1) (c .before .before .if1 .left) (s .pre) refl (c .begin-scan .ensures _)
+    let s = c .before .before .before .before .before in
+    (s .pre .long, scanning-begin _ (sym (length-map (s .args .tape .kinds) _) ∙ s .good .0 .1 .1 .0 .1 .0 .1) (c .before .before .if1 .left) (s .pre) refl (c .begin-scan .ensures _))
 
 array-read-read-kind : tie.Need-array-read-read-kind Inv-loop μ-loop
-array-read-read-kind c = omega (arith, c .before .loop .inv .along .short)
+array-read-read-kind c = omega (arith, c .before .loop .inv .1 .along .short)
 
 read-kind-requires : tie.Need-read-kind-requires Inv-loop μ-loop
 read-kind-requires c κs = search needs
@@ -53,35 +53,23 @@ innermost-requires : tie.Need-innermost-requires Inv-loop μ-loop
 innermost-requires c κs = search needs
 
 mul-frame : tie.Need-mul-frame Inv-loop μ-loop
-mul-frame c = omega (arith, scanning-depth (c .before .before .before .loop .inv), c .innermost .ensures)
+mul-frame c = omega (arith, scanning-depth (c .before .before .before .loop .inv .1), c .innermost .ensures)
 
 array-copy-out-frame : tie.Need-array-copy-out-frame Inv-loop μ-loop
-array-copy-out-frame c = omega (arith, scanning-depth (c .before .before .before .loop .inv), c .innermost .ensures)
+array-copy-out-frame c = omega (arith, scanning-depth (c .before .before .before .loop .inv .1), c .innermost .ensures)
 
 fits-requires : tie.Need-fits-requires Inv-loop μ-loop
 fits-requires c κs = search needs
 
 same-length : tie.Need-same-length Inv-loop μ-loop
-same-length c = c .before .before .before .before .before .before .loop .inv .sized .places ∙ sym (c .before .before .before .before .before .before .loop .inv .before .places)
-
-same-length-2 : tie.Need-same-length-2 Inv-loop μ-loop
-same-length-2 c = c .before .before .before .before .before .before .loop .inv .sized .scatter ∙ sym (c .before .before .before .before .before .before .loop .inv .before .scatter)
-
-same-length-3 : tie.Need-same-length-3 Inv-loop μ-loop
-same-length-3 c = c .before .before .before .before .before .before .loop .inv .sized .gather ∙ sym (c .before .before .before .before .before .before .loop .inv .before .gather)
-
-same-length-4 : tie.Need-same-length-4 Inv-loop μ-loop
-same-length-4 c = c .before .before .before .before .before .before .loop .inv .sized .propagate ∙ sym (c .before .before .before .before .before .before .loop .inv .before .propagate)
-
-same-length-5 : tie.Need-same-length-5 Inv-loop μ-loop
-same-length-5 c = c .before .before .before .before .before .before .loop .inv .sized .back ∙ sym (c .before .before .before .before .before .before .loop .inv .before .back)
+same-length c = c .before .before .before .before .before .before .loop .inv .1 .long ∙ sym (c .before .before .before .before .before .before .loop .inv .0)
 
 returns-2 : tie.Need-returns-2 Inv-loop μ-loop
 returns-2 c =
     let l = c .before .before .before .before .before .before .loop in
     let h = c .before .before .before .before .before .loop-test .taken in
     let I = top-here (l .scan) (l .frames) (c .before .before .before .innermost .ensures) in
-    scanning-misfit (l .inv) h (c .before .before .before .before .read-kind .ensures) I (sym (c .before .fits2 .ensures (l .frames) I) ∙ not-true _ (c .if2 .taken))
+    scanning-misfit (l .inv .1) h (c .before .before .before .before .read-kind .ensures) I (sym (c .before .fits2 .ensures (l .frames) I) ∙ not-true _ (c .if2 .taken))
 
 -- the token that was read may be passed
 ready : (c : tie.Else2 Inv-loop μ-loop)
@@ -90,20 +78,20 @@ ready : (c : tie.Else2 Inv-loop μ-loop)
 ready c =
     let l = c .before .before .before .before .before .before .loop in
     let I = top-here (l .scan) (l .frames) (c .before .before .before .innermost .ensures) in
-    scanning-ready (l .inv) (c .before .before .before .before .before .loop-test .taken) (c .before .before .before .before .read-kind .ensures) I (sym (c .before .fits2 .ensures (l .frames) I) ∙ not-false _ (c .if2 .left))
+    scanning-ready (l .inv .1) (c .before .before .before .before .before .loop-test .taken) (c .before .before .before .before .read-kind .ensures) I (sym (c .before .fits2 .ensures (l .frames) I) ∙ not-false _ (c .if2 .left))
 
 -- the test that it fits, from what was marked, and that from the depth
 abbrev marked : tie.After-deeper Inv-loop μ-loop → tie.After-mark-token Inv-loop μ-loop
-marked c = c .before .before .before .before .before .before .before .before .before .before .before
+marked c = c .before .before .before
 
 abbrev passed : tie.After-mark-token Inv-loop μ-loop → tie.Else2 Inv-loop μ-loop
-passed c = c .before .before .before .before .before .before
+passed c = c .before .before
 
 mark-token-requires : tie.Need-mark-token-requires Inv-loop μ-loop
-mark-token-requires c κs = let p = c .before .before .before .before .before in (ready p, p .before .before .before .before .before .before .loop .inv .sized)
+mark-token-requires c κs = let p = c .before in (ready p, p .before .before .before .before .before .before .loop .inv .1 .long)
 
 deeper-requires : tie.Need-deeper-requires Inv-loop μ-loop
-deeper-requires c κs = omega (arith, scanning-depth (passed (c .before .before .before .before .before .before .before .before .before .before) .before .before .before .before .before .before .loop .inv))
+deeper-requires c κs = omega (arith, scanning-depth (passed (c .before .before) .before .before .before .before .before .before .loop .inv .1))
 
 step-over-requires : tie.Need-step-over-requires Inv-loop μ-loop
 step-over-requires c κs = ready (passed (marked c))
@@ -115,7 +103,7 @@ array-set-from-frames : tie.Need-array-set-from-frames Inv-loop μ-loop
 array-set-from-frames c = c .before .step-over .ensures .inside
 
 add-i : tie.Need-add-i Inv-loop μ-loop
-add-i c = let t = passed (marked (c .before .before .before)) .before .before .before .before .before in omega (arith, t .before .loop .inv .along .short, t .loop-test .taken)
+add-i c = let t = passed (marked (c .before .before .before)) .before .before .before .before .before in omega (arith, t .before .loop .inv .1 .along .short, t .loop-test .taken)
 
 loop-less : tie.Need-loop-less Inv-loop μ-loop
 loop-less c = let t = passed (marked (c .before .before .before)) .before .before .before .before .before in omega (arith, t .loop-test .taken)
@@ -126,52 +114,30 @@ loop-again c =
     let p = passed (marked d) in
     let l = p .before .before .before .before .before .before .loop in
     let I = top-here (l .scan) (l .frames) (p .before .before .before .innermost .ensures) in
-    let f = sym (p .before .fits2 .ensures (l .frames) I) ∙ not-false _ (p .if2 .left) in
-    scanning-step (l .inv) (p .before .before .before .before .before .loop-test .taken) (p .before .before .before .before .read-kind .ensures) I f (c .before .before .step-over .ensures) (d .deeper .ensures)
-    (marked d .mark-token .ensures (l .frames) I)
+    let f = sym (p .before .fits2 .ensures (l .frames) I) ∙ not-false _ (p .if2 .left) in (
+      l .inv .0,
+      scanning-step (l .inv .1) (p .before .before .before .before .before .loop-test .taken) (p .before .before .before .before .read-kind .ensures) I f (c .before .before .step-over .ensures) (d .deeper .ensures)
+          (marked d .mark-token .ensures (l .frames) I),
+    )
 
 is-ended-requires : tie.Need-is-ended-requires Inv-loop μ-loop
 is-ended-requires c κs = search needs
 
-same-length-6 : tie.Need-same-length-6 Inv-loop μ-loop
-same-length-6 c = c .before .before .before .loop .inv .sized .places ∙ sym (c .before .before .before .loop .inv .before .places)
-
-same-length-7 : tie.Need-same-length-7 Inv-loop μ-loop
-same-length-7 c = c .before .before .before .loop .inv .sized .scatter ∙ sym (c .before .before .before .loop .inv .before .scatter)
-
-same-length-8 : tie.Need-same-length-8 Inv-loop μ-loop
-same-length-8 c = c .before .before .before .loop .inv .sized .gather ∙ sym (c .before .before .before .loop .inv .before .gather)
-
-same-length-9 : tie.Need-same-length-9 Inv-loop μ-loop
-same-length-9 c = c .before .before .before .loop .inv .sized .propagate ∙ sym (c .before .before .before .loop .inv .before .propagate)
-
-same-length-10 : tie.Need-same-length-10 Inv-loop μ-loop
-same-length-10 c = c .before .before .before .loop .inv .sized .back ∙ sym (c .before .before .before .loop .inv .before .back)
+same-length-2 : tie.Need-same-length-2 Inv-loop μ-loop
+same-length-2 c = c .before .before .before .loop .inv .1 .long ∙ sym (c .before .before .before .loop .inv .0)
 
 returns-3 : tie.Need-returns-3 Inv-loop μ-loop
 returns-3 c =
     let l = c .before .before .before .loop in
-    scanning-tree (l .inv) (c .before .before .loop-test .left) (sym (c .before .is-ended .ensures (l .frames)) ∙ c .if3 .taken)
+    scanning-tree (l .inv .1) (c .before .before .loop-test .left) (sym (c .before .is-ended .ensures (l .frames)) ∙ c .if3 .taken)
 
-same-length-11 : tie.Need-same-length-11 Inv-loop μ-loop
-same-length-11 c = c .before .before .before .loop .inv .sized .places ∙ sym (c .before .before .before .loop .inv .before .places)
-
-same-length-12 : tie.Need-same-length-12 Inv-loop μ-loop
-same-length-12 c = c .before .before .before .loop .inv .sized .scatter ∙ sym (c .before .before .before .loop .inv .before .scatter)
-
-same-length-13 : tie.Need-same-length-13 Inv-loop μ-loop
-same-length-13 c = c .before .before .before .loop .inv .sized .gather ∙ sym (c .before .before .before .loop .inv .before .gather)
-
-same-length-14 : tie.Need-same-length-14 Inv-loop μ-loop
-same-length-14 c = c .before .before .before .loop .inv .sized .propagate ∙ sym (c .before .before .before .loop .inv .before .propagate)
-
-same-length-15 : tie.Need-same-length-15 Inv-loop μ-loop
-same-length-15 c = c .before .before .before .loop .inv .sized .back ∙ sym (c .before .before .before .loop .inv .before .back)
+same-length-3 : tie.Need-same-length-3 Inv-loop μ-loop
+same-length-3 c = c .before .before .before .loop .inv .1 .long ∙ sym (c .before .before .before .loop .inv .0)
 
 returns-4 : tie.Need-returns-4 Inv-loop μ-loop
 returns-4 c =
     let l = c .before .before .before .loop in
-    scanning-other (l .inv) (c .before .before .loop-test .left) (sym (c .before .is-ended .ensures (l .frames)) ∙ c .if3 .left)
+    scanning-other (l .inv .1) (c .before .before .loop-test .left) (sym (c .before .is-ended .ensures (l .frames)) ∙ c .if3 .left)
 
 pub scan-tape-spec : {M : Type 1} → statement M
 scan-tape-spec =
@@ -190,10 +156,6 @@ scan-tape-spec =
     array-copy-out-frame
     fits-requires
     same-length
-    same-length-2
-    same-length-3
-    same-length-4
-    same-length-5
     returns-2
     mark-token-requires
     deeper-requires
@@ -204,15 +166,7 @@ scan-tape-spec =
     loop-less
     loop-again
     is-ended-requires
-    same-length-6
-    same-length-7
-    same-length-8
-    same-length-9
-    same-length-10
+    same-length-2
     returns-3
-    same-length-11
-    same-length-12
-    same-length-13
-    same-length-14
-    same-length-15
+    same-length-3
     returns-4)

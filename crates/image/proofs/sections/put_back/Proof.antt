@@ -14,7 +14,7 @@ use Rattle.image.proofs.sections.put_back.Tie as tie
 
 abbrev Inv-loop : tie.InvT-loop
 Inv-loop words₀ at width depths masks k₀ words k =
-    Parts (2 * width) depths (backRows width (tableIn masks 1) (tableIn masks 2)) words₀ at words k
+    Parts (2 * width) depths (backRows width (tableIn masks 11) (tableIn masks 12)) words₀ at words k
 
 abbrev μ-loop : tie.MeasureT-loop
 μ-loop words₀ at width depths masks k₀ words k = depths - k
@@ -39,7 +39,7 @@ loop-holds c =
     let s = c .before .before in
     let ms = s .args .masks .now in
     parts-none
-    (backs-long (tableIn ms 1) (tableIn ms 2) (s .pre .0) (s .pre .1) (in-eights ms 1 (s .pre .4) (omega arith)) (in-eights ms 2 (s .pre .4) (omega arith)))
+    (backs-long (tableIn ms 11) (tableIn ms 12) (s .pre .0) (s .pre .1) (in-eights ms 11 (s .pre .4) (omega arith)) (in-eights ms 12 (s .pre .4) (omega arith)))
 
 mul-row-of : tie.Need-mul-row-of Inv-loop μ-loop
 mul-row-of c = search needs

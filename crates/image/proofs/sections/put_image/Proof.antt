@@ -62,14 +62,14 @@ put-tables-requires c κs =
     let w = c .before .before .before in
     let s = lent (shaped (lettered w)) .pre .0 in
     let I = s .0 in
-    (I .narrow, omega (arith, I .deep), omega (arith, I .repeats), omega (arith, scatters-in I, s .2, repeats-keep w), c .put-tables-arg2 .given .0)
+    (I .narrow, omega (arith, I .deep), omega (arith, I .repeats), omega (arith, scatters-in I, s .2, repeats-keep w), omega arith, c .put-tables-arg2 .given .0)
 
 put-tables-requires-2 : tie.Need-put-tables-requires-2
 put-tables-requires-2 c κs =
     let w = c .before .before .before in
     let s = lent (shaped (lettered (repeated w))) .pre .0 in
     let I = s .0 in
-    (I .narrow, omega (arith, I .deep), omega (arith, I .scatters), omega (arith, gathers-in I, s .2, scatters-keep w), c .put-tables-arg4 .given .0)
+    (I .narrow, omega (arith, I .deep), omega (arith, I .scatters), omega (arith, gathers-in I, s .2, scatters-keep w), omega arith, c .put-tables-arg4 .given .0)
 
 add-put-tables : tie.Need-add-put-tables
 add-put-tables c = omega (arith, lent (shaped (lettered (repeated (scattered (c .before .before))))) .pre .0 .0 .deep)
@@ -79,7 +79,7 @@ put-tables-requires-3 c κs =
     let w = c .before .before .before in
     let s = lent (shaped (lettered (repeated (scattered w)))) .pre .0 in
     let I = s .0 in
-    (I .narrow, omega (arith, I .deep), omega (arith, I .gathers), omega (arith, propagates-in I, s .2, gathers-keep w), c .put-tables-arg6 .given .0)
+    (I .narrow, omega (arith, I .deep), omega (arith, I .gathers), omega (arith, propagates-in I, s .2, gathers-keep w), omega arith, c .put-tables-arg6 .given .0)
 
 put-back-requires : tie.Need-put-back-requires
 put-back-requires c κs =

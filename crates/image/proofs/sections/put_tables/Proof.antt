@@ -13,11 +13,11 @@ use Rattle.image.proofs.sections.put_tables.Statement.{statement}
 use Rattle.image.proofs.sections.put_tables.Tie as tie
 
 abbrev Inv-loop : tie.InvT-loop
-Inv-loop words₀ at width depths masks k₀ words k =
-    Parts (3 * width) depths (depthRows width (tableIn masks 0) (tableIn masks 1) (tableIn masks 2)) words₀ at words k
+Inv-loop words₀ at width depths first masks k₀ words k =
+    Parts (3 * width) depths (depthRows width (tableIn masks first) (tableIn masks (first + 1)) (tableIn masks (first + 2))) words₀ at words k
 
 abbrev μ-loop : tie.MeasureT-loop
-μ-loop words₀ at width depths masks k₀ words k = depths - k
+μ-loop words₀ at width depths first masks k₀ words k = depths - k
 
 mul-words : tie.Need-mul-words Inv-loop μ-loop
 mul-words c = search needs
@@ -38,11 +38,15 @@ loop-holds : tie.Need-loop-holds Inv-loop μ-loop
 loop-holds c =
     let s = c .before .before in
     let ms = s .args .masks .now in
+    let i = s .args .first in
     parts-none
-    (depths-long (tableIn ms 0) (tableIn ms 1) (tableIn ms 2) (s .pre .0) (s .pre .1) (in-eights ms 0 (s .pre .4) (omega arith)) (in-eights ms 1 (s .pre .4) (omega arith)) (in-eights ms 2 (s .pre .4) (omega arith)))
+    (depths-long (tableIn ms i) (tableIn ms (i + 1)) (tableIn ms (i + 2)) (s .pre .0) (s .pre .1) (in-eights ms i (s .pre .5) (omega (arith, s .pre .4))) (in-eights ms (i + 1) (s .pre .5) (omega (arith, s .pre .4))) (in-eights ms (i + 2) (s .pre .5) (omega (arith, s .pre .4))))
 
 mul-row-of : tie.Need-mul-row-of Inv-loop μ-loop
 mul-row-of c = search needs
+
+add-row-of : tie.Need-add-row-of Inv-loop μ-loop
+add-row-of c = search needs
 
 row-of-requires : tie.Need-row-of-requires Inv-loop μ-loop
 row-of-requires c κs = search needs
@@ -50,8 +54,11 @@ row-of-requires c κs = search needs
 mul-row-of-2 : tie.Need-mul-row-of-2 Inv-loop μ-loop
 mul-row-of-2 c = search needs
 
-add-row-of : tie.Need-add-row-of Inv-loop μ-loop
-add-row-of c = search needs
+add-row-of-2 : tie.Need-add-row-of-2 Inv-loop μ-loop
+add-row-of-2 c = search needs
+
+add-row-of-3 : tie.Need-add-row-of-3 Inv-loop μ-loop
+add-row-of-3 c = search needs
 
 row-of-requires-2 : tie.Need-row-of-requires-2 Inv-loop μ-loop
 row-of-requires-2 c κs = search needs
@@ -59,8 +66,11 @@ row-of-requires-2 c κs = search needs
 mul-row-of-3 : tie.Need-mul-row-of-3 Inv-loop μ-loop
 mul-row-of-3 c = search needs
 
-add-row-of-2 : tie.Need-add-row-of-2 Inv-loop μ-loop
-add-row-of-2 c = search needs
+add-row-of-4 : tie.Need-add-row-of-4 Inv-loop μ-loop
+add-row-of-4 c = search needs
+
+add-row-of-5 : tie.Need-add-row-of-5 Inv-loop μ-loop
+add-row-of-5 c = search needs
 
 row-of-requires-3 : tie.Need-row-of-requires-3 Inv-loop μ-loop
 row-of-requires-3 c κs = search needs
@@ -101,7 +111,7 @@ loop-again c =
     let h = c .before .before .before .before .before .before .before .loop-test .taken in
     parts-more (l .inv) h
     (c .before .before .put-three .ensures
-    ∙ ap (λ (rows : List ℕ). sets (l .words) (s .args .at + 3 * s .args .width * l .k) rows) (three-read (s .args .width) (s .args .masks .now) (l .k) (omega (arith, s .pre .1)) (c .before .before .before .before .before .before .row-of .ensures .inside (omega (arith, s .pre .1, s .pre .4))) (c .before .before .before .before .before .row-of2 .ensures .inside (omega (arith, s .pre .1, s .pre .4))) (c .before .before .before .before .row-of3 .ensures .inside (omega (arith, s .pre .1, s .pre .4)))))
+    ∙ ap (λ (rows : List ℕ). sets (l .words) (s .args .at + 3 * s .args .width * l .k) rows) (three-read (s .args .width) (s .args .masks .now) (s .args .first) (l .k) (omega (arith, s .pre .1)) (c .before .before .before .before .before .before .row-of .ensures .inside (omega (arith, s .pre .1, s .pre .4, s .pre .5))) (c .before .before .before .before .before .row-of2 .ensures .inside (omega (arith, s .pre .1, s .pre .4, s .pre .5))) (c .before .before .before .before .row-of3 .ensures .inside (omega (arith, s .pre .1, s .pre .4, s .pre .5)))))
 
 same-length : tie.Need-same-length Inv-loop μ-loop
 same-length c =
@@ -127,12 +137,15 @@ put-tables-spec =
     slice-write-words
     loop-holds
     mul-row-of
+    add-row-of
     row-of-requires
     mul-row-of-2
-    add-row-of
+    add-row-of-2
+    add-row-of-3
     row-of-requires-2
     mul-row-of-3
-    add-row-of-2
+    add-row-of-4
+    add-row-of-5
     row-of-requires-3
     mul-put-three
     mul-put-three-2

@@ -21,31 +21,31 @@ use Rattle.model.proofs.Image.Address.{part-fits}
 use Rattle.image_check.specs.Work.{depthMasks, sameMasks, sameTables}
 use Rattle.image_check.proofs.Laws.Compare.{differ-here, place-in, same-all, same-more, same-none, SameTo, word-from}
 
-module _ {W : ℕ} (first count : ℕ) (ms : List ℕ) (narrow : W ≤ 8) (kinds : first + count ≤ 3) (long : length ms ≡ 216) where
+module _ {W : ℕ} (first count : ℕ) (ms : List ℕ) (narrow : W ≤ 8) (kinds : first + count ≤ 13) (long : length ms ≡ 936) where
   -- mask i of depth k has W words in its part
-  row-part : (k : ℕ) → k < 9 → AllLong W count (λ i. take W (rowIn ms (3 * k + first + i)))
-  row-part k h i l = length-row (rowIn ms (3 * k + first + i)) narrow (row-long ms (3 * k + first + i) (omega arith))
+  row-part : (k : ℕ) → k < 9 → AllLong W count (λ i. take W (rowIn ms (13 * k + first + i)))
+  row-part k h i l = length-row (rowIn ms (13 * k + first + i)) narrow (row-long ms (13 * k + first + i) (omega arith))
 
   pub masks-long : {n : ℕ} → n ≤ 9 → AllLong (count * W) n (depthMasks W first count ms)
-  masks-long few k h = length-joined W count (λ i. take W (rowIn ms (3 * k + first + i))) (row-part k (omega arith)) ∙ mul-comm W count
+  masks-long few k h = length-joined W count (λ i. take W (rowIn ms (13 * k + first + i))) (row-part k (omega arith)) ∙ mul-comm W count
 
-  masks-word : (k which j : ℕ) → k < 9 → which < count → j < W → getD (depthMasks W first count ms k) (W * which + j) 0 ≡ getD ms (8 * (3 * k + first + which) + j) 0
+  masks-word : (k which j : ℕ) → k < 9 → which < count → j < W → getD (depthMasks W first count ms k) (W * which + j) 0 ≡ getD ms (8 * (13 * k + first + which) + j) 0
   masks-word k which j h m l =
-      word-from W (λ i. take W (rowIn ms (3 * k + first + i))) count 0 which j (λ i p. row-part k h (0 + i) (omega arith)) m l
-      ∙ ap (λ (i : ℕ). getD (take W (rowIn ms (3 * k + first + i))) j 0) (zero-add which)
-      ∙ getD-take W (rowIn ms (3 * k + first + which)) j 0 l
-      ∙ row-word ms (3 * k + first + which) j (omega arith)
+      word-from W (λ i. take W (rowIn ms (13 * k + first + i))) count 0 which j (λ i p. row-part k h (0 + i) (omega arith)) m l
+      ∙ ap (λ (i : ℕ). getD (take W (rowIn ms (13 * k + first + i))) j 0) (zero-add which)
+      ∙ getD-take W (rowIn ms (13 * k + first + which)) j 0 l
+      ∙ row-word ms (13 * k + first + which) j (omega arith)
 
 -- the first q words of the section are the same
 pub record MasksTo (ms ws : List ℕ) (at W depths first count q : ℕ) : Type 0 where
   pub narrow : W ≤ 8
   pub few : depths ≤ 9
-  pub kinds : first + count ≤ 3
-  pub sized : length ms ≡ 216
+  pub kinds : first + count ≤ 13
+  pub sized : length ms ≡ 936
   pub fits : at + count * W * depths ≤ length ws
   pub same : SameTo ws at (count * W * depths) (count * W) depths (depthMasks W first count ms) q
 
-pub masks-none : {ms ws : List ℕ} {at W depths first count : ℕ} → W ≤ 8 → depths ≤ 9 → first + count ≤ 3 → at + count * W * depths ≤ length ws → length ms ≡ 216
+pub masks-none : {ms ws : List ℕ} {at W depths first count : ℕ} → W ≤ 8 → depths ≤ 9 → first + count ≤ 13 → at + count * W * depths ≤ length ws → length ms ≡ 936
     → MasksTo ms ws at W depths first count 0
 masks-none {ms} {first = first} {count = count} narrow few kinds fits sized = record {
   narrow = narrow;
@@ -77,10 +77,10 @@ module _ {ms ws : List ℕ} {at W depths first count k which j : ℕ} (S : Masks
   pub masks-in : at + (count * k + which) * W + j < length ws
   masks-in = omega (arith, place-in (S .same) there depth inner, S .fits)
 
-  word-is : getD (depthMasks W first count ms k) (W * which + j) 0 ≡ getD ms (8 * (3 * k + first + which) + j) 0
+  word-is : getD (depthMasks W first count ms k) (W * which + j) 0 ≡ getD ms (8 * (13 * k + first + which) + j) 0
   word-is = masks-word first count ms (S .narrow) (S .kinds) (S .sized) k which j (omega (arith, S .few)) mask word
 
-  pub masks-more : getD ws (at + (count * k + which) * W + j) 0 ≡ getD ms (8 * (3 * k + first + which) + j) 0
+  pub masks-more : getD ws (at + (count * k + which) * W + j) 0 ≡ getD ms (8 * (13 * k + first + which) + j) 0
       → MasksTo ms ws at W depths first count ((count * k + which) * W + (j + 1))
   masks-more e =
       let next : (count * k + which) * W + j + 1 ≡ (count * k + which) * W + (j + 1) = omega arith in
@@ -93,29 +93,30 @@ module _ {ms ws : List ℕ} {at W depths first count k which j : ℕ} (S : Masks
         same = same-more (S .same) there depth inner (ap (λ (i : ℕ). getD ws i 0) place ∙ e ∙ sym word-is);
       })
 
-  pub masks-differ : (getD ws (at + (count * k + which) * W + j) 0 ≡ getD ms (8 * (3 * k + first + which) + j) 0 → ⊥)
+  pub masks-differ : (getD ws (at + (count * k + which) * W + j) 0 ≡ getD ms (8 * (13 * k + first + which) + j) 0 → ⊥)
       → sameMasks ws at W depths first count ms ≡ false
   masks-differ d = differ-here (S .same) there depth inner (λ e. d (ap (λ (i : ℕ). getD ws i 0) (sym place) ∙ e ∙ word-is))
 
--- ---- by tables: all three of each depth; the last two
-module _ (ws : List ℕ) (at W depths : ℕ) (ms : List ℕ) (few : depths ≤ 9) where
-  row-is : (k i : ℕ) → k < 9 → (j : ℕ) → j ≡ 3 * k + i → take W (rowIn ms j) ≡ take W (getD (tableIn ms i) k [])
-  row-is k i h j e = ap (λ (r : ℕ). take W (rowIn ms r)) e ∙ ap (take W) (sym (table-row ms i k h))
+-- ---- by tables: three or two kinds of each depth, from `first` on
+module _ (ws : List ℕ) (at W depths first : ℕ) (ms : List ℕ) (few : depths ≤ 9) where
+  row-is : (k i : ℕ) → k < 9 → take W (rowIn ms (13 * k + first + i)) ≡ take W (getD (tableIn ms (first + i)) k [])
+  row-is k i h =
+      let e : 13 * k + first + i ≡ 13 * k + (first + i) = omega arith in
+      ap (λ (r : ℕ). take W (rowIn ms r)) e ∙ ap (take W) (sym (table-row ms (first + i) k h))
 
-  pub three-masks : sameMasks ws at W depths 0 3 ms ≡ sameTables ws at W depths (tableIn ms 0) (tableIn ms 1) (tableIn ms 2)
+  pub three-masks : sameMasks ws at W depths first 3 ms ≡ sameTables ws at W depths (tableIn ms (first + 0)) (tableIn ms (first + 1)) (tableIn ms (first + 2))
   three-masks =
       ap (sameWords (wordsAt ws at (3 * W * depths)))
-      (join-same depths 0 (depthMasks W 0 3 ms) (depthRows W (tableIn ms 0) (tableIn ms 1) (tableIn ms 2)) (λ k l. three k (omega arith)))
+      (join-same depths 0 (depthMasks W first 3 ms) (depthRows W (tableIn ms (first + 0)) (tableIn ms (first + 1)) (tableIn ms (first + 2))) (λ k l. three k (omega arith)))
     where
-      three : (k : ℕ) → k < 9 → depthMasks W 0 3 ms k ≡ threeRows W (getD (tableIn ms 0) k []) (getD (tableIn ms 1) k []) (getD (tableIn ms 2) k [])
-      three k h =
-          λ i. row-is k 0 h (3 * k + 0 + 0) (omega arith) i
-          ++ (row-is k 1 h (3 * k + 0 + 1) (omega arith) i ++ (append-nil (take W (rowIn ms (3 * k + 0 + 2))) ∙ row-is k 2 h (3 * k + 0 + 2) (omega arith)) i)
+      three : (k : ℕ) → k < 9
+          → depthMasks W first 3 ms k ≡ threeRows W (getD (tableIn ms (first + 0)) k []) (getD (tableIn ms (first + 1)) k []) (getD (tableIn ms (first + 2)) k [])
+      three k h = λ i. row-is k 0 h i ++ (row-is k 1 h i ++ (append-nil (take W (rowIn ms (13 * k + first + 2))) ∙ row-is k 2 h) i)
 
-  pub two-masks : sameMasks ws at W depths 1 2 ms ≡ sameWords (wordsAt ws at (2 * W * depths)) (join depths 0 (backRows W (tableIn ms 1) (tableIn ms 2)))
+  pub two-masks : sameMasks ws at W depths first 2 ms ≡ sameWords (wordsAt ws at (2 * W * depths)) (join depths 0 (backRows W (tableIn ms (first + 0)) (tableIn ms (first + 1))))
   two-masks =
-      ap (sameWords (wordsAt ws at (2 * W * depths))) (join-same depths 0 (depthMasks W 1 2 ms) (backRows W (tableIn ms 1) (tableIn ms 2)) (λ k l. two k (omega arith)))
+      ap (sameWords (wordsAt ws at (2 * W * depths)))
+      (join-same depths 0 (depthMasks W first 2 ms) (backRows W (tableIn ms (first + 0)) (tableIn ms (first + 1))) (λ k l. two k (omega arith)))
     where
-      two : (k : ℕ) → k < 9 → depthMasks W 1 2 ms k ≡ twoRows W (getD (tableIn ms 1) k []) (getD (tableIn ms 2) k [])
-      two k h =
-          λ i. row-is k 1 h (3 * k + 1 + 0) (omega arith) i ++ (append-nil (take W (rowIn ms (3 * k + 1 + 1))) ∙ row-is k 2 h (3 * k + 1 + 1) (omega arith)) i
+      two : (k : ℕ) → k < 9 → depthMasks W first 2 ms k ≡ twoRows W (getD (tableIn ms (first + 0)) k []) (getD (tableIn ms (first + 1)) k [])
+      two k h = λ i. row-is k 0 h i ++ (append-nil (take W (rowIn ms (13 * k + first + 1))) ∙ row-is k 1 h) i

@@ -74,38 +74,38 @@ fromLetters s = lettersAre s && fromRepeats s
 -- the masks are those that are laid out for the tape
 scatter-same : (s : tie.Start)
     → let p = s .args .sections in
-    sameMasks (s .args .words .now) (p .scatter) (p .width) (p .depth) 0 3 (s .args .scatters .now) ≡ scatterIs s
+    sameMasks (s .args .words .now) (p .scatter) (p .width) (p .depth) 2 3 (s .args .masks .now) ≡ scatterIs s
 scatter-same s =
     let p = s .args .sections in
     let L = s .pre .1 in
-    three-masks (s .args .words .now) (p .scatter) (p .width) (p .depth) (s .args .scatters .now) (omega (arith, s .pre .0 .deep))
+    three-masks (s .args .words .now) (p .scatter) (p .width) (p .depth) 2 (s .args .masks .now) (omega (arith, s .pre .0 .deep))
     ∙ (λ i. sameTables (s .args .words .now) (p .scatter) (p .width) (p .depth) (L .scatter-blocks i) (L .scatter-sources i) (L .scatter-targets i))
 
 gather-same : (s : tie.Start)
     → let p = s .args .sections in
-    sameMasks (s .args .words .now) (p .gather) (p .width) (p .depth) 0 3 (s .args .gathers .now) ≡ gatherIs s
+    sameMasks (s .args .words .now) (p .gather) (p .width) (p .depth) 5 3 (s .args .masks .now) ≡ gatherIs s
 gather-same s =
     let p = s .args .sections in
     let L = s .pre .1 in
-    three-masks (s .args .words .now) (p .gather) (p .width) (p .depth) (s .args .gathers .now) (omega (arith, s .pre .0 .deep))
+    three-masks (s .args .words .now) (p .gather) (p .width) (p .depth) 5 (s .args .masks .now) (omega (arith, s .pre .0 .deep))
     ∙ (λ i. sameTables (s .args .words .now) (p .gather) (p .width) (p .depth) (L .gather-blocks i) (L .gather-sources i) (L .gather-targets i))
 
 propagate-same : (s : tie.Start)
     → let p = s .args .sections in
-    sameMasks (s .args .words .now) (p .propagate) (p .width) (p .depth + 1) 0 3 (s .args .propagates .now) ≡ propagateIs s
+    sameMasks (s .args .words .now) (p .propagate) (p .width) (p .depth + 1) 8 3 (s .args .masks .now) ≡ propagateIs s
 propagate-same s =
     let p = s .args .sections in
     let L = s .pre .1 in
-    three-masks (s .args .words .now) (p .propagate) (p .width) (p .depth + 1) (s .args .propagates .now) (omega (arith, s .pre .0 .deep))
+    three-masks (s .args .words .now) (p .propagate) (p .width) (p .depth + 1) 8 (s .args .masks .now) (omega (arith, s .pre .0 .deep))
     ∙ (λ i. sameTables (s .args .words .now) (p .propagate) (p .width) (add-one (p .depth) i) (L .propagate-blocks i) (L .propagate-sources i) (L .propagate-targets i))
 
 back-same : (s : tie.Start)
     → let p = s .args .sections in
-    sameMasks (s .args .words .now) (p .back) (p .width) (p .depth) 1 2 (s .args .backs .now) ≡ backIs s
+    sameMasks (s .args .words .now) (p .back) (p .width) (p .depth) 11 2 (s .args .masks .now) ≡ backIs s
 back-same s =
     let p = s .args .sections in
     let L = s .pre .1 in
-    two-masks (s .args .words .now) (p .back) (p .width) (p .depth) (s .args .backs .now) (omega (arith, s .pre .0 .deep))
+    two-masks (s .args .words .now) (p .back) (p .width) (p .depth) 11 (s .args .masks .now) (omega (arith, s .pre .0 .deep))
     ∙ (λ i. sameWords (wordsAt (s .args .words .now) (p .back) (2 * p .width * p .depth)) (join (p .depth) 0 (backRows (p .width) (L .back-sources i) (L .back-targets i))))
 
 -- where the function began, from each test that was passed

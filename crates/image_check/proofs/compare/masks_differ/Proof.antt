@@ -58,14 +58,14 @@ within c =
 
 -- and there are few masks
 small : (c : tie.In-loop2 Inv-loop2 μ-loop2 Inv-loop μ-loop Inv-search μ-search)
-    → c .before .before .before .before .before .before .args .count * c .before .before .before .before .before .search .k ≤ 27
+    → c .before .before .before .before .before .before .args .count * c .before .before .before .before .before .search .k ≤ 117
 small c =
     let a = c .before .before .before .before .before .before .args in
     let k = c .before .before .before .before .before .search .k in
     let S = c .before .loop2 .inv .2 in
-    let three : a .count ≤ 3 = omega (arith, S .kinds) in
+    let kinds : a .count ≤ 13 = omega (arith, S .kinds) in
     let nine : k ≤ 9 = omega (arith, c .before .before .before .before .search-test .taken, S .few) in
-    mul-le-mul three nine
+    mul-le-mul kinds nine
 
 mul-if1 : tie.Need-mul-if1 Inv-loop2 μ-loop2 Inv-loop μ-loop Inv-search μ-search
 mul-if1 c = omega (arith, small c)

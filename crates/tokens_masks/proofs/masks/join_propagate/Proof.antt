@@ -9,19 +9,25 @@ use Rattle.tokens_masks.proofs.masks.join_propagate.Statement.{statemen
 use Rattle.tokens_masks.proofs.masks.join_propagate.Tie as tie
 
 abbrev Inv-loop : tie.InvT-loop
-Inv-loop propagate₀ n₀ propagate n = Joining propagate₀ n propagate
+Inv-loop masks₀ n₀ masks n = Joining masks₀ n masks
 
 abbrev μ-loop : tie.MeasureT-loop
-μ-loop propagate₀ n₀ propagate n = 72 - n
+μ-loop masks₀ n₀ masks n = 72 - n
 
 loop-holds : tie.Need-loop-holds Inv-loop μ-loop
-loop-holds c = joining-begin (c .args .propagate .now) (c .pre)
+loop-holds c = joining-begin (c .args .masks .now) (c .pre)
 
 mul-at : tie.Need-mul-at Inv-loop μ-loop
 mul-at c = search needs
 
 add-at : tie.Need-add-at Inv-loop μ-loop
 add-at c = search needs
+
+mul-at-2 : tie.Need-mul-at-2 Inv-loop μ-loop
+mul-at-2 c = search needs
+
+add-at-2 : tie.Need-add-at-2 Inv-loop μ-loop
+add-at-2 c = search needs
 
 add-leaving : tie.Need-add-leaving Inv-loop μ-loop
 add-leaving c = search needs
@@ -41,29 +47,29 @@ mul-entering c = search needs
 slice-read-entering : tie.Need-slice-read-entering Inv-loop μ-loop
 slice-read-entering c = omega (arith, c .before .before .before .loop .inv .long)
 
-mul-propagate : tie.Need-mul-propagate Inv-loop μ-loop
-mul-propagate c = search needs
+mul-masks : tie.Need-mul-masks Inv-loop μ-loop
+mul-masks c = search needs
 
-slice-write-propagate : tie.Need-slice-write-propagate Inv-loop μ-loop
-slice-write-propagate c = omega (arith, c .before .before .before .loop .inv .long)
+slice-write-masks : tie.Need-slice-write-masks Inv-loop μ-loop
+slice-write-masks c = omega (arith, c .before .before .before .loop .inv .long)
 
-add-propagate : tie.Need-add-propagate Inv-loop μ-loop
-add-propagate c = search needs
+add-masks : tie.Need-add-masks Inv-loop μ-loop
+add-masks c = search needs
 
-mul-propagate-2 : tie.Need-mul-propagate-2 Inv-loop μ-loop
-mul-propagate-2 c = search needs
+mul-masks-2 : tie.Need-mul-masks-2 Inv-loop μ-loop
+mul-masks-2 c = search needs
 
-slice-write-propagate-2 : tie.Need-slice-write-propagate-2 Inv-loop μ-loop
-slice-write-propagate-2 c = simp length-set (omega (arith, c .before .before .before .loop .inv .long))
+slice-write-masks-2 : tie.Need-slice-write-masks-2 Inv-loop μ-loop
+slice-write-masks-2 c = simp length-set (omega (arith, c .before .before .before .loop .inv .long))
 
-add-propagate-2 : tie.Need-add-propagate-2 Inv-loop μ-loop
-add-propagate-2 c = search needs
+add-masks-2 : tie.Need-add-masks-2 Inv-loop μ-loop
+add-masks-2 c = search needs
 
-mul-propagate-3 : tie.Need-mul-propagate-3 Inv-loop μ-loop
-mul-propagate-3 c = search needs
+mul-masks-3 : tie.Need-mul-masks-3 Inv-loop μ-loop
+mul-masks-3 c = search needs
 
-slice-write-propagate-3 : tie.Need-slice-write-propagate-3 Inv-loop μ-loop
-slice-write-propagate-3 c = simp length-set (omega (arith, c .before .before .before .loop .inv .long))
+slice-write-masks-3 : tie.Need-slice-write-masks-3 Inv-loop μ-loop
+slice-write-masks-3 c = simp length-set (omega (arith, c .before .before .before .loop .inv .long))
 
 add-n : tie.Need-add-n Inv-loop μ-loop
 add-n c = search needs
@@ -89,20 +95,22 @@ join-propagate-spec =
     loop-holds
     mul-at
     add-at
+    mul-at-2
+    add-at-2
     add-leaving
     mul-leaving
     slice-read-leaving
     add-entering
     mul-entering
     slice-read-entering
-    mul-propagate
-    slice-write-propagate
-    add-propagate
-    mul-propagate-2
-    slice-write-propagate-2
-    add-propagate-2
-    mul-propagate-3
-    slice-write-propagate-3
+    mul-masks
+    slice-write-masks
+    add-masks
+    mul-masks-2
+    slice-write-masks-2
+    add-masks-2
+    mul-masks-3
+    slice-write-masks-3
     add-n
     loop-less
     loop-again

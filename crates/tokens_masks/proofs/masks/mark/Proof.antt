@@ -44,7 +44,7 @@ returns : tie.Need-returns
 returns c =
     let a = c .before .args in
     let ms = a .masks .now in
-    let r = 3 * a .depth + a .kind in
+    let r = 13 * a .depth + a .plane in
     let at = 8 * r + a .state / 64 in
     let s : a .state % 64 < 64 = omega arith in
     let e : 1 * 2 ^ (a .state % 64) % 2 ^ 64 ≡ 2 ^ (a .state % 64) = omega (arith, pow-lt s) in

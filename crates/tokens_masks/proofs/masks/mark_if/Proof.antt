@@ -17,12 +17,12 @@ returns : tie.Need-returns
 returns c =
     let a = c .before .before .before .before .before .before .args in
     c .before .before .mark .ensures
-    ∙ sym (ap (λ (b : Bool). cond b (runIn (a .masks .now) (a .kind) (a .depth) (a .state) (suc (a .state))) (a .masks .now)) (c .before .before .before .before .if1 .taken))
+    ∙ sym (ap (λ (b : Bool). cond b (runIn (a .masks .now) (a .plane) (a .depth) (a .state) (suc (a .state))) (a .masks .now)) (c .before .before .before .before .if1 .taken))
 
 returns-2 : tie.Need-returns-2
 returns-2 c =
     let a = c .before .before .args in
-    sym (ap (λ (b : Bool). cond b (runIn (a .masks .now) (a .kind) (a .depth) (a .state) (suc (a .state))) (a .masks .now)) (c .if1 .left))
+    sym (ap (λ (b : Bool). cond b (runIn (a .masks .now) (a .plane) (a .depth) (a .state) (suc (a .state))) (a .masks .now)) (c .if1 .left))
 
 pub mark-if-spec : {M : Type 1} → statement M
 mark-if-spec = tie.close (tie.spec mark-requires same-length returns returns-2)

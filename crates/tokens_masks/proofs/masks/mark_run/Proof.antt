@@ -11,11 +11,11 @@ use Rattle.tokens_masks.proofs.masks.mark_run.Statement.{statement}
 use Rattle.tokens_masks.proofs.masks.mark_run.Tie as tie
 
 abbrev Inv-loop : tie.InvT-loop
-Inv-loop masks₀ kind depth from to state₀ masks state =
-    (length masks ≡ length masks₀) × (runRow (to - state) masks (3 * depth + kind) state ≡ runRow (to - state₀) masks₀ (3 * depth + kind) state₀)
+Inv-loop masks₀ plane depth from to state₀ masks state =
+    (length masks ≡ length masks₀) × (runRow (to - state) masks (13 * depth + plane) state ≡ runRow (to - state₀) masks₀ (13 * depth + plane) state₀)
 
 abbrev μ-loop : tie.MeasureT-loop
-μ-loop masks₀ kind depth from to state₀ masks state = to - state
+μ-loop masks₀ plane depth from to state₀ masks state = to - state
 
 loop-holds : tie.Need-loop-holds Inv-loop μ-loop
 loop-holds c = (refl, refl)
@@ -33,7 +33,7 @@ loop-again : tie.Need-loop-again Inv-loop μ-loop
 loop-again c =
     let l = c .before .before .before .before .before .loop in
     let a = c .before .before .before .before .before .before .before .args in
-    let r = 3 * a .depth + a .kind in
+    let r = 13 * a .depth + a .plane in
     let h = c .before .before .before .before .loop-test .taken in (
       c .before .masks .given ∙ l .inv .0,
       ap (λ (ms : List ℕ). runRow (a .to - (l .state + 1)) ms r (l .state + 1)) (c .before .before .mark .ensures ∙ one-run (l .masks) r (l .state))
@@ -47,7 +47,7 @@ returns : tie.Need-returns Inv-loop μ-loop
 returns c =
     let l = c .before .loop in
     let a = c .before .before .before .args in
-    sym (run-end (l .masks) (3 * a .depth + a .kind) (l .state) (a .to) (c .loop-test .left)) ∙ l .inv .1
+    sym (run-end (l .masks) (13 * a .depth + a .plane) (l .state) (a .to) (c .loop-test .left)) ∙ l .inv .1
 
 pub mark-run-spec : {M : Type 1} → statement M
 mark-run-spec =

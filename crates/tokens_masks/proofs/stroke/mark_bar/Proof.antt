@@ -1,4 +1,5 @@
 -- `stroke::mark_bar`: the next alternative's start, and the end of the one before.
+use mathlib.Core.List.{List}
 use mathlib.Core.Path.{ap, _∙_}
 use Prim.Native.Nat.{ℕ, suc}
 use native.Mathlib.Numerals.{add-one}
@@ -19,13 +20,12 @@ mark-requires-2 c κs = search needs
 same-length : tie.Need-same-length
 same-length c = search needs
 
-same-length-2 : tie.Need-same-length-2
-same-length-2 c = search needs
-
 returns : tie.Need-returns
 returns c =
-    let a = c .before .before .before .before .before .before .before .before .before .before .args in
-    (c .before .before .before .before .before .before .mark .ensures ∙ ap (λ (x : ℕ). runIn (a .scatter .now) 2 (a .depth) x (suc x)) (add-one (a .position)), c .before .before .mark2 .ensures)
+    let a = c .before .before .before .before .before .before .before .before .before .args in
+    c .before .before .mark2 .ensures
+    ∙ ap (λ (ms : List ℕ). runIn ms 6 (a .depth) (a .position) (suc (a .position)))
+    (c .before .before .before .before .before .before .mark .ensures ∙ ap (λ (x : ℕ). runIn (a .masks .now) 4 (a .depth) x (suc x)) (add-one (a .position)))
 
 pub mark-bar-spec : {M : Type 1} → statement M
-mark-bar-spec = tie.close (tie.spec add-mark mark-requires mark-requires-2 same-length same-length-2 returns)
+mark-bar-spec = tie.close (tie.spec add-mark mark-requires mark-requires-2 same-length returns)

@@ -1,10 +1,11 @@
--- `stroke::mark_close`: scatter's block, gather's three one after another, and the edge over the union and the one back, where they are.
+-- `stroke::mark_close`: one stroke after another, and last the edge over the union and the one back, where they are.
 use mathlib.Core.Bool.{Bool, cond}
 use mathlib.Core.List.{List}
 use mathlib.Core.Path.{sym, ap, ap₂, _∙_}
 use Prim.Native.Nat.{ℕ, suc, _+_}
 use native.Mathlib.Numerals.{add-one}
 use native.Mathlib.Omega.{arith}
+use Rattle.model.specs.Tree.{canOmit, canReturn}
 use Rattle.tokens.specs.Scans.{frameOf}
 use Rattle.tokens.specs.Tokens.{markOf}
 use Rattle.tokens_masks.proofs.Strokes.{close-in}
@@ -40,55 +41,52 @@ mark-requires-3 c κs = search needs
 can-omit-requires : tie.Need-can-omit-requires
 can-omit-requires c κs = search needs
 
-add-bridge : tie.Need-add-bridge
-add-bridge c = search needs
+add-mark-edge : tie.Need-add-mark-edge
+add-mark-edge c = search needs
 
-bridge-requires : tie.Need-bridge-requires
-bridge-requires c κs = search needs
+mark-edge-requires : tie.Need-mark-edge-requires
+mark-edge-requires c κs = search needs
 
 can-return-requires : tie.Need-can-return-requires
 can-return-requires c κs = search needs
 
-add-bridge-2 : tie.Need-add-bridge-2
-add-bridge-2 c = omega (arith, c .before .before .before .before .before .before .before .before .before .before .before .before .before .before .before .before .before .before .before .before .before .before .before .before .before .before .before .before .before .before .pre .3)
+add-mark-edge-2 : tie.Need-add-mark-edge-2
+add-mark-edge-2 c = omega (arith, c .before .before .before .before .before .before .before .before .before .before .before .before .before .before .before .before .before .before .before .before .before .before .before .before .before .before .before .pre .3)
 
-bridge-requires-2 : tie.Need-bridge-requires-2
-bridge-requires-2 c κs = let P = c .before .before .before .before .before .before .before .before .before .before .before .before .before .before .before .before .before .before .before .before .before .before .before .before .before .before .before .before .before .before .pre in (omega (arith, P .0), omega (arith, P .3), P .1, P .7)
+mark-edge-requires-2 : tie.Need-mark-edge-requires-2
+mark-edge-requires-2 c κs =
+    let p = c .before .before .before .before .before .before .before .before .before .before .before .before .before .before .before .before .before .before .before .before .before .before .before .before .before .before .before .pre in
+    (omega (arith, p .0), omega (arith, p .3), p .1, omega arith, c .before .before .before .before .masks5 .given ∙ c .before .before .before .before .before .before .before .before .before .masks4 .given ∙ c .before .before .before .before .before .before .before .before .before .before .before .before .before .masks3 .given ∙ c .before .before .before .before .before .before .before .before .before .before .before .before .before .before .before .before .before .masks2 .given ∙ c .before .before .before .before .before .before .before .before .before .before .before .before .before .before .before .before .before .before .before .before .before .before .masks .given ∙ p .4)
 
 same-length : tie.Need-same-length
 same-length c = search needs
 
-same-length-2 : tie.Need-same-length-2
-same-length-2 c = search needs
-
-same-length-3 : tie.Need-same-length-3
-same-length-3 c = search needs
-
-same-length-4 : tie.Need-same-length-4
-same-length-4 c = search needs
-
 returns : tie.Need-returns
 returns c =
-    let a = c .before .before .before .before .before .before .before .before .before .before .before .before .before .before .before .before .before .before .before .before .before .before .before .before .before .before .before .before .before .before .before .before .before .args in
-    let g = a .gather .now in
+    let a = c .before .before .before .before .before .before .before .before .before .before .before .before .before .before .before .before .before .before .before .before .before .before .before .before .before .before .before .before .before .before .args in
+    let ms = a .masks .now in
     let d = a .depth in
     let z = a .position in
-    let C = close-in (markOf (a .shown)) (frameOf (a .frame)) z d g (a .scatter .now) g (a .propagate .now) (a .back .now) in
-    let e = add-one z in (
-      c .before .before .before .before .before .before .before .before .before .before .before .before .before .before .before .before .before .before .before .before .before .before .before .before .before .before .mark .ensures ∙ ap (λ (x : ℕ). runIn (a .scatter .now) 0 d x (suc x)) (add-one (a .frame .alternative)) ∙ sym (C .scatter),
-      (
-        c .before .before .before .before .before .before .before .before .before .before .before .before .before .mark3 .ensures
-            ∙ ap (λ (ms : List ℕ). runIn ms 2 d (z + 1) (suc (z + 1))) (c .before .before .before .before .before .before .before .before .before .before .before .before .before .before .before .before .before .mark2 .ensures
-            ∙ ap (λ (ms : List ℕ). runIn ms 1 d z (suc z)) (c .before .before .before .before .before .before .before .before .before .before .before .before .before .before .before .before .before .before .before .before .before .mark-run .ensures
-            ∙ ap (λ (n : ℕ). runIn g 0 d n (z + 1)) (c .before .before .before .before .before .before .before .before .before .before .before .before .before .before .before .before .before .before .before .before .before .before .before .first-end-of .ensures)))
-            ∙ ap (λ (x : ℕ). runIn (runIn (runIn g 0 d (cond (a .frame .barred) (a .frame .«first_end») z) x) 1 d z (suc z)) 2 d x (suc x)) e
-            ∙ sym (C .gather),
-        (
-          c .before .before .before .before .before .before .before .before .bridge .ensures ∙ ap₂ (λ (o : Bool) (x : ℕ). cond o (edgeIn (a .propagate .now) d (a .frame .start) x) (a .propagate .now)) (c .before .before .before .before .before .before .before .before .before .can-omit .ensures) e ∙ sym (C .propagate),
-          c .before .before .bridge2 .ensures ∙ ap₂ (λ (o : Bool) (x : ℕ). cond o (edgeIn (a .back .now) d z x) (a .back .now)) (c .before .before .before .before .can-return .ensures) (add-one (a .frame .start)) ∙ sym (C .back),
-        ),
-      ),
-    )
+    let f = frameOf (a .frame) in
+    let m = markOf (a .shown) in
+    let ended : List ℕ → ℕ → ℕ → ℕ → List ℕ = λ l b n x. runIn (runIn (runIn (runIn l 2 d b (suc b)) 5 d n x) 6 d z (suc z)) 7 d x (suc x) in
+    c .before .before .mark-edge2 .ensures
+    ∙ ap₂ (λ (l : List ℕ) (b : Bool). cond b (edgeIn l 11 d z (a .frame .start + 1)) l)
+    (c .before .before .before .before .before .before .before .before .mark-edge .ensures
+    ∙ ap₂ (λ (l : List ℕ) (b : Bool). cond b (edgeIn l 9 d (f .start) (z + 1)) l)
+    (c .before .before .before .before .before .before .before .before .before .before .before .before .before .mark3 .ensures
+    ∙ ap (λ (l : List ℕ). runIn l 7 d (z + 1) (suc (z + 1)))
+    (c .before .before .before .before .before .before .before .before .before .before .before .before .before .before .before .before .before .mark2 .ensures
+    ∙ ap (λ (l : List ℕ). runIn l 6 d z (suc z))
+    (c .before .before .before .before .before .before .before .before .before .before .before .before .before .before .before .before .before .before .before .before .before .mark-run .ensures
+    ∙ ap₂ (λ (l : List ℕ) (n : ℕ). runIn l 5 d n (z + 1)) (c .before .before .before .before .before .before .before .before .before .before .before .before .before .before .before .before .before .before .before .before .before .before .before .before .before .before .mark .ensures) (c .before .before .before .before .before .before .before .before .before .before .before .before .before .before .before .before .before .before .before .before .before .before .before .first-end-of .ensures))))
+    (c .before .before .before .before .before .before .before .before .before .can-omit .ensures))
+    (c .before .before .before .before .can-return .ensures)
+    ∙ (λ i. let x = add-one z i in
+    let e = ended ms (add-one (f .alternative) i) (cond (f .barred) (f .firstEnd) z) x in
+    let o = cond (canOmit m) (edgeIn e 9 d (f .start) x) e in
+    cond (canReturn m) (edgeIn o 11 d z (add-one (f .start) i)) o)
+    ∙ sym (close-in m f z d ms)
 
 pub mark-close-spec : {M : Type 1} → statement M
 mark-close-spec =
@@ -103,13 +101,10 @@ mark-close-spec =
     add-mark-2
     mark-requires-3
     can-omit-requires
-    add-bridge
-    bridge-requires
+    add-mark-edge
+    mark-edge-requires
     can-return-requires
-    add-bridge-2
-    bridge-requires-2
+    add-mark-edge-2
+    mark-edge-requires-2
     same-length
-    same-length-2
-    same-length-3
-    same-length-4
     returns)

@@ -4,7 +4,7 @@ use mathlib.Core.List.{List}
 use mathlib.Core.Path.{sym, ap, ap₂, _∙_}
 use Prim.Native.Nat.{ℕ, suc, _+_}
 use native.Mathlib.Numerals.{add-one}
-use Rattle.model.specs.Tree.{canLoop}
+use Rattle.model.specs.Tree.{canLoop, canSkip}
 use Rattle.tokens.specs.Tokens.{repeatOf}
 use Rattle.tokens_masks.proofs.Strokes.{letter-in}
 use Rattle.tokens_masks.specs.Masks.{edgeIn, runIn}
@@ -30,33 +30,28 @@ mark-if-requires c κs = search needs
 can-skip-requires : tie.Need-can-skip-requires
 can-skip-requires c κs = search needs
 
-add-bridge : tie.Need-add-bridge
-add-bridge c = search needs
+add-mark-edge : tie.Need-add-mark-edge
+add-mark-edge c = search needs
 
-bridge-requires : tie.Need-bridge-requires
-bridge-requires c κs = search needs
+mark-edge-requires : tie.Need-mark-edge-requires
+mark-edge-requires c κs = search needs
 
 same-length : tie.Need-same-length
 same-length c = search needs
 
-same-length-2 : tie.Need-same-length-2
-same-length-2 c = search needs
-
 returns : tie.Need-returns
 returns c =
-    let a = c .before .before .before .before .before .before .before .before .before .before .before .before .before .before .before .before .args in
-    let p = a .places .now in
-    let r = a .propagate .now in
-    let L = letter-in (repeatOf (a .repeat)) (a .position) (a .depth) p p p r r in
-    let e = add-one (a .position) in (
-      c .before .before .before .before .before .before .before .mark-if .ensures
-          ∙ ap₂ (λ (ms : List ℕ) (b : Bool). cond b (runIn ms 1 0 (a .position + 1) (suc (a .position + 1))) ms) (c .before .before .before .before .before .before .before .before .before .before .before .before .mark .ensures) (c .before .before .before .before .before .before .before .before .can-loop .ensures)
-          ∙ ap (λ (x : ℕ). let l = runIn p 0 0 x (suc x) in cond (canLoop (repeatOf (a .repeat))) (runIn l 1 0 x (suc x)) l) e
-          ∙ sym (L .places),
-      c .before .before .bridge .ensures
-          ∙ ap₂ (λ (b : Bool) (x : ℕ). cond b (edgeIn r (a .depth) (a .position) x) r) (c .before .before .before .can-skip .ensures) e
-          ∙ sym (L .propagate),
-    )
+    let a = c .before .before .before .before .before .before .before .before .before .before .before .before .before .before .before .args in
+    let ms = a .masks .now in
+    let r = repeatOf (a .repeat) in
+    let t = a .position in
+    c .before .before .mark-edge .ensures
+    ∙ ap₂ (λ (l : List ℕ) (b : Bool). cond b (edgeIn l 9 (a .depth) t (t + 1)) l)
+    (c .before .before .before .before .before .before .before .mark-if .ensures
+    ∙ ap₂ (λ (l : List ℕ) (b : Bool). cond b (runIn l 1 0 (t + 1) (suc (t + 1))) l) (c .before .before .before .before .before .before .before .before .before .before .before .before .mark .ensures) (c .before .before .before .before .before .before .before .before .can-loop .ensures))
+    (c .before .before .before .can-skip .ensures)
+    ∙ ap (λ (x : ℕ). let l = runIn ms 0 0 x (suc x) in let o = cond (canLoop r) (runIn l 1 0 x (suc x)) l in cond (canSkip r) (edgeIn o 9 (a .depth) t x) o) (add-one t)
+    ∙ sym (letter-in r t (a .depth) ms)
 
 pub mark-letter-spec : {M : Type 1} → statement M
 mark-letter-spec =
@@ -68,8 +63,7 @@ mark-letter-spec =
     add-mark-if
     mark-if-requires
     can-skip-requires
-    add-bridge
-    bridge-requires
+    add-mark-edge
+    mark-edge-requires
     same-length
-    same-length-2
     returns)

@@ -24,7 +24,7 @@ returns : tie.Need-returns
 returns c =
     let a = c .before .before .before .before .before .before .before .before .before .args in
     c .before .before .mark2 .ensures
-    ∙ ap₂ (λ (ms : List ℕ) (x : ℕ). runIn ms 2 (a .depth) x (suc x)) (c .before .before .before .before .before .before .mark .ensures) (add-one (a .position))
+    ∙ ap₂ (λ (ms : List ℕ) (x : ℕ). runIn ms 4 (a .depth) x (suc x)) (c .before .before .before .before .before .before .mark .ensures) (add-one (a .position))
 
 pub mark-open-spec : {M : Type 1} → statement M
 mark-open-spec = tie.close (tie.spec mark-requires add-mark mark-requires-2 same-length returns)

@@ -1,0 +1,26 @@
+// The masks of one depth, by the numbers of their kinds. Letter and loop places have depth 0 alone.
+
+pub const LETTER_PLACE: usize = 0;
+
+pub const LOOP_PLACE: usize = 1;
+
+pub const SCATTER_BLOCK: usize = 2;
+
+pub const SCATTER_SOURCE: usize = 3;
+
+pub const SCATTER_TARGET: usize = 4;
+
+pub const GATHER_BLOCK: usize = 5;
+
+pub const GATHER_SOURCE: usize = 6;
+
+pub const GATHER_TARGET: usize = 7;
+
+// Propagate's block, and after it source and target; while the tokens are marked, these are the states that edges leave and those that they enter.
+pub const PROPAGATE_BLOCK: usize = 8;
+
+pub const LEAVING: usize = 9;
+
+pub const BACK_SOURCE: usize = 11;
+
+pub const BACK_TARGET: usize = 12;

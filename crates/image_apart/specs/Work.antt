@@ -1,9 +1,8 @@
 -- WHAT THE PARTS COMPUTE from any words: the states that some mask of a section has, and the kinds that these show.
 use mathlib.Core.Path.{_≡_}
-use mathlib.Core.Bool.{Bool, _&&_, cond}
+use mathlib.Core.Bool.{cond}
 use mathlib.Core.List.{List, [], _∷_}
 use Prim.Native.Nat.{ℕ, zero, suc, _+_, _*_, _<_}
-use lib.Dec.{eqb, leb}
 use lib.Bits.{bitOr}
 use lib.ListN.{drop, getD, length, replicate, take}
 use Rattle.model.specs.Bits.{bit}

@@ -8,7 +8,7 @@ use lib.ListN.{length, length-map}
 use Rattle.model.specs.Models.Sections.{depthWord, stateWord, widthWord}
 use Rattle.model.specs.Models.Words.{Fit}
 use Rattle.image_sections.specs.Header.{Headed, headerFits, headerIf}
-use Rattle.image_sections.specs.Sections.{sectionsIn, Within}
+use Rattle.image_sections.specs.Sections.{Within}
 use Rattle.image_sections.specs.declared.Header.{Header}
 use Rattle.image_sections.specs.declared.Header.the-variants.{Other, Sound}
 use Rattle.image_sections.specs.declared.Sections.{Sections}

@@ -2,7 +2,7 @@
 -- alternatives, none of one with `?` can be empty, and one with `*` has one body; for the grammar has no empty class, no empty sequence, brackets
 -- around one alternative vanish, and so does a `?` that is not needed.
 use mathlib.Core.Path.{_≡_}
-use mathlib.Core.Bool.{Bool, true, false, not, _&&_}
+use mathlib.Core.Bool.{Bool, not, _&&_}
 use mathlib.Core.List.{List, _∷_}
 use Prim.Native.Nat.{ℕ, zero, suc, _+_, _-_, _^_, _≤_, _<_}
 use native.Mathlib.Nat.{le-refl}

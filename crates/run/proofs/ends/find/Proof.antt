@@ -12,8 +12,6 @@ use Rattle.run.proofs.Laws.One.{one-same}
 use borrow.Author.Needs.{needs}
 use Rattle.run.proofs.ends.find.Statement.{statement}
 use Rattle.run.proofs.ends.find.Tie as tie
-use Rattle.run.proofs.ends.find_words.Reads as find-words-reads
-use Rattle.run_word.proofs.ends.find.Reads as find-reads
 
 find-requires : tie.Need-find-requires
 find-requires c κs = let s = c .before .before .before .before .before .before in (s .pre .0, c .before .if1 .taken, s .pre .1)

@@ -13,8 +13,6 @@ use Rattle.run.proofs.Laws.Table.{tabled-of, work-ends}
 use borrow.Author.Needs.{needs}
 use Rattle.run.proofs.ends.find_words.Statement.{statement}
 use Rattle.run.proofs.ends.find_words.Tie as tie
-use Rattle.run.proofs.ends.scan.Reads as scan-reads
-use Rattle.run.proofs.table.table.Reads as table-reads
 
 table-requires : tie.Need-table-requires
 table-requires c κs = c .before .before .before .pre .0

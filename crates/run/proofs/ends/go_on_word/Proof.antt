@@ -7,7 +7,6 @@ use Rattle.run.proofs.Image.Stretch.{went-word}
 use borrow.Author.Needs.{needs}
 use Rattle.run.proofs.ends.go_on_word.Statement.{statement}
 use Rattle.run.proofs.ends.go_on_word.Tie as tie
-use Rattle.run_word.proofs.ends.go_on.Reads as go-on-reads
 
 shared-slice-read-first : tie.Need-shared-slice-read-first
 shared-slice-read-first c = let s = c .before .before .before .before .before in let P = s .pre .0 .placed in omega (arith, s .pre .0 .long, within P .room, own-states P, P .some)

@@ -9,9 +9,6 @@ use Rattle.run.proofs.Laws.Table.{tabled-of}
 use borrow.Author.Needs.{needs}
 use Rattle.run.proofs.ends.go_on_words.Statement.{statement}
 use Rattle.run.proofs.ends.go_on_words.Tie as tie
-use Rattle.run.proofs.rows.row_at.Reads as row-at-reads
-use Rattle.run.proofs.stretch.run_over.Reads as run-over-reads
-use Rattle.run.proofs.table.table.Reads as table-reads
 
 sub-last : tie.Need-sub-last
 sub-last c = let P = c .before .before .before .before .before .pre .0 .placed in omega (arith, own-states P, P .some)

@@ -15,11 +15,6 @@ use Rattle.run.proofs.Laws.Table.{close-wide, tabled-of}
 use borrow.Author.Needs.{needs}
 use Rattle.run.proofs.ends.scan.Statement.{statement}
 use Rattle.run.proofs.ends.scan.Tie as tie
-use Rattle.run.proofs.rounds.close.Reads as close-reads
-use Rattle.run.proofs.stretch.is_live.Reads as is-live-reads
-use Rattle.run.proofs.stretch.run_over.Reads as run-over-reads
-use Rattle.run_moves.proofs.start.Reads as start-reads
-use Rattle.run_word.proofs.places.note.Reads as note-reads
 
 sub-last : tie.Need-sub-last
 sub-last c = let P = c .before .before .before .before .pre .placed in omega (arith, own-states P, P .some)

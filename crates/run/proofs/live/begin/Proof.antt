@@ -10,8 +10,6 @@ use Rattle.run.proofs.Laws.Widths.{close-whole}
 use borrow.Author.Needs.{needs}
 use Rattle.run.proofs.live.begin.Statement.{statement}
 use Rattle.run.proofs.live.begin.Tie as tie
-use Rattle.run.proofs.live.close_of.Reads as close-of-reads
-use Rattle.run_moves.proofs.start.Reads as start-reads
 
 start-requires : tie.Need-start-requires
 start-requires c κs = search needs

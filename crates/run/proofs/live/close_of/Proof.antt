@@ -11,8 +11,6 @@ use Rattle.run.proofs.Laws.Table.{close-eight, tabled-of}
 use borrow.Author.Needs.{needs}
 use Rattle.run.proofs.live.close_of.Statement.{statement}
 use Rattle.run.proofs.live.close_of.Tie as tie
-use Rattle.run.proofs.rounds.close.Reads as close-reads
-use Rattle.run.proofs.table.table.Reads as table-reads
 
 table-requires : tie.Need-table-requires
 table-requires c κs = c .before .pre

@@ -11,11 +11,6 @@ use Rattle.run.specs.Work.{rowAt}
 use borrow.Author.Needs.{needs}
 use Rattle.run.proofs.steps.moved.Statement.{statement}
 use Rattle.run.proofs.steps.moved.Tie as tie
-use Rattle.image_sections.proofs.letters_at.Reads as letters-at-reads
-use Rattle.image_sections.proofs.repeats_at.Reads as repeats-at-reads
-use Rattle.run.proofs.rows.row_at.Reads as row-at-reads
-use Rattle.run_moves.proofs.advance.Reads as advance-reads
-use Rattle.run_moves.proofs.start.Reads as start-reads
 
 letters-at-requires : tie.Need-letters-at-requires
 letters-at-requires c κs = search needs

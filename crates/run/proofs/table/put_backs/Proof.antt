@@ -8,7 +8,6 @@ use Rattle.run.specs.Work.{PutBacks, rowAt}
 use Rattle.run.proofs.Laws.Backs.{backs-begin, backs-more}
 use Rattle.run.proofs.table.put_backs.Statement.{statement}
 use Rattle.run.proofs.table.put_backs.Tie as tie
-use Rattle.run.proofs.rows.row_at.Reads as row-at-reads
 
 abbrev Inv-loop : tie.InvT-loop
 Inv-loop table₀ image at width depth i₀ table i = (i ≤ 2 * depth) × (depth ≤ 8) × PutBacks i image width depth table₀ table

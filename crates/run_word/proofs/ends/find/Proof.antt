@@ -11,13 +11,6 @@ use Rattle.run_word.proofs.Laws.Stretch.{begun, noted-few}
 use borrow.Author.Needs.{needs}
 use Rattle.run_word.proofs.ends.find.Statement.{statement}
 use Rattle.run_word.proofs.ends.find.Tie as tie
-use Rattle.run_word.proofs.places.note.Reads as note-reads
-use Rattle.run_word.proofs.rounds.close.Reads as close-reads
-use Rattle.run_word.proofs.stretch.is_live.Reads as is-live-reads
-use Rattle.run_word.proofs.stretch.run_over.Reads as run-over-reads
-use Rattle.run_word.proofs.table.any_chain.Reads as any-chain-reads
-use Rattle.run_word.proofs.table.backs.Reads as backs-reads
-use Rattle.run_word.proofs.table.table.Reads as table-reads
 
 sub-last : tie.Need-sub-last
 sub-last c =

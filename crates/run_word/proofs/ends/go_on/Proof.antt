@@ -7,10 +7,6 @@ use Rattle.run_word.proofs.Laws.One.{may-choose}
 use borrow.Author.Needs.{needs}
 use Rattle.run_word.proofs.ends.go_on.Statement.{statement}
 use Rattle.run_word.proofs.ends.go_on.Tie as tie
-use Rattle.run_word.proofs.stretch.run_over.Reads as run-over-reads
-use Rattle.run_word.proofs.table.any_chain.Reads as any-chain-reads
-use Rattle.run_word.proofs.table.backs.Reads as backs-reads
-use Rattle.run_word.proofs.table.table.Reads as table-reads
 
 sub-last : tie.Need-sub-last
 sub-last c =

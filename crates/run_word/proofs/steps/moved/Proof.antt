@@ -7,9 +7,6 @@ use Rattle.run_word.specs.One.{wordAt}
 use borrow.Author.Needs.{needs}
 use Rattle.run_word.proofs.steps.moved.Statement.{statement}
 use Rattle.run_word.proofs.steps.moved.Tie as tie
-use Rattle.image_sections.proofs.letters_at.Reads as letters-at-reads
-use Rattle.image_sections.proofs.repeats_at.Reads as repeats-at-reads
-use Rattle.run_word.proofs.passes.advance.Reads as advance-reads
 
 letters-at-requires : tie.Need-letters-at-requires
 letters-at-requires c κs = search needs

@@ -8,7 +8,6 @@ use Rattle.run_word.proofs.Laws.One.{less-one}
 use borrow.Author.Needs.{needs}
 use Rattle.run_word.proofs.table.entry.Statement.{statement}
 use Rattle.run_word.proofs.table.entry.Tie as tie
-use Rattle.std.proofs.num.wrapping_sub_u64.Reads as wrapping-sub-u64-reads
 
 mul-result : tie.Need-mul-result
 mul-result c = search needs

@@ -101,7 +101,7 @@ pub one-matched : {words text before after later : List ℕ} {r q : Matched} →
 one-matched {words} {text} {before} {after} {later} {r} {q} Y B C =
     same matchedAnswer matchedBy matched-by matched-lent (match-one words text before (matchedAnswer r after) (matchedAnswer q later) Y B C)
 
--- ---- DEMAND 2: "A rule is accepted exactly when it is in the grammar, the limits and the room"
+-- ---- DEMAND 2: a rule is accepted exactly when it is in the grammar, the limits and the room
 pub record Acceptable (rule before : List ℕ) (t : Tree) : Type 0 where
   pub short : length rule ≤ 1024
   pub is-rule : IsRule rule t
@@ -127,32 +127,32 @@ accepts {rule} {before} r after B = (λ d. taken (ap (λ (q : Built). builtAnswe
         (length (image t), one-built B C .0)
 
 module _ {rule before after : List ℕ} {n : ℕ} (B : BuildSays rule before (builtAnswer (Done n) after)) (t : Tree) (d : IsRule rule t) where
-  -- "Its image is the masks that document 01 lays down": the words that build wrote are the image of the rule's tree
+  -- its image is the masks that document 01 lays down: the words that build wrote are the image of the rule's tree
   pub image-built : ImageOf (take n after) t
   image-built = tables.accepted rule before (builtAnswer (Done n) after) B refl t d
 
-  -- "Run over a journal, the image reports exactly the places where a stretch spelled by the rule ends, rising, as far as the list reaches, with the true total"
+  -- run over a journal, the image reports exactly the places where a stretch spelled by the rule ends, rising, as far as the list reaches, with the true total
   pub ends-reported : {text room later : List ℕ} {r : Matched} → Bytes text → length text ≤ 65535 → MatchSays (take n after) text room (matchedAnswer r later)
       → (ends : List ℕ) → EndsAre t text ends → (r ≡ matches.Done (length ends)) × (later ≡ done ends room .lent)
   ends-reported {text} {room} Y l M ends E =
       let N : MatchSays (take n after) text room (matchedAnswer (matches.Done (length ends)) (done ends room .lent)) = matched t ends image-built l E refl in
       one-matched Y M N
 
-  -- ---- DEMAND 3: "The image of an accepted rule reads back as its plain writing, byte for byte"
+  -- ---- DEMAND 3: the image of an accepted rule reads back as its plain writing, byte for byte
   pub reads-back : {room later : List ℕ} {r : Written} → length (writing t) ≤ length room → ReadBackSays (take n after) room (writtenAnswer r later)
       → (r ≡ writes.Done (length (writing t))) × (later ≡ done (writing t) room .lent)
   reads-back {room} l R =
       let S : ReadBackSays (take n after) room (writtenAnswer (writes.Done (length (writing t))) (done (writing t) room .lent)) = written t image-built l refl in
       one-written R S
 
--- "two rules have the same image exactly when they have the same plain writing"
+-- two rules have the same image exactly when they have the same plain writing
 pub same-image : {rule rule′ before before′ after after′ : List ℕ} {n n′ : ℕ} → BuildSays rule before (builtAnswer (Done n) after)
     → BuildSays rule′ before′ (builtAnswer (Done n′) after′) → (t t′ : Tree) → IsRule rule t → IsRule rule′ t′
     → (take n after ≡ take n′ after′) ↔ (writing t ≡ writing t′)
 same-image {rule} {rule′} {before} {before′} {after} {after′} {n} {n′} B C t t′ d d′ =
     tables.same-image rule rule′ before before′ (builtAnswer (Done n) after) (builtAnswer (Done n′) after′) t t′ d d′ B refl C refl
 
--- "words that are no tree's image are refused by reader and matcher alike"
+-- words that are no tree's image are refused by reader and matcher alike
 pub reader-refuses : {words before : List ℕ} (r : Written) (after : List ℕ) → ReadBackSays words before (writtenAnswer r after) → (r ≡ writes.NotAnImage) ↔ NoImage words
 reader-refuses {words} {before} r after R = (λ e. refused-by R (ap (λ (q : Written). writtenAnswer q after .number) e), λ n. one-written R (refusal n) .0)
   where

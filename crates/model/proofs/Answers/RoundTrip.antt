@@ -38,12 +38,12 @@ accepted rule before a (no-room u l d m k r e) z t c = absurd (omega (arith, ap 
 accepted rule before a (built u l d m k r e) z t c =
     subst (ImageOf (wordsOf a)) (one-tree rule u t d c) (record { rule = rule; is-rule = d; few = m; shallow = k; laid = ap wordsOf e ∙ first-words (image u) before r })
 
--- "THE IMAGE OF AN ACCEPTED RULE READS BACK AS ITS PLAIN WRITING"
+-- THE IMAGE OF AN ACCEPTED RULE READS BACK AS ITS PLAIN WRITING
 pub reads-back : (rule before : List ℕ) (a : Answer) (t : Tree) → IsRule rule t → BuildSays rule before a → a .number ≡ 0
     → (room : List ℕ) → length (writing t) ≤ length room → (b : Answer) → ReadBackSays (wordsOf a) room b → b ≡ done (writing t) room
 reads-back rule before a t d B z room l b R = read-back-one (wordsOf a) room b (done (writing t) room) R (ReadBackSays.written t (accepted rule before a B z t d) l refl)
 
--- "TWO RULES HAVE THE SAME IMAGE EXACTLY WHEN THEY HAVE THE SAME PLAIN WRITING"
+-- TWO RULES HAVE THE SAME IMAGE EXACTLY WHEN THEY HAVE THE SAME PLAIN WRITING
 pub same-image : (rule rule′ before before′ : List ℕ) (a a′ : Answer) (t t′ : Tree) → IsRule rule t → IsRule rule′ t′
     → BuildSays rule before a → a .number ≡ 0 → BuildSays rule′ before′ a′ → a′ .number ≡ 0 → (wordsOf a ≡ wordsOf a′) ↔ (writing t ≡ writing t′)
 same-image rule rule′ before before′ a a′ t t′ d d′ B z B′ z′ = (

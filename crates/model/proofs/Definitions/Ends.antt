@@ -46,6 +46,6 @@ full-live t F text p = (
   λ h. end-stops t text p .1 (h .0, end-is t F text p .0 (live-is t F (take p text) (accepting t) .1 (h .1))),
 )
 
--- "PLACE p IS AN END EXACTLY IF m-1 IS LIVE, WHICH IS: SOME STRETCH OF THE TEXT STOPPING AT p, PERHAPS EMPTY, IS SPELLED BY THE RULE"
+-- PLACE p IS AN END EXACTLY IF m-1 IS LIVE, WHICH IS: SOME STRETCH OF THE TEXT STOPPING AT p, PERHAPS EMPTY, IS SPELLED BY THE RULE
 pub end-live : {rule : List ℕ} (t : Tree) → IsRule rule t → (text : List ℕ) (p : ℕ) → End t text p ↔ ((p ≤ length text) × Live t (take p text) (accepting t))
 end-live t d = full-live t (rule-full t d)

@@ -34,11 +34,11 @@
  *
  * What a call costs, in instructions on x86-64. These are counts of calls that were made, and no promise: docs/SPEED.md has them with the rules and
  * texts, and says how they were counted (callgrind, or the instructions that the emulator ran).
- *  - Every call but build checks its image: 7,400 to 19,400 for 525 words (4,200 bytes), at most 168,200 for 4,834 (38,672 bytes), the dearest images
+ *  - Every call but build checks its image: 7,400 to 16,700 for 525 words (4,200 bytes), at most 143,800 for 4,834 (38,672 bytes), the dearest images
  *    that were found ("The check alone").
  *  - Match and step, for each byte besides: 22 for the smallest rules to 2,526 for 500 states eight deep; with repeated groups, where cycles go round
  *    at every byte, up to 5,922 ("Match and step", "Cycles").
- *  - Build of a rule of 1,024 bytes: at most 1,032,800. Read back: 21,800 for the rule `a`, at most 20,094,300 ("Build, read back ..").
+ *  - Build of a rule of 1,024 bytes: at most 1,022,000. Read back: 21,600 for the rule `a`, at most 19,833,600 ("Build, read back ..").
  *  - Check and propose: by the bytes from start to end; for 65,535 bytes and 512 states up to some 1,500 million each ("Spellings").
  */
 #ifndef LAVUMBISHE_H

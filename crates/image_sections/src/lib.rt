@@ -1,5 +1,5 @@
 // Where the words of an image lie (document 01, "The image"): from the numbers of its shape the place of each section, in one record by value; the places of a
-// byte's masks; and the header of any words at all, read in one place. No other crate knows a place as a number.
+// byte's masks; and the header of any words at all, read in one place. Only the shape's own words are written elsewhere, by `image`.
 mod reader;
 
 pub use reader::read_header;

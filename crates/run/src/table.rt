@@ -68,7 +68,7 @@ fn kind(image: &[u64], sections: Sections, j: usize) -> Kind
     masks
 }
 
-// The masks of kind j into their sections.
+// The masks of kind j into their places.
 fn put_kind(table: &mut Table, j: usize, masks: Kind)
     requires { ⌜ (j < 9) × (length (now table) ≡ 97) ⌝ }
     ensures { λ _. ⌜ Put j masks (now (table .entry)) (now (table .exit)) ⌝ }

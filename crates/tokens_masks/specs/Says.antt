@@ -53,7 +53,7 @@ LettersSay t row = (s : tree.Tree) → TreeOnTape s t → row ≡ words 8 (mask 
 abbrev pub LoopsSay : Tape → List ℕ → Type 0
 LoopsSay t row = (s : tree.Tree) → TreeOnTape s t → (b x : ℕ) → x < states s → (letters s b x && bit (value row) x) ≡ repeats s b x
 
--- LAY OUT SAYS, of the words of all masks: what it computes
+-- LAY OUT SAYS, of the words of all masks, by the numbers of their kinds (`number` of the model; 8 is propagate's block): what it computes
 pub record Laid (t : Tape) (ms : List ℕ) : Type 0 where
   pub letter-places : rowIn ms 0 ≡ getD (tableOf t letter-place) 0 []
   pub loop-places : rowIn ms 1 ≡ getD (tableOf t loop-place) 0 []

@@ -1,5 +1,6 @@
 -- The three tables of document 01: each gives each input exactly one answer (`build-one`, `read-back-one`, `match-one`; `-total`: it gives one).
 -- `RoundTrip` is demand 3: an accepted rule's image reads back as its plain writing, and images tell the same rules apart as writings do.
+pub mod One
 pub mod Build
 pub mod ReadBack
 pub mod Match

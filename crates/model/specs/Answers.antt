@@ -10,22 +10,34 @@ use Rattle.model.specs.Edges.{depth, states}
 use Rattle.model.specs.Ends.{EndsAre}
 use Rattle.model.specs.Image.{image}
 
--- an answer: the number, the count, and what was lent as it is afterwards
-pub record Answer : Type 0 where
+-- an answer: its number, what it gives by value, and all that was lent as it is afterwards
+pub record Answer (Given Lent : Type 0) : Type 0 where
   pub number : ℕ
-  pub count : ℕ
-  pub lent : List ℕ
+  pub given : Given
+  pub lent : Lent
+
+-- a refusal gives nothing, and what was lent stays as it was
+abbrev pub refusal : {Given Lent : Type 0} → (nothing : Given) → ℕ → Lent → Answer Given Lent
+refusal nothing n before = record { number = n; given = nothing; lent = before }
 
 -- "Any refusal gives count 0 and changes nothing."
-abbrev pub refused : ℕ → List ℕ → Answer
-refused n before = record { number = n; count = 0; lent = before }
+abbrev pub refused : {Lent : Type 0} → ℕ → Lent → Answer ℕ Lent
+refused n before = refusal 0 n before
+
+-- build, read back and match give a count, and are lent one list
+abbrev pub Counted : Type 0
+Counted = Answer ℕ (List ℕ)
 
 -- "Done" gives the length of the whole; what fits of it is written. "Words or bytes past what is written stay as they were."
-abbrev pub done : List ℕ → List ℕ → Answer
-done whole before = record { number = 0; count = length whole; lent = take (length before) whole ++ drop (length whole) before }
+abbrev pub done : List ℕ → List ℕ → Counted
+done whole before = record { number = 0; given = length whole; lent = take (length before) whole ++ drop (length whole) before }
+
+-- and so much of what was lent is its result
+abbrev pub resultOf : Counted → List ℕ
+resultOf a = take (a .given) (a .lent)
 
 -- BUILD, from rule bytes into lent words
-pub data BuildSays (rule before : List ℕ) (a : Answer) : Type 0 where
+pub data BuildSays (rule before : List ℕ) (a : Counted) : Type 0 where
   rule-too-long : 1024 < length rule → a ≡ refused 1 before → BuildSays rule before a
   not-a-rule : length rule ≤ 1024 → ((t : Tree) → IsRule rule t → ⊥) → a ≡ refused 2 before → BuildSays rule before a
   too-many-states : (t : Tree) → length rule ≤ 1024 → IsRule rule t → 512 < states t → a ≡ refused 3 before → BuildSays rule before a
@@ -47,13 +59,13 @@ abbrev pub NoImage : List ℕ → Type 0
 NoImage words = (t : Tree) → ImageOf words t → ⊥
 
 -- READ BACK, from image words into lent bytes
-pub data ReadBackSays (words before : List ℕ) (a : Answer) : Type 0 where
+pub data ReadBackSays (words before : List ℕ) (a : Counted) : Type 0 where
   not-an-image : NoImage words → a ≡ refused 6 before → ReadBackSays words before a
   no-room : (t : Tree) → ImageOf words t → length before < length (writing t) → a ≡ refused 8 before → ReadBackSays words before a
   written : (t : Tree) → ImageOf words t → length (writing t) ≤ length before → a ≡ done (writing t) before → ReadBackSays words before a
 
 -- MATCH, from image words and text bytes into lent places. "Match writes the first ends that fit; a short list is no refusal."
-pub data MatchSays (words text before : List ℕ) (a : Answer) : Type 0 where
+pub data MatchSays (words text before : List ℕ) (a : Counted) : Type 0 where
   not-an-image : NoImage words → a ≡ refused 6 before → MatchSays words text before a
   text-too-long : (t : Tree) → ImageOf words t → 65535 < length text → a ≡ refused 7 before → MatchSays words text before a
   matched : (t : Tree) (ends : List ℕ) → ImageOf words t → length text ≤ 65535 → EndsAre t text ends → a ≡ done ends before → MatchSays words text before a

@@ -8,7 +8,7 @@ use Rattle.model.specs.Tree.{Tree}
 use Rattle.model.specs.Edges.{accepting}
 use Rattle.model.specs.Live.{Free, Reached, Takes}
 use Rattle.model.specs.Ends.{End}
-use Rattle.model.specs.Answers.{ImageOf, NoImage}
+use Rattle.model.specs.Answers.{Answer, ImageOf, NoImage, refusal}
 
 -- a state "reached so", without a letter, from q
 abbrev pub Reaches : Tree → ℕ → ℕ → Type 0
@@ -38,34 +38,42 @@ pub record Latest (t : Tree) (text : List ℕ) (start end : ℕ) : Type 0 where
   pub some : (states : List ℕ) × Spelled t text start end states
   pub none-later : (later : ℕ) (states : List ℕ) → Spelled t text later end states → later ≤ start
 
--- CHECK: "After 6 and 7 a small checker says yes exactly if .."
-pub data CheckSays (words text : List ℕ) (start end : ℕ) (states : List ℕ) (number : ℕ) (yes : Bool) : Type 0 where
-  not-an-image : NoImage words → number ≡ 6 → yes ≡ false → CheckSays words text start end states number yes
-  text-too-long : (t : Tree) → ImageOf words t → 65535 < length text → number ≡ 7 → yes ≡ false → CheckSays words text start end states number yes
-  right : (t : Tree) → ImageOf words t → length text ≤ 65535 → Spelled t text start end states → number ≡ 0 → yes ≡ true
-      → CheckSays words text start end states number yes
-  wrong : (t : Tree) → ImageOf words t → length text ≤ 65535 → (Spelled t text start end states → ⊥) → number ≡ 0 → yes ≡ false
-      → CheckSays words text start end states number yes
+-- CHECK: "After 6 and 7 a small checker says yes exactly if .."; nothing is lent to be changed
+abbrev pub Judgement : Type 0
+Judgement = Answer Bool (Unit {0})
 
--- what the proposer answers: the number, the start, how many states, and the lent list as it is afterwards
-pub record Proposal : Type 0 where
-  pub number : ℕ
+abbrev pub says : Bool → Judgement
+says b = record { number = 0; given = b; lent = tt }
+
+pub data CheckSays (words text : List ℕ) (start end : ℕ) (states : List ℕ) (a : Judgement) : Type 0 where
+  not-an-image : NoImage words → a ≡ refusal false 6 tt → CheckSays words text start end states a
+  text-too-long : (t : Tree) → ImageOf words t → 65535 < length text → a ≡ refusal false 7 tt → CheckSays words text start end states a
+  right : (t : Tree) → ImageOf words t → length text ≤ 65535 → Spelled t text start end states → a ≡ says true → CheckSays words text start end states a
+  wrong : (t : Tree) → ImageOf words t → length text ≤ 65535 → (Spelled t text start end states → ⊥) → a ≡ says false
+      → CheckSays words text start end states a
+
+-- what the proposer gives: the start, and how many states; lent is the list for them
+pub record Stretch : Type 0 where
   pub start : ℕ
   pub count : ℕ
-  pub lent : List ℕ
 
--- a refusal has start 0 and count 0 and changes nothing
-abbrev pub refused : ℕ → List ℕ → Proposal
-refused n before = record { number = n; start = 0; count = 0; lent = before }
+abbrev pub Proposal : Type 0
+Proposal = Answer Stretch (List ℕ)
+
+-- a refusal has start 0 and count 0
+abbrev pub proposes-none : ℕ → List ℕ → Proposal
+proposes-none = refusal (record { start = 0; count = 0 })
+
+abbrev pub proposes : (start count : ℕ) → List ℕ → Proposal
+proposes start count after = record { number = 0; given = record { start = start; count = count }; lent = after }
 
 -- PROPOSE: "After 6 and 7 it refuses a place that is no end with 16, then a lent list shorter than the stretch with 17, and nothing else."
 -- "its choice of states is free": any that get yes; the list's other places stay as they were.
 pub data ProposeSays (words text : List ℕ) (end : ℕ) (before : List ℕ) (a : Proposal) : Type 0 where
-  not-an-image : NoImage words → a ≡ refused 6 before → ProposeSays words text end before a
-  text-too-long : (t : Tree) → ImageOf words t → 65535 < length text → a ≡ refused 7 before → ProposeSays words text end before a
-  no-end : (t : Tree) → ImageOf words t → length text ≤ 65535 → (End t text end → ⊥) → a ≡ refused 16 before → ProposeSays words text end before a
+  not-an-image : NoImage words → a ≡ proposes-none 6 before → ProposeSays words text end before a
+  text-too-long : (t : Tree) → ImageOf words t → 65535 < length text → a ≡ proposes-none 7 before → ProposeSays words text end before a
+  no-end : (t : Tree) → ImageOf words t → length text ≤ 65535 → (End t text end → ⊥) → a ≡ proposes-none 16 before → ProposeSays words text end before a
   no-room : (t : Tree) (start : ℕ) → ImageOf words t → length text ≤ 65535 → Latest t text start end → length before < end - start
-      → a ≡ refused 17 before → ProposeSays words text end before a
+      → a ≡ proposes-none 17 before → ProposeSays words text end before a
   proposed : (t : Tree) (start : ℕ) (states : List ℕ) → ImageOf words t → length text ≤ 65535 → Latest t text start end → end - start ≤ length before
-      → Spelled t text start end states
-      → a ≡ record { number = 0; start = start; count = end - start; lent = states ++ drop (end - start) before } → ProposeSays words text end before a
+      → Spelled t text start end states → a ≡ proposes start (end - start) (states ++ drop (end - start) before) → ProposeSays words text end before a

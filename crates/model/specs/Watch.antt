@@ -14,7 +14,7 @@ use Rattle.model.specs.Edges.{accepting, states}
 use Rattle.model.specs.Live.{Before, Live, LiveFrom}
 use Rattle.model.specs.Ends.{EndsAre, Rising}
 use Rattle.model.specs.Image.{row, width}
-use Rattle.model.specs.Answers.{done, ImageOf, NoImage}
+use Rattle.model.specs.Answers.{Answer, done, ImageOf, NoImage, refused}
 
 -- ---- MASKS
 -- "State i is bit i mod 64 of word i/64 (whole part)": state q is in the mask
@@ -41,31 +41,32 @@ pub record EndsIn (t : Tree) (D : ℕ → Type 0) (place : ℕ) (stretch ps : Li
   pub ends : (p : ℕ) → p ∈ ps → EndIn t D place stretch p
   pub complete : (p : ℕ) → EndIn t D place stretch p → p ∈ ps
 
--- ---- ANSWERS: number, count, and all that was lent as it is afterwards: the mask's words, the place, the list for the ends
+-- ---- ANSWERS: a count of ends; lent are the mask's words, the place and the list for the ends
 pub record Watch : Type 0 where
-  pub number : ℕ
-  pub count : ℕ
   pub mask : List ℕ
   pub place : ℕ
   pub ends : List ℕ
 
+abbrev pub Watched : Type 0
+Watched = Answer ℕ Watch
+
 -- "A refused stretch leaves the watch where it was."
-abbrev pub stays : ℕ → (mask : List ℕ) (place : ℕ) (ends : List ℕ) → Watch
-stays n mask place ends = record { number = n; count = 0; mask = mask; place = place; ends = ends }
+abbrev pub stays : ℕ → (mask : List ℕ) (place : ℕ) (ends : List ℕ) → Watched
+stays n mask place ends = refused n (record { mask = mask; place = place; ends = ends })
 
 -- done: the new mask and place, the total of what was found, and as much of it written as fits
-abbrev pub goes-on : (mask : List ℕ) (place : ℕ) (found ends : List ℕ) → Watch
-goes-on mask place found ends = record { number = 0; count = length found; mask = mask; place = place; ends = done found ends .lent }
+abbrev pub goes-on : (mask : List ℕ) (place : ℕ) (found ends : List ℕ) → Watched
+goes-on mask place found ends = record { number = 0; given = length found; lent = record { mask = mask; place = place; ends = done found ends .lent } }
 
 -- BEGIN: "beginning gives 6, then 9 by the words lent"; "Place 0 is reported by the beginning call only."
-pub data BeginSays (words mask : List ℕ) (place : ℕ) (ends : List ℕ) (a : Watch) : Type 0 where
+pub data BeginSays (words mask : List ℕ) (place : ℕ) (ends : List ℕ) (a : Watched) : Type 0 where
   not-an-image : NoImage words → a ≡ stays 6 mask place ends → BeginSays words mask place ends a
   not-a-mask : (t : Tree) → ImageOf words t → length mask ≢ width (states t) → a ≡ stays 9 mask place ends → BeginSays words mask place ends a
   begun : (t : Tree) (first found : List ℕ) → ImageOf words t → length mask ≡ width (states t) → MaskOf (states t) (Before t) first → EndsAre t [] found
       → a ≡ goes-on first 0 found ends → BeginSays words mask place ends a
 
 -- STEP: "The order is 6, 7, 9, 10"; "The limit of 65,535 holds for one stretch"; "up to 4,294,967,295 bytes"
-pub data StepSays (words mask : List ℕ) (place : ℕ) (stretch ends : List ℕ) (a : Watch) : Type 0 where
+pub data StepSays (words mask : List ℕ) (place : ℕ) (stretch ends : List ℕ) (a : Watched) : Type 0 where
   not-an-image : NoImage words → a ≡ stays 6 mask place ends → StepSays words mask place stretch ends a
   stretch-too-long : (t : Tree) → ImageOf words t → 65535 < length stretch → a ≡ stays 7 mask place ends → StepSays words mask place stretch ends a
   not-a-mask : (t : Tree) → ImageOf words t → length stretch ≤ 65535 → (IsMask (states t) mask → ⊥) → a ≡ stays 9 mask place ends
@@ -80,38 +81,38 @@ pub data StepSays (words mask : List ℕ) (place : ℕ) (stretch ends : List ℕ
 pub record Call : Type 0 where
   pub stretch : List ℕ
   pub lent : List ℕ
-  pub gave : Watch
+  pub gave : Watched
 
 -- "That holds for one image throughout": each call is a step with that image, from the mask and the place that the one before gave
 abbrev pub Calls : (words mask : List ℕ) (place : ℕ) → List Call → Type 0
 Calls words mask place [] = Unit
-Calls words mask place (c ∷ cs) = StepSays words mask place (c .stretch) (c .lent) (c .gave) × Calls words (c .gave .mask) (c .gave .place) cs
+Calls words mask place (c ∷ cs) = StepSays words mask place (c .stretch) (c .lent) (c .gave) × Calls words (c .gave .lent .mask) (c .gave .lent .place) cs
 
 -- the whole text; the ends joined, as many of each list as its call counts; the mask and the place at last
 abbrev pub textOf : List Call → List ℕ
 textOf cs = each (λ c. c .stretch) cs
 
-abbrev pub foundBy : Watch → List ℕ
-foundBy a = take (a .count) (a .ends)
+abbrev pub foundBy : Watched → List ℕ
+foundBy a = take (a .given) (a .lent .ends)
 
 abbrev pub endsOf : List Call → List ℕ
 endsOf cs = each (λ c. foundBy (c .gave)) cs
 
-abbrev pub lastOf : Watch → List Call → Watch
+abbrev pub lastOf : Watched → List Call → Watched
 lastOf a [] = a
 lastOf a (c ∷ cs) = lastOf (c .gave) cs
 
 -- "given room for each stretch's ends"; each stretch within its limit
-abbrev pub Room : (ends : List ℕ) → Watch → Type 0
-Room ends a = a .count ≤ length ends
+abbrev pub Room : (ends : List ℕ) → Watched → Type 0
+Room ends a = a .given ≤ length ends
 
 abbrev pub Fair : Call → Type 0
 Fair c = (length (c .stretch) ≤ 65535) × Room (c .lent) (c .gave)
 
 -- WHAT A CUTTING PROMISES: every call is done, "the ends joined and the final mask are those document 01 defines for the whole text"
-pub record Cutting (t : Tree) (first : Watch) (cs : List Call) : Type 0 where
+pub record Cutting (t : Tree) (first : Watched) (cs : List Call) : Type 0 where
   pub began : first .number ≡ 0
   pub went-on : All (λ c. c .gave .number ≡ 0) cs
   pub ends : EndsAre t (textOf cs) (foundBy first ++ endsOf cs)
-  pub mask : MaskOf (states t) (Live t (textOf cs)) (lastOf first cs .mask)
-  pub place : lastOf first cs .place ≡ length (textOf cs)
+  pub mask : MaskOf (states t) (Live t (textOf cs)) (lastOf first cs .lent .mask)
+  pub place : lastOf first cs .lent .place ≡ length (textOf cs)

@@ -12,31 +12,32 @@ use Rattle.model.specs.Tree.{Tree}
 use Rattle.model.specs.Grammar.{IsRule}
 use Rattle.model.specs.Edges.{depth, states}
 use Rattle.model.specs.Image.{image}
-use Rattle.model.specs.Answers.{Answer, BuildSays, built, done, no-room, not-a-rule, refused, rule-too-long, too-deep, too-many-states}
+use Rattle.model.specs.Answers.{BuildSays, built, Counted, done, no-room, not-a-rule, refused, rule-too-long, too-deep, too-many-states}
 use Rattle.model.specs.Models.Reader.{readRule}
+use Rattle.model.proofs.Answers.One.{one-answer}
 use Rattle.model.proofs.Laws.Bool.{le-or-lt, pick-gt, pick-le}
 use Rattle.model.proofs.Reading.Decides.{reads}
 
 -- ---- the answer, computed: checks 3 to 5 on a tree, check 2 on what was read, check 1 on the rule
-abbrev pub treeAnswer : Tree → List ℕ → Answer
+abbrev pub treeAnswer : Tree → List ℕ → Counted
 treeAnswer t before =
     cond (leb (states t) 512)
     (cond (leb (depth t) 8) (cond (leb (length (image t)) (length before)) (done (image t) before) (refused 5 before)) (refused 4 before))
     (refused 3 before)
 
-abbrev pub readAnswer : Option Tree → List ℕ → Answer
+abbrev pub readAnswer : Option Tree → List ℕ → Counted
 readAnswer none before = refused 2 before
 readAnswer (some t) before = treeAnswer t before
 
-abbrev pub buildAnswer : List ℕ → List ℕ → Answer
+abbrev pub buildAnswer : List ℕ → List ℕ → Counted
 buildAnswer rule before = cond (leb (length rule) 1024) (readAnswer (readRule rule) before) (refused 1 before)
 
 -- ---- a check that fails, and one that passes
 module _ (t : Tree) (before : List ℕ) where
-  abbrev byRoom : Answer
+  abbrev byRoom : Counted
   byRoom = cond (leb (length (image t)) (length before)) (done (image t) before) (refused 5 before)
 
-  abbrev byDepth : Answer
+  abbrev byDepth : Counted
   byDepth = cond (leb (depth t) 8) byRoom (refused 4 before)
 
   many : 512 < states t → treeAnswer t before ≡ refused 3 before
@@ -72,7 +73,7 @@ module _ (rule before : List ℕ) where
       go none e = e
       go (some t) e = absurd (f t (reads rule t .1 e))
 
-  pub build-is : (a : Answer) → BuildSays rule before a → a ≡ buildAnswer rule before
+  pub build-is : (a : Counted) → BuildSays rule before a → a ≡ buildAnswer rule before
   build-is a (rule-too-long l e) = e ∙ sym (long l)
   build-is a (not-a-rule l f e) = e ∙ sym (short l ∙ ap (λ (o : Option Tree). readAnswer o before) (unread f))
   build-is a (too-many-states t l d m e) = e ∙ sym (read t l d ∙ many t before m)
@@ -112,5 +113,5 @@ module _ (rule before : List ℕ) where
       go (inr l) = rule-too-long l (long l)
 
 -- TWO ANSWERS THAT MEET BUILD'S TABLE FOR ONE INPUT ARE EQUAL
-pub build-one : (rule before : List ℕ) (a b : Answer) → BuildSays rule before a → BuildSays rule before b → a ≡ b
-build-one rule before a b p q = build-is rule before a p ∙ sym (build-is rule before b q)
+pub build-one : (rule before : List ℕ) (a b : Counted) → BuildSays rule before a → BuildSays rule before b → a ≡ b
+build-one rule before = one-answer (build-is rule before)

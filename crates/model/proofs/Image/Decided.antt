@@ -55,6 +55,21 @@ verdict-none ws = (λ e s I. not-both s e (verdict-some ws s .1 I), λ f. go (ve
     go none e f = e
     go (some s) e f = absurd (f s (verdict-some ws s .0 e))
 
+-- so words are no image, or the image of a tree
+pub by-verdict : {X : Type 0} (ws : List ℕ) → (NoImage ws → X) → ((s : Seq) → ImageOf ws s → X) → X
+by-verdict {X} ws f g = go (verdict ws) refl
+  where
+    go : (o : Option Seq) → verdict ws ≡ o → X
+    go none e = f (verdict-none ws .0 e)
+    go (some s) e = g s (verdict-some ws s .0 e)
+
+-- and what is computed from the verdict is known in either case
+pub on-image : {A : Type 0} (f : Option Seq → A) {ws : List ℕ} {s : Seq} → ImageOf ws s → f (verdict ws) ≡ f (some s)
+on-image f {ws} {s} I = ap f (verdict-some ws s .1 I)
+
+pub on-other : {A : Type 0} (f : Option Seq → A) {ws : List ℕ} → NoImage ws → f (verdict ws) ≡ f none
+on-other f {ws} n = ap f (verdict-none ws .1 n)
+
 -- words are the image of at most one tree
 pub one-image : (ws : List ℕ) (s s′ : Seq) → ImageOf ws s → ImageOf ws s′ → s ≡ s′
 one-image ws s s′ I J = let p = verdict-some ws s .1 I in let q = verdict-some ws s′ .1 J in cc

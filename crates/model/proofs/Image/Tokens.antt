@@ -8,7 +8,7 @@ use native.Mathlib.Omega.{arith}
 use lib.ListN.{length}
 use Rattle.model.specs.Tree.{Alts, end, glue, last, letter, Mark, more, Seq, union}
 use Rattle.model.specs.Edges.{altsEmpty, altsEnd, seqEnd}
-use Rattle.model.specs.Models.Tokens.{aBar, aClose, aLetter, altsTokens, anOpen, Begun, closed, parse, Parsed, parsed, prepend, put, several, shown, Token, tokens}
+use Rattle.model.specs.Models.Tokens.{aBar, aClose, aLetter, altsTokens, anOpen, Begun, closed, parse, Parsed, parsed, prepend, alternatives, several, shown, Token, tokens}
 use Rattle.model.proofs.Image.Unions.{GoodAlts, GoodUnions, kept-shown}
 use Rattle.model.proofs.Laws.Trees.{glue-end}
 
@@ -21,9 +21,9 @@ abbrev others : Alts → Option Alts
 others (last s) = none
 others (more s a) = some a
 
-put-back : (a : Alts) → put (first a) (others a) ≡ a
-put-back (last s) = refl
-put-back (more s a) = refl
+alternatives-back : (a : Alts) → alternatives (first a) (others a) ≡ a
+alternatives-back (last s) = refl
+alternatives-back (more s a) = refl
 
 -- the token x before what p has read
 abbrev before : Token → Parsed → Parsed
@@ -37,7 +37,7 @@ mutual
   parse-tokens (letter c r s) rest h bs g e = ap (before (aLetter c r)) (parse-tokens s rest h bs g e)
   parse-tokens (union m a s) rest h bs g e =
       ap (before anOpen) (parse-alts a (shown m (altsEmpty a)) (tokens s rest) (glue s h) bs (g .1) (parse-tokens s rest h bs (g .2) e))
-      ∙ ap (λ (b : Alts). parsed (closed b (shown m (altsEmpty a)) (glue s h)) bs) (put-back a)
+      ∙ ap (λ (b : Alts). parsed (closed b (shown m (altsEmpty a)) (glue s h)) bs) (alternatives-back a)
       ∙ ap (λ (n : Mark). parsed (union n a (glue s h)) bs) (kept-shown m (several a) (altsEmpty a) (g .0))
 
   parse-alts : (a : Alts) (m : Mark) (rest : List Token) (h : Seq) (bs : List Begun) → GoodAlts a → parse rest ≡ parsed h bs
@@ -46,7 +46,7 @@ mutual
       parse-tokens s (aClose m ∷ rest) end ((none, m, h) ∷ bs) (g .1) (ap (before (aClose m)) e) ∙ ap (λ (x : Seq). parsed x ((none, m, h) ∷ bs)) (glue-end s)
   parse-alts (more s a) m rest h bs g e =
       parse-tokens s (aBar ∷ altsTokens a m rest) end ((some a, m, h) ∷ bs) (g .1)
-      (ap (before aBar) (parse-alts a m rest h bs (g .2) e) ∙ ap (λ (b : Alts). parsed end ((some b, m, h) ∷ bs)) (put-back a))
+      (ap (before aBar) (parse-alts a m rest h bs (g .2) e) ∙ ap (λ (b : Alts). parsed end ((some b, m, h) ∷ bs)) (alternatives-back a))
       ∙ ap (λ (x : Seq). parsed x ((some a, m, h) ∷ bs)) (glue-end s)
 
 -- THE TREE IS READ BACK FROM ITS TOKENS

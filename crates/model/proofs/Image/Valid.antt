@@ -11,7 +11,7 @@ use lib.ListN.{length}
 use Rattle.model.specs.Tree.{Alts, canOmit, canSkip, end, last, letter, Mark, more, Seq, union}
 use Rattle.model.specs.Edges.{altsDepth, altsEmpty, depth, seqEmpty, seqEnd}
 use Rattle.model.specs.Models.LayOut.{afterBar, afterClose, begin, fitting, fittingIn, Frame, inside, nextAlternative, opened, outside, Scan, step, valid}
-use Rattle.model.specs.Models.Tokens.{aBar, aClose, aLetter, altsTokens, anOpen, Begun, parse, Parsed, parsed, prepend, put, several, shown, Token, tokens}
+use Rattle.model.specs.Models.Tokens.{aBar, aClose, aLetter, altsTokens, anOpen, Begun, parse, Parsed, parsed, prepend, alternatives, several, shown, Token, tokens}
 use Rattle.model.proofs.Image.Scan.{after, after-end, after-letter, after-union, afterUnion, alternativeAt, isEnd}
 use Rattle.model.proofs.Image.Unions.{GoodAlts, GoodUnions, kept-empty, kept-marks, shown-fits, shown-kept}
 use Rattle.model.proofs.Laws.Bool.{and-both, and-split}
@@ -99,43 +99,43 @@ outside-fits e [] h = tt
 outside-fits e (f ∷ st) h = absurd h
 
 -- a union from its first alternative h, those to the right and what its close shows
-put-good : (h : Seq) (o : Option Alts) → NonEmpty h → GoodUnions h → GoodOthers o → GoodAlts (put h o)
-put-good h none n g k = (n, g)
-put-good h (some a) n g k = (n, g, k)
+alternatives-good : (h : Seq) (o : Option Alts) → NonEmpty h → GoodUnions h → GoodOthers o → GoodAlts (alternatives h o)
+alternatives-good h none n g k = (n, g)
+alternatives-good h (some a) n g k = (n, g, k)
 
-put-several : (h : Seq) (o : Option Alts) → given o ≡ several (put h o)
-put-several h none = refl
-put-several h (some a) = refl
+alternatives-several : (h : Seq) (o : Option Alts) → given o ≡ several (alternatives h o)
+alternatives-several h none = refl
+alternatives-several h (some a) = refl
 
-put-empty : (h : Seq) (o : Option Alts) → eitherEmpty (seqEmpty h) o ≡ altsEmpty (put h o)
-put-empty h none = refl
-put-empty h (some a) = refl
+alternatives-empty : (h : Seq) (o : Option Alts) → eitherEmpty (seqEmpty h) o ≡ altsEmpty (alternatives h o)
+alternatives-empty h none = refl
+alternatives-empty h (some a) = refl
 
-put-tokens : (h : Seq) (o : Option Alts) (m : Mark) (s : Seq) (bs : List Begun)
-    → tokens h (begunTokens ((o, m, s) ∷ bs)) ≡ altsTokens (put h o) m (tokens s (begunTokens bs))
-put-tokens h none m s bs = refl
-put-tokens h (some a) m s bs = refl
+alternatives-tokens : (h : Seq) (o : Option Alts) (m : Mark) (s : Seq) (bs : List Begun)
+    → tokens h (begunTokens ((o, m, s) ∷ bs)) ≡ altsTokens (alternatives h o) m (tokens s (begunTokens bs))
+alternatives-tokens h none m s bs = refl
+alternatives-tokens h (some a) m s bs = refl
 
 fits-open : (xs : List Token) (q : Scan) (h : Seq) (bs : List Begun) → Fits xs true true (opened q ∷ q .stack) (parsed h bs)
     → Fits (anOpen ∷ xs) (q .noItem) (q .canBeEmpty) (q .stack) (prepend anOpen h bs)
 fits-open xs q h [] F = absurd (F .frames)
 fits-open xs q h ((o, m, s) ∷ bs) F = record {
   begun = λ e. tt;
-  good = (kept-marks m (several a) e fit, put-good h o (F .begun tt) (F .good) (F .frames .1), F .frames .2);
+  good = (kept-marks m (several a) e fit, alternatives-good h o (F .begun tt) (F .good) (F .frames .1), F .frames .2);
   frames = subst (λ (b : Bool). FitsFrames (q .canBeEmpty && (b && seqEmpty s)) (q .stack) bs) (kept-empty m (several a) e fit) (F .frames .3);
   back =
       ap (λ (n : Mark). anOpen ∷ altsTokens a n (tokens s (begunTokens bs))) (shown-kept m (several a) e fit)
-      ∙ ap (λ (l : List Token). anOpen ∷ l) (sym (put-tokens h o m s bs) ∙ F .back);
+      ∙ ap (λ (l : List Token). anOpen ∷ l) (sym (alternatives-tokens h o m s bs) ∙ F .back);
 }
   where
     a : Alts
-    a = put h o
+    a = alternatives h o
 
     e : Bool
     e = altsEmpty a
 
     fit : T (fitting m (several a) e)
-    fit = subst T (λ i. fitting m (put-several h o i) (put-empty h o i)) (F .frames .0)
+    fit = subst T (λ i. fitting m (alternatives-several h o i) (alternatives-empty h o i)) (F .frames .0)
 
 fits-bar : (xs : List Token) (z : ℕ) (e c : Bool) (st : List Frame) (h : Seq) (bs : List Begun) → T (inside st && not e)
     → Fits xs (afterBar z c st .noItem) (afterBar z c st .canBeEmpty) (afterBar z c st .stack) (parsed h bs) → Fits (aBar ∷ xs) e c st (prepend aBar h bs)
@@ -144,17 +144,17 @@ fits-bar xs z e c (f ∷ st) h [] k F = absurd (F .frames)
 fits-bar xs z e c (f ∷ st) h ((o, m, s) ∷ bs) k F = record {
   begun = λ x. absurd (T-not e k x);
   good = tt;
-  frames = (subst T same (F .frames .0), put-good h o (F .begun tt) (F .good) (F .frames .1), F .frames .2, F .frames .3);
-  back = ap (λ (l : List Token). aBar ∷ l) (sym (put-tokens h o m s bs) ∙ F .back);
+  frames = (subst T same (F .frames .0), alternatives-good h o (F .begun tt) (F .good) (F .frames .1), F .frames .2, F .frames .3);
+  back = ap (λ (l : List Token). aBar ∷ l) (sym (alternatives-tokens h o m s bs) ∙ F .back);
 }
   where
     a : Alts
-    a = put h o
+    a = alternatives h o
 
     same : fitting m true ((f .emptyBefore || c) || eitherEmpty (seqEmpty h) o) ≡ fitting m (f .barred || true) (f .emptyBefore || ((c && true) || altsEmpty a))
     same =
         ap₂ (λ (x y : Bool). fitting m x y) (sym (or-true (f .barred)))
-        (ap (λ (x : Bool). (f .emptyBefore || c) || x) (put-empty h o) ∙ or-assoc (f .emptyBefore) c (altsEmpty a)
+        (ap (λ (x : Bool). (f .emptyBefore || c) || x) (alternatives-empty h o) ∙ or-assoc (f .emptyBefore) c (altsEmpty a)
         ∙ ap (λ (x : Bool). f .emptyBefore || (x || altsEmpty a)) (sym (and-true c)))
 
 fits-close : (m : Mark) (xs : List Token) (z : ℕ) (e c : Bool) (st : List Frame) (h : Seq) (bs : List Begun) → T (fittingIn m c st && not e)

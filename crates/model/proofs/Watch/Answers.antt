@@ -11,7 +11,7 @@ use native.Mathlib.Omega.{arith}
 use lib.Dec.{T, eqb, eqb→eq, eqb-refl, leb}
 use lib.ListN.{length}
 use lib.Seq.{take-nil}
-use Rattle.model.specs.Answers.{ImageOf, NoImage}
+use Rattle.model.specs.Answers.{ImageOf}
 use Rattle.model.specs.Bits.{bit}
 use Rattle.model.specs.Edges.{accepting, depth, states}
 use Rattle.model.specs.Ends.{EndsAre}
@@ -21,9 +21,10 @@ use Rattle.model.specs.Models.Run.{closeWords, endsAfter, Masks, noted, 
 use Rattle.model.specs.Models.Verdict.{verdict}
 use Rattle.model.specs.Models.Words.{Fit, isMask, value}
 use Rattle.model.specs.Tree.{Tree}
-use Rattle.model.specs.Watch.{BeginSays, begun, EndsIn, goes-on, In, IsMask, MaskOf, not-a-mask, not-an-image, stays, stepped, StepSays, stretch-too-long, text-too-long, Watch}
+use Rattle.model.specs.Watch.{BeginSays, begun, EndsIn, goes-on, In, IsMask, MaskOf, not-a-mask, not-an-image, stays, stepped, StepSays, stretch-too-long, text-too-long, Watched}
+use Rattle.model.proofs.Answers.One.{one-answer}
 use Rattle.model.proofs.Definitions.EndsList.{ends-one}
-use Rattle.model.proofs.Image.Decided.{rule-full, verdict-none, verdict-some}
+use Rattle.model.proofs.Image.Decided.{by-verdict, on-image, on-other, rule-full}
 use Rattle.model.proofs.Image.Rows.{room}
 use Rattle.model.proofs.Laws.Bool.{is-not, is-true, le-false, le-or-lt, le-true, unequal}
 use Rattle.model.proofs.Watch.Ends.{ends-in-one}
@@ -42,25 +43,25 @@ firstOf t = closeWords (own t) (depth t) (own t .startMask)
 abbrev zeroOf : Tree → List ℕ
 zeroOf t = noted (bit (value (firstOf t)) (accepting t)) 0
 
-abbrev pub beginOf : Option Tree → (mask : List ℕ) (place : ℕ) (ends : List ℕ) → Watch
+abbrev pub beginOf : Option Tree → (mask : List ℕ) (place : ℕ) (ends : List ℕ) → Watched
 beginOf none mask place ends = stays 6 mask place ends
 beginOf (some t) mask place ends = cond (eqb (length mask) (width (states t))) (goes-on (firstOf t) 0 (zeroOf t) ends) (stays 9 mask place ends)
 
-abbrev pub beginAnswer : (words mask : List ℕ) (place : ℕ) (ends : List ℕ) → Watch
+abbrev pub beginAnswer : (words mask : List ℕ) (place : ℕ) (ends : List ℕ) → Watched
 beginAnswer words = beginOf (verdict words)
 
-abbrev runOf : Tree → (mask : List ℕ) (place : ℕ) (stretch ends : List ℕ) → Watch
+abbrev runOf : Tree → (mask : List ℕ) (place : ℕ) (stretch ends : List ℕ) → Watched
 runOf t mask place stretch ends =
     goes-on (runFrom (own t) (depth t) mask stretch) (place + length stretch) (endsAfter (own t) (depth t) (accepting t) place mask stretch) ends
 
-abbrev pub stepOf : Option Tree → (mask : List ℕ) (place : ℕ) (stretch ends : List ℕ) → Watch
+abbrev pub stepOf : Option Tree → (mask : List ℕ) (place : ℕ) (stretch ends : List ℕ) → Watched
 stepOf none mask place stretch ends = stays 6 mask place ends
 stepOf (some t) mask place stretch ends =
     cond (leb (length stretch) 65535)
     (cond (isMask (states t) mask) (cond (leb (place + length stretch) 4294967295) (runOf t mask place stretch ends) (stays 10 mask place ends)) (stays 9 mask place ends))
     (stays 7 mask place ends)
 
-abbrev pub stepAnswer : (words mask : List ℕ) (place : ℕ) (stretch ends : List ℕ) → Watch
+abbrev pub stepAnswer : (words mask : List ℕ) (place : ℕ) (stretch ends : List ℕ) → Watched
 stepAnswer words = stepOf (verdict words)
 
 -- ---- the masks of a tree hold its sets
@@ -69,14 +70,11 @@ carry t = tree-carry (states t) (width (states t)) t (room (states t)) (le-refl 
 
 -- ---- BEGIN
 module _ (words mask : List ℕ) (place : ℕ) (ends : List ℕ) where
-  abbrev Begins : Watch → Type 0
+  abbrev Begins : Watched → Type 0
   Begins = BeginSays words mask place ends
 
-  begins : (t : Tree) → ImageOf words t → beginAnswer words mask place ends ≡ beginOf (some t) mask place ends
-  begins t I = ap (λ (o : Option Tree). beginOf o mask place ends) (verdict-some words t .1 I)
-
-  begins-not : NoImage words → beginAnswer words mask place ends ≡ stays 6 mask place ends
-  begins-not n = ap (λ (o : Option Tree). beginOf o mask place ends) (verdict-none words .1 n)
+  abbrev begins : Option Tree → Watched
+  begins o = beginOf o mask place ends
 
   wide : (t : Tree) → length mask ≡ width (states t) → eqb (length mask) (width (states t)) ≡ true
   wide t e = is-true (eqb (length mask) (width (states t))) (subst (λ (n : ℕ). T (eqb n (width (states t)))) (sym e) (eqb-refl (width (states t))))
@@ -88,41 +86,35 @@ module _ (words mask : List ℕ) (place : ℕ) (ends : List ℕ) where
     zero-end : EndsAre t [] (zeroOf t)
     zero-end = first-ends t (rule-full t (I .is-rule)) (width (states t)) (own t) (carry t) (I .is-rule)
 
-  pub begin-is : (a : Watch) → Begins a → a ≡ beginAnswer words mask place ends
-  begin-is a (not-an-image n e) = e ∙ sym (begins-not n)
-  begin-is a (not-a-mask t I f e) = e ∙ sym (begins t I ∙ rw (unequal (length mask) (width (states t)) f))
+  pub begin-is : (a : Watched) → Begins a → a ≡ beginAnswer words mask place ends
+  begin-is a (not-an-image n e) = e ∙ sym (on-other begins n)
+  begin-is a (not-a-mask t I f e) = e ∙ sym (on-image begins I ∙ rw (unequal (length mask) (width (states t)) f))
   begin-is a (begun t first found I l A E e) =
       e ∙ ap₂ (λ (x y : List ℕ). goes-on x 0 y ends) (mask-one A (live t I)) (ends-one t [] found (zeroOf t) E (zero-end t I))
-      ∙ sym (begins t I ∙ rw (wide t l))
+      ∙ sym (on-image begins I ∙ rw (wide t l))
 
   -- THE TABLE SAYS SOMETHING FOR EVERY INPUT
   pub begin-total : Begins (beginAnswer words mask place ends)
-  begin-total = go (verdict words) refl
+  begin-total =
+      by-verdict words (λ n. not-an-image n (on-other begins n)) (λ t I. by t I (eqb (length mask) (width (states t))) refl)
     where
       by : (t : Tree) → ImageOf words t → (b : Bool) → eqb (length mask) (width (states t)) ≡ b → Begins (beginAnswer words mask place ends)
       by t I true e =
           let l = eqb→eq (length mask) (width (states t)) (subst T (sym e) tt) in
-          begun t (firstOf t) (zeroOf t) I l (live t I) (zero-end t I) (begins t I ∙ rw e)
-      by t I false e = not-a-mask t I (λ l. subst T (sym (wide t l) ∙ e) tt) (begins t I ∙ rw e)
-
-      go : (o : Option Tree) → verdict words ≡ o → Begins (beginAnswer words mask place ends)
-      go none e = let n = verdict-none words .0 e in not-an-image n (begins-not n)
-      go (some t) e = by t (verdict-some words t .0 e) (eqb (length mask) (width (states t))) refl
+          begun t (firstOf t) (zeroOf t) I l (live t I) (zero-end t I) (on-image begins I ∙ rw e)
+      by t I false e = not-a-mask t I (λ l. subst T (sym (wide t l) ∙ e) tt) (on-image begins I ∙ rw e)
 
   -- TWO ANSWERS THAT MEET BEGIN'S TABLE FOR ONE INPUT ARE EQUAL
-  pub begin-one : (a b : Watch) → Begins a → Begins b → a ≡ b
-  begin-one a b p q = begin-is a p ∙ sym (begin-is b q)
+  pub begin-one : (a b : Watched) → Begins a → Begins b → a ≡ b
+  begin-one = one-answer begin-is
 
 -- ---- STEP
 module _ (words mask : List ℕ) (place : ℕ) (stretch ends : List ℕ) (F : Fit mask) (B : Bytes stretch) where
-  abbrev Steps : Watch → Type 0
+  abbrev Steps : Watched → Type 0
   Steps = StepSays words mask place stretch ends
 
-  steps : (t : Tree) → ImageOf words t → stepAnswer words mask place stretch ends ≡ stepOf (some t) mask place stretch ends
-  steps t I = ap (λ (o : Option Tree). stepOf o mask place stretch ends) (verdict-some words t .1 I)
-
-  steps-not : NoImage words → stepAnswer words mask place stretch ends ≡ stays 6 mask place ends
-  steps-not n = ap (λ (o : Option Tree). stepOf o mask place stretch ends) (verdict-none words .1 n)
+  abbrev steps : Option Tree → Watched
+  steps o = stepOf o mask place stretch ends
 
   masked : (t : Tree) → IsMask (states t) mask → isMask (states t) mask ≡ true
   masked t M = is-true (isMask (states t) mask) (mask-test (states t) (omega arith) mask F .1 M)
@@ -137,19 +129,19 @@ module _ (words mask : List ℕ) (place : ℕ) (stretch ends : List ℕ) (F : Fi
     ends-after : EndsIn t (In mask) place stretch (endsAfter (own t) (depth t) (accepting t) place mask stretch)
     ends-after = stretch-ends t (rule-full t (I .is-rule)) (width (states t)) (own t) (carry t) mask refl F M stretch B place
 
-  pub step-is : (a : Watch) → Steps a → a ≡ stepAnswer words mask place stretch ends
-  step-is a (not-an-image n e) = e ∙ sym (steps-not n)
-  step-is a (stretch-too-long t I l e) = e ∙ sym (steps t I ∙ rw (le-false (length stretch) 65535 l))
-  step-is a (not-a-mask t I l f e) = e ∙ sym (steps t I ∙ rw (le-true (length stretch) 65535 l, not-masked t f))
+  pub step-is : (a : Watched) → Steps a → a ≡ stepAnswer words mask place stretch ends
+  step-is a (not-an-image n e) = e ∙ sym (on-other steps n)
+  step-is a (stretch-too-long t I l e) = e ∙ sym (on-image steps I ∙ rw (le-false (length stretch) 65535 l))
+  step-is a (not-a-mask t I l f e) = e ∙ sym (on-image steps I ∙ rw (le-true (length stretch) 65535 l, not-masked t f))
   step-is a (text-too-long t I l M k e) =
-      e ∙ sym (steps t I ∙ rw (le-true (length stretch) 65535 l, masked t M, le-false (place + length stretch) 4294967295 k))
+      e ∙ sym (on-image steps I ∙ rw (le-true (length stretch) 65535 l, masked t M, le-false (place + length stretch) 4294967295 k))
   step-is a (stepped t after found I l M k A E e) =
       e ∙ ap₂ (λ (x y : List ℕ). goes-on x (place + length stretch) y ends) (mask-one A (live-after t I M)) (ends-in-one E (ends-after t I M))
-      ∙ sym (steps t I ∙ rw (le-true (length stretch) 65535 l, masked t M, le-true (place + length stretch) 4294967295 k))
+      ∙ sym (on-image steps I ∙ rw (le-true (length stretch) 65535 l, masked t M, le-true (place + length stretch) 4294967295 k))
 
   -- THE TABLE SAYS SOMETHING FOR EVERY INPUT
   pub step-total : Steps (stepAnswer words mask place stretch ends)
-  step-total = go (verdict words) refl
+  step-total = by-verdict words (λ n. not-an-image n (on-other steps n)) (λ t I. short t I (le-or-lt (length stretch) 65535))
     where
       Said : Type 0
       Said = Steps (stepAnswer words mask place stretch ends)
@@ -157,41 +149,37 @@ module _ (words mask : List ℕ) (place : ℕ) (stretch ends : List ℕ) (F : Fi
       near : (t : Tree) → ImageOf words t → length stretch ≤ 65535 → IsMask (states t) mask → (place + length stretch ≤ 4294967295) ⊎ (4294967295 < place + length stretch) → Said
       near t I l M (inl k) =
           stepped t (runFrom (own t) (depth t) mask stretch) (endsAfter (own t) (depth t) (accepting t) place mask stretch) I l M k (live-after t I M) (ends-after t I M)
-          (steps t I ∙ rw (le-true (length stretch) 65535 l, masked t M, le-true (place + length stretch) 4294967295 k))
+          (on-image steps I ∙ rw (le-true (length stretch) 65535 l, masked t M, le-true (place + length stretch) 4294967295 k))
       near t I l M (inr k) =
-          text-too-long t I l M k (steps t I ∙ rw (le-true (length stretch) 65535 l, masked t M, le-false (place + length stretch) 4294967295 k))
+          text-too-long t I l M k (on-image steps I ∙ rw (le-true (length stretch) 65535 l, masked t M, le-false (place + length stretch) 4294967295 k))
 
       tested : (t : Tree) → ImageOf words t → length stretch ≤ 65535 → (b : Bool) → isMask (states t) mask ≡ b → Said
       tested t I l true e =
           near t I l (mask-test (states t) (omega arith) mask F .0 (subst T (sym e) tt)) (le-or-lt (place + length stretch) 4294967295)
       tested t I l false e =
-          not-a-mask t I l (λ M. subst T (sym (masked t M) ∙ e) tt) (steps t I ∙ rw (le-true (length stretch) 65535 l, e))
+          not-a-mask t I l (λ M. subst T (sym (masked t M) ∙ e) tt) (on-image steps I ∙ rw (le-true (length stretch) 65535 l, e))
 
       short : (t : Tree) → ImageOf words t → (length stretch ≤ 65535) ⊎ (65535 < length stretch) → Said
       short t I (inl l) = tested t I l (isMask (states t) mask) refl
-      short t I (inr l) = stretch-too-long t I l (steps t I ∙ rw (le-false (length stretch) 65535 l))
-
-      go : (o : Option Tree) → verdict words ≡ o → Said
-      go none e = let n = verdict-none words .0 e in not-an-image n (steps-not n)
-      go (some t) e = short t (verdict-some words t .0 e) (le-or-lt (length stretch) 65535)
+      short t I (inr l) = stretch-too-long t I l (on-image steps I ∙ rw (le-false (length stretch) 65535 l))
 
   -- TWO ANSWERS THAT MEET STEP'S TABLE FOR ONE INPUT ARE EQUAL
-  pub step-one : (a b : Watch) → Steps a → Steps b → a ≡ b
-  step-one a b p q = step-is a p ∙ sym (step-is b q)
+  pub step-one : (a b : Watched) → Steps a → Steps b → a ≡ b
+  step-one = one-answer step-is
 
 -- A REFUSAL LEAVES THE WATCH WHERE IT WAS
-pub refused-stays : {words mask stretch ends : List ℕ} {place : ℕ} {a : Watch} → StepSays words mask place stretch ends a → a .number ≢ 0
+pub refused-stays : {words mask stretch ends : List ℕ} {place : ℕ} {a : Watched} → StepSays words mask place stretch ends a → a .number ≢ 0
     → a ≡ stays (a .number) mask place ends
-refused-stays {mask = mask} {ends = ends} {place = place} (not-an-image f e) n = e ∙ ap (λ (x : Watch). stays (x .number) mask place ends) (sym e)
-refused-stays {mask = mask} {ends = ends} {place = place} (stretch-too-long t I l e) n = e ∙ ap (λ (x : Watch). stays (x .number) mask place ends) (sym e)
-refused-stays {mask = mask} {ends = ends} {place = place} (not-a-mask t I l f e) n = e ∙ ap (λ (x : Watch). stays (x .number) mask place ends) (sym e)
-refused-stays {mask = mask} {ends = ends} {place = place} (text-too-long t I l f k e) n = e ∙ ap (λ (x : Watch). stays (x .number) mask place ends) (sym e)
-refused-stays (stepped t x y I l f k A E e) n = absurd (n (ap (λ (x : Watch). x .number) e))
+refused-stays {mask = mask} {ends = ends} {place = place} (not-an-image f e) n = e ∙ ap (λ (x : Watched). stays (x .number) mask place ends) (sym e)
+refused-stays {mask = mask} {ends = ends} {place = place} (stretch-too-long t I l e) n = e ∙ ap (λ (x : Watched). stays (x .number) mask place ends) (sym e)
+refused-stays {mask = mask} {ends = ends} {place = place} (not-a-mask t I l f e) n = e ∙ ap (λ (x : Watched). stays (x .number) mask place ends) (sym e)
+refused-stays {mask = mask} {ends = ends} {place = place} (text-too-long t I l f k e) n = e ∙ ap (λ (x : Watched). stays (x .number) mask place ends) (sym e)
+refused-stays (stepped t x y I l f k A E e) n = absurd (n (ap (λ (x : Watched). x .number) e))
 
 -- NO BYTES, NOTHING CHANGES: within the limits the watch stays as it was and nothing is found
-pub no-bytes : (words mask : List ℕ) (place : ℕ) (ends : List ℕ) (t : Tree) → ImageOf words t → Fit mask → IsMask (states t) mask → place ≤ 4294967295 → (a : Watch)
+pub no-bytes : (words mask : List ℕ) (place : ℕ) (ends : List ℕ) (t : Tree) → ImageOf words t → Fit mask → IsMask (states t) mask → place ≤ 4294967295 → (a : Watched)
     → StepSays words mask place [] ends a → a ≡ stays 0 mask place ends
 no-bytes words mask place ends t I F M l a S =
-    step-is words mask place [] ends F tt a S ∙ steps words mask place [] ends F tt t I
+    step-is words mask place [] ends F tt a S ∙ on-image (steps words mask place [] ends F tt) I
     ∙ rw (masked words mask place [] ends F tt t M, le-true (place + 0) 4294967295 (omega arith))
     (ap₂ (λ (n : ℕ) (l : List ℕ). stays 0 mask n (l ++ ends)) (let e : place + 0 ≡ place = omega arith in e) (take-nil (length ends)))

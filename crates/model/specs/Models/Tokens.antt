@@ -62,9 +62,9 @@ abbrev pub Begun : Type 0
 Begun = Option Alts × Mark × Seq
 
 -- an alternative before those to the right
-abbrev pub put : Seq → Option Alts → Alts
-put s none = last s
-put s (some a) = more s a
+abbrev pub alternatives : Seq → Option Alts → Alts
+alternatives s none = last s
+alternatives s (some a) = more s a
 
 abbrev pub closed : Alts → Mark → Seq → Seq
 closed a m s = union (kept m (altsEmpty a)) a s
@@ -82,9 +82,9 @@ abbrev pub prepend : Token → Seq → List Begun → Parsed
 prepend (aLetter c r) s bs = parsed (letter c r s) bs
 prepend (aClose m) s bs = parsed end ((none, m, s) ∷ bs)
 prepend aBar s [] = parsed s []
-prepend aBar s (b ∷ bs) = parsed end ((some (put s (b .0)), b .1, b .2) ∷ bs)
+prepend aBar s (b ∷ bs) = parsed end ((some (alternatives s (b .0)), b .1, b .2) ∷ bs)
 prepend anOpen s [] = parsed s []
-prepend anOpen s (b ∷ bs) = parsed (closed (put s (b .0)) (b .1) (b .2)) bs
+prepend anOpen s (b ∷ bs) = parsed (closed (alternatives s (b .0)) (b .1) (b .2)) bs
 
 abbrev pub parse : List Token → Parsed
 parse [] = parsed end []

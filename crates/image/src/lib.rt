@@ -5,36 +5,31 @@ mod letter_masks;
 mod sections;
 mod tape;
 
+use answers::Answer;
+use answers::Refusal;
 use crate::sections::put_image;
 use crate::tape::tape_of;
 use image_sections::sections_of;
 use tokens_masks::Shape;
 use tokens_masks::lay_out;
+ghost use Rattle.answers.specs.Answers.{answered};
 ghost use Rattle.image.specs.Says.{OfRule, StoreSays};
 
-// What became of a tree's tokens: no image, since the tree is deeper than 8, or since the image is longer than the words lent; or the image of so
-// many words.
-pub enum Stored {
-    TooDeep,
-    NoRoom,
-    Done(usize),
-}
-
-// The image of a tree, from its tokens. Nothing is written before it is known that all of it will be.
-pub fn store(tokens: [u64; 2555], length: usize, words: &mut [u64]) -> Stored
+// The image of a tree, from its tokens: build's answer from number 4 on. Nothing is written before it is known that all of it will be.
+pub fn store(tokens: [u64; 2555], length: usize, words: &mut [u64]) -> Answer
     requires { ⌜ OfRule tokens length ⌝ }
-    ensures { λ r. ⌜ StoreSays tokens length (now (words .entry)) r (now (words .exit)) ⌝ }
+    ensures { λ r. ⌜ StoreSays tokens length (now (words .entry)) (answered r (now (words .exit))) ⌝ }
 {
     let tape = tape_of(tokens, length);
     let mut masks = [0u64; 936];
     let shape = lay_out(tape, &mut masks);
     let Shape::Tree(depth) = shape else {
-        return Stored::TooDeep;
+        return Answer::Refused(Refusal::TooDeep);
     };
     let sections = sections_of(length + 1, depth);
     if words.len() < sections.length {
-        return Stored::NoRoom;
+        return Answer::Refused(Refusal::NoRoomForImage);
     }
     put_image(words, tokens, tape, sections, &masks);
-    Stored::Done(sections.length)
+    Answer::Done(sections.length)
 }

@@ -9,15 +9,14 @@ mod parts;
 mod readers;
 mod rows;
 
+use answers::Refusal;
 use crate::groups::bracket;
 use crate::parts::Part;
 use crate::readers::read_alternatives;
 
 // What a rule is: refused with 1, 2 or 3 (document 01, "Numbers given back"), or the rule of a tree of so many states.
 pub enum Outcome {
-    TooLong,
-    NotARule,
-    TooManyStates,
+    Refused(Refusal),
     Tree(usize),
 }
 
@@ -34,14 +33,14 @@ fn outcome_of(whole: Part, length: usize) -> Outcome
     match whole {
         Part::Got(p, next, _) => {
             if p < length {
-                return Outcome::NotARule;
+                return Outcome::Refused(Refusal::NotARule);
             }
             if next > 511 {
-                return Outcome::TooManyStates;
+                return Outcome::Refused(Refusal::TooManyStates);
             }
             Outcome::Tree(next + 1)
         }
-        Part::Bad(_) => Outcome::NotARule,
+        Part::Bad(_) => Outcome::Refused(Refusal::NotARule),
     }
 }
 
@@ -58,7 +57,7 @@ pub fn read_rule(rule: &[u8]) -> Reading
     ensures { λ r. ⌜ ReadSays (now (rule .entry)) r ⌝ }
 {
     if rule.len() > 1024 {
-        return refuse(Outcome::TooLong);
+        return refuse(Outcome::Refused(Refusal::RuleTooLong));
     }
     let mut tokens = [0; 2555];
     let alternatives = read_alternatives(rule, 0, &mut tokens, 0);

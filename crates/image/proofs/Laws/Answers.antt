@@ -2,16 +2,17 @@
 -- image's and, for the tokens of a rule's tree, are its image; where it is not, a rule's tree with those tokens is deeper than 8.
 use mathlib.Core.Path.{_≡_, refl, sym, ap, ap₂, _∙_, subst}
 use mathlib.Core.Logic.{_⊎_, inl, inr}
-use mathlib.Core.List.{List, _++_, map}
+use mathlib.Core.List.{List, map}
 use Prim.Native.Nat.{ℕ, _+_, _≤_, _<_}
-use native.Mathlib.Nat.{zero-add}
 use native.Mathlib.Omega.{arith}
-use lib.ListN.{drop, length, length-map}
-use lib.Seq.{sets, sets-eq}
+use lib.ListN.{length, length-map}
+use lib.Seq.{sets}
+use Rattle.model.specs.Answers.{refused}
 use Rattle.model.specs.Edges.{depth, states}
 use Rattle.model.specs.Image.{image}
 use Rattle.model.specs.Tree as tree
 use Rattle.model.proofs.Laws.Bool.{le-or-lt}
+use Rattle.model.proofs.Laws.Stores.{sets-fit}
 use Rattle.image_sections.specs.Sections.{sectionsOf}
 use Rattle.image_sections.specs.declared.Sections.{Sections}
 use Rattle.tokens_masks.specs.Says.{ShapeSays, TreeOnTape}
@@ -20,7 +21,6 @@ use Rattle.tokens_masks.specs.declared.Shape.the-variants.{Other, Tree}
 use Rattle.tokens_masks.specs.declared.Tape.{Tape}
 use Rattle.image.specs.Says.{no-room, stored, StoreSays, TokensOf, too-deep, TreeSays}
 use Rattle.image.specs.Work.{imageWords, KindsAre}
-use Rattle.image.specs.declared.Stored.the-variants.{Done, NoRoom, TooDeep}
 use Rattle.image.proofs.Laws.Tapes.{depth-is, on-tape, states-are, tape-of}
 use Rattle.image.proofs.Laws.Written.{image-written, length-image}
 
@@ -29,12 +29,6 @@ not-other d e = let z : _≡_ {A = ℕ} 0 1 = cc in omega arith
 
 same-told : (d e : ℕ) → Tree d ≡ Tree e → d ≡ e
 same-told d e p = cc
-
--- words written from the first on
-written-first : (before ws : List ℕ) → length ws ≤ length before → sets before 0 ws ≡ ws ++ drop (length ws) before
-written-first before ws h =
-    let z = zero-add (length ws) in
-    sets-eq ws before 0 (omega arith) ∙ ap (λ (k : ℕ). ws ++ drop k before) z
 
 -- the tape of the first n tokens of a row, and what it was told to be
 pub record Taped (row : List ℕ) (n : ℕ) (tape : Tape) (shape : Shape) : Type 0 where
@@ -56,12 +50,12 @@ module _ {row : List ℕ} {n : ℕ} {tape : Tape} {shape : Shape} (T : Taped row
   shallow-on-tape t R h = on-tape row tape (T .kinds) (T .room) t (all-tokens t R) h
 
   -- NO TREE
-  pub says-no-tree : (before : List ℕ) → shape ≡ Other → StoreSays row n before TooDeep before
+  pub says-no-tree : (before : List ℕ) → shape ≡ Other → StoreSays row n before (refused 4 before)
   says-no-tree before e t R = go (le-or-lt (depth t) 8)
     where
-      go : (depth t ≤ 8) ⊎ (8 < depth t) → TreeSays t before TooDeep before
+      go : (depth t ≤ 8) ⊎ (8 < depth t) → TreeSays t before (refused 4 before)
       go (inl h) = absurd (not-other (depth t) (sym e ∙ T .says .of-tree t (shallow-on-tape t R h)))
-      go (inr h) = too-deep h refl refl
+      go (inr h) = too-deep h refl
 
   -- ---- a tree's tape, of the depth told
   module _ {d : ℕ} (told : shape ≡ Tree d) where
@@ -97,15 +91,14 @@ module _ {row : List ℕ} {n : ℕ} {tape : Tape} {shape : Shape} (T : Taped row
       words-as t P = ap (λ (q : Sections). imageWords q row tape) (places-are t P)
 
       -- NO ROOM
-      pub says-no-room : length before < p .length → StoreSays row n before NoRoom before
-      says-no-room h t R = let P = of-rule t R in no-room (P .shallow) (omega (arith, size-is t P)) refl refl
+      pub says-no-room : length before < p .length → StoreSays row n before (refused 5 before)
+      says-no-room h t R = let P = of-rule t R in no-room (P .shallow) (omega (arith, size-is t P)) refl
 
       -- DONE
       module _ {after : List ℕ} (fits : p .length ≤ length before) (is : after ≡ sets before 0 (imageWords p row tape)) where
-        pub says-stored : StoreSays row n before (Done (p .length)) after
+        pub says-stored : StoreSays row n before (record { number = 0; given = p .length; lent = after })
         says-stored t R =
             let P = of-rule t R in
             let e = size-is t P in
-            stored (P .shallow) (omega (arith, e)) (ap Done e)
-            (is ∙ ap (sets before 0) (words-as t P ∙ image-written row tape t P (all-tokens t R))
-            ∙ written-first before (image t) (omega (arith, e)))
+            let w = is ∙ ap (sets before 0) (words-as t P ∙ image-written row tape t P (all-tokens t R)) ∙ sets-fit before (image t) in
+            stored (P .shallow) (omega (arith, e)) (λ i. record { number = 0; given = e i; lent = w i })

@@ -2,14 +2,12 @@
 use mathlib.Core.Path.{_≡_, refl, sym, ap, _∙_}
 use mathlib.Core.Logic.{_⊎_, inl, inr}
 use mathlib.Core.Bool.{Bool}
-use mathlib.Core.List.{List, [], _∷_}
+use mathlib.Core.List.{List}
 use mathlib.Core.Option.{none, some}
 use Prim.Native.Nat.{ℕ, suc, _+_, _≤_, _<_}
 use native.Mathlib.Omega.{arith}
 use lib.ListN.{drop-of-length-le, length}
 use lib.Seq.{drop-cons}
-use denote.Enum.Declared.{tagOf}
-use types.Run.{miss, OneOf}
 use Rattle.model.specs.Edges.{states}
 use Rattle.model.specs.Grammar.{bracket, IsRule}
 use Rattle.model.specs.Models.Reader.{alts, readRule, whole}
@@ -23,25 +21,15 @@ use Rattle.rule.specs.Parts.{seqTokens}
 use Rattle.rule.specs.Says.{not-a-rule, outcomeOf, read, reading, ReadSays, too-many-states}
 use Rattle.rule.specs.Tokens.{noTokens, Stands}
 use Rattle.rule.specs.declared.Outcome.{Outcome}
-use Rattle.rule.specs.declared.Outcome.the-variants.{NotARule, TooLong, TooManyStates, Tree}
+use Rattle.rule.specs.declared.Outcome.the-variants.{Refused, Tree}
 use Rattle.rule.specs.declared.parts.Part.{Part}
 use Rattle.rule.specs.declared.parts.Part.the-variants.{Bad as noPart, Got as aPart}
 use Rattle.rule.specs.declared.Reading.{Reading}
-use Rattle.rule.proofs.Outcome.{the-type}
 
 -- the tokens are given with a tree, and with nothing else
 abbrev pub answered : Outcome → List ℕ → Reading
-answered TooLong row = reading TooLong noTokens
-answered NotARule row = reading NotARule noTokens
-answered TooManyStates row = reading TooManyStates noTokens
+answered (Refused x) row = reading (Refused x) noTokens
 answered (Tree m) row = reading (Tree m) row
-
--- an outcome of another key than the tree's
-pub answered-other : (o : Outcome) (row : List ℕ) → OneOf (0 ∷ 1 ∷ 2 ∷ []) (tagOf the-type o) → answered o row ≡ reading o noTokens
-answered-other TooLong row h = refl
-answered-other NotARule row h = refl
-answered-other TooManyStates row h = refl
-answered-other (Tree m) row h = absurd (miss (0 ∷ 1 ∷ 2 ∷ []) 3 tt h)
 
 module _ (rule row : List ℕ) (short : length rule ≤ 1024) where
   unread : readRule rule ≡ none → (t : tree.Tree) → IsRule rule t → ⊥

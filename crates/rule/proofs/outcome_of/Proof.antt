@@ -21,8 +21,8 @@ returns-2 c =
     let g = c .before .before .before .whole .given in
     rw (g .1, le-false (suc (g .0 .0)) (c .before .before .before .before .before .args .length) (omega (arith, c .before .if1 .left)), le-true 512 (g .0 .1 .0) (c .if2 .taken))
 
-add-t7 : tie.Need-add-t7
-add-t7 c = search needs
+add-t9 : tie.Need-add-t9
+add-t9 c = search needs
 
 enum-told : tie.Need-enum-told
 enum-told c = search needs
@@ -40,4 +40,4 @@ returns-4 : tie.Need-returns-4
 returns-4 c = ap (λ w. outcomeOf w (c .before .before .args .length)) (sym (c .enum-told .given .1))
 
 pub outcome-of-spec : {M : Type 1} → statement M
-outcome-of-spec = tie.close (tie.spec enum-known-whole returns returns-2 add-t7 enum-told returns-3 returns-4)
+outcome-of-spec = tie.close (tie.spec enum-known-whole returns returns-2 add-t9 enum-told returns-3 returns-4)

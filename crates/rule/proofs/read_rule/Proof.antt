@@ -10,10 +10,10 @@ use Rattle.rule.specs.Groups.{WholeSays}
 use Rattle.rule.specs.Says.{outcomeOf, ReadSays, too-long}
 use Rattle.rule.specs.Tokens.{noTokens}
 use Rattle.rule.specs.declared.Outcome.{Outcome}
-use Rattle.rule.specs.declared.Outcome.the-variants.{Tree}
+use Rattle.rule.specs.declared.Outcome.the-variants.{Refused, Tree}
 use Rattle.rule.specs.declared.parts.Part.{Part}
 use Rattle.rule.proofs.Laws.Groups.{says-counted}
-use Rattle.rule.proofs.Laws.Whole.{answered, answered-other, whole-says}
+use Rattle.rule.proofs.Laws.Whole.{answered, whole-says}
 use Rattle.rule.proofs.read_rule.Statement.{statement}
 use Rattle.rule.proofs.read_rule.Tie as tie
 
@@ -21,6 +21,16 @@ use Rattle.rule.proofs.read_rule.Tie as tie
 says : (rule row : List ℕ) (item : Part) (o : Outcome) → length rule ≤ 1024 → WholeSays rule (alts rule) noTokens row item
     → o ≡ outcomeOf item (length rule) → ReadSays rule (answered o row)
 says rule row item o short s q = rw q (whole-says rule row short item s)
+
+-- and so the outcome, whatever it is
+outcome-says : (c : tie.After-outcome-of) (o : Outcome) → o ≡ c .outcome-of .result
+    → ReadSays (c .before .before .before .before .before .before .before .args .rule .now) (answered o (c .before .bracket .last .0))
+outcome-says c o q =
+    let k = c .before in
+    let r = k .before .before in
+    let rule = r .before .before .before .before .args .rule .now in
+    says rule (k .bracket .last .0) (k .bracket .result) o (r .before .before .if1 .left) (k .bracket .ensures rule (alts rule) noTokens (r .read-alternatives .ensures))
+    (q ∙ c .outcome-of .ensures)
 
 refuse-requires : tie.Need-refuse-requires
 refuse-requires c = search needs
@@ -43,29 +53,21 @@ outcome-of-requires c = search needs
 enum-told : tie.Need-enum-told
 enum-told c = search needs
 
+enum-told-2 : tie.Need-enum-told-2
+enum-told-2 c = search needs
+
 refuse-requires-2 : tie.Need-refuse-requires-2
 refuse-requires-2 c = search needs
 
 returns-2 : tie.Need-returns-2
 returns-2 c =
-    let o = c .before .before in
-    let k = o .before in
-    let r = k .before .before in
-    let rule = r .before .before .before .before .args .rule .now in
-    let row = k .bracket .last .0 in
-    rw (c .refuse2 .ensures, ← answered-other (o .outcome-of .result) row (c .before .match .keys2))
-    (says rule row (k .bracket .result) (o .outcome-of .result) (r .before .before .if1 .left) (k .bracket .ensures rule (alts rule) noTokens (r .read-alternatives .ensures)) (o .outcome-of .ensures))
+    let e = c .before .enum-told2 .given .1 in
+    rw (c .refuse2 .ensures, e) (outcome-says (c .before .before .before) (Refused (c .before .enum-told2 .given .0 .0)) (sym e))
 
 returns-3 : tie.Need-returns-3
 returns-3 c =
-    let o = c .before .before in
-    let k = o .before in
-    let r = k .before .before in
-    let rule = r .before .before .before .before .args .rule .now in
     let e = c .enum-told .given .1 in
-    rw e
-    (says rule (k .bracket .last .0) (k .bracket .result) (Tree (c .enum-told .given .0 .0)) (r .before .before .if1 .left) (k .bracket .ensures rule (alts rule) noTokens (r .read-alternatives .ensures))
-    (sym e ∙ o .outcome-of .ensures))
+    rw e (outcome-says (c .before .before) (Tree (c .enum-told .given .0 .0)) (sym e))
 
 pub read-rule-spec : {M : Type 1} → statement M
 read-rule-spec =
@@ -77,6 +79,7 @@ read-rule-spec =
     bracket-requires
     outcome-of-requires
     enum-told
+    enum-told-2
     refuse-requires-2
     returns-2
     returns-3)

@@ -1,0 +1,2 @@
+-- The tables' answers tell the code's apart.
+pub mod Apart

@@ -1,0 +1,44 @@
+-- WHAT THE ANSWERS MEAN: the number of each refusal, and each answer as the tables have it, with what was lent as it is afterwards.
+use mathlib.Core.Bool.{true, false}
+use mathlib.Core.List.{List}
+use Prim.Native.Nat.{ℕ}
+use Rattle.model.specs.Answers as tables
+use Rattle.model.specs.Spelling.{Judgement, Proposal, proposes, proposes-none, says}
+use Rattle.answers.specs.declared.Answer.{Answer}
+use Rattle.answers.specs.declared.Answer.the-variants.{Done, Refused}
+use Rattle.answers.specs.declared.Judged.{Judged}
+use Rattle.answers.specs.declared.Judged.the-variants as judged
+use Rattle.answers.specs.declared.Proposed.{Proposed}
+use Rattle.answers.specs.declared.Proposed.the-variants as proposed
+use Rattle.answers.specs.declared.Refusal.{Refusal}
+use Rattle.answers.specs.declared.Refusal.the-variants.{NoRoomForImage, NoRoomForStates, NoRoomForWriting, NotAMask, NotAnEnd, NotAnImage, NotARule, PlaceTooFar, RuleTooLong, TextTooLong, TooDeep, TooManyStates}
+
+abbrev pub numberOf : Refusal → ℕ
+numberOf RuleTooLong = 1
+numberOf NotARule = 2
+numberOf TooManyStates = 3
+numberOf TooDeep = 4
+numberOf NoRoomForImage = 5
+numberOf NotAnImage = 6
+numberOf TextTooLong = 7
+numberOf NoRoomForWriting = 8
+numberOf NotAMask = 9
+numberOf PlaceTooFar = 10
+numberOf NotAnEnd = 16
+numberOf NoRoomForStates = 17
+
+-- build, read back, match, begin and step
+abbrev pub answered : {Lent : Type 0} → Answer → Lent → tables.Answer ℕ Lent
+answered (Refused x) lent = tables.refused (numberOf x) lent
+answered (Done n) lent = record { number = 0; given = n; lent = lent }
+
+-- the check of a spelling, to which nothing is lent
+abbrev pub judgement : Judged → Judgement
+judgement (judged.Refused x) = tables.refusal false (numberOf x) tt
+judgement judged.No = says false
+judgement judged.Yes = says true
+
+-- the proposer
+abbrev pub proposal : Proposed → List ℕ → Proposal
+proposal (proposed.Refused x) lent = proposes-none (numberOf x) lent
+proposal (proposed.Done start n) lent = proposes start n lent

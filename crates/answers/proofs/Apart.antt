@@ -6,10 +6,10 @@ use Prim.Native.Nat.{ℕ, _-_, _≤_, _<_}
 use native.Mathlib.Omega.{arith}
 use lib.Dec.{eqb}
 use lib.ListN.{getD}
-use Rattle.model.specs.Spelling as spelling
+use Rattle.model.specs.Spelling.{Stretch}
 use Rattle.model.proofs.Laws.Bool.{unequal}
 use Rattle.model.proofs.Spelling.Answers.{settled}
-use Rattle.answers.specs.Answers.{answered, judgement, numberOf, proposal}
+use Rattle.answers.specs.Answers.{answered, countIn, judgement, numberIn, numberOf, proposal, proposedNumber, proposedStretch}
 use Rattle.answers.specs.declared.Answer.{Answer}
 use Rattle.answers.specs.declared.Answer.the-variants.{Done, Refused}
 use Rattle.answers.specs.declared.Judged.{Judged}
@@ -67,19 +67,12 @@ module _ {A Given : Type 0} (refuses : Refusal → A) (done : Given → A) where
 abbrev counted : ℕ → ℕ → Answer
 counted = read Refused Done
 
-counted-is : {Lent : Type 0} (r : Answer) (lent : Lent) → counted (answered r lent .number) (answered r lent .given) ≡ r
-counted-is (Refused x) lent = read-refused Refused Done x 0
-counted-is (Done n) lent = refl
+counted-is : (r : Answer) → counted (numberIn r) (countIn r) ≡ r
+counted-is (Refused x) = read-refused Refused Done x 0
+counted-is (Done n) = refl
 
-lent-is : {Lent : Type 0} (r : Answer) (lent : Lent) → answered r lent .lent ≡ lent
-lent-is (Refused x) lent = refl
-lent-is (Done n) lent = refl
-
-pub answered-apart : {Lent : Type 0} {r q : Answer} {after later : Lent} → answered r after ≡ answered q later → (r ≡ q) × (after ≡ later)
-answered-apart {r = r} {q} {after} {later} e = (
-  sym (counted-is r after) ∙ (λ i. counted (e i .number) (e i .given)) ∙ counted-is q later,
-  sym (lent-is r after) ∙ (λ i. e i .lent) ∙ lent-is q later,
-)
+pub answered-apart : {Lent : Type 0} {after later : Lent} (r q : Answer) → answered r after ≡ answered q later → (r ≡ q) × (after ≡ later)
+answered-apart r q e = (sym (counted-is r) ∙ (λ i. counted (e i .number) (e i .given)) ∙ counted-is q, λ i. e i .lent)
 
 -- ---- A JUDGEMENT
 abbrev judgedBy : ℕ → Bool → Judged
@@ -90,16 +83,16 @@ judged-is (judged.Refused x) = read-refused judged.Refused (λ b. cond b judged.
 judged-is judged.No = refl
 judged-is judged.Yes = refl
 
-pub judgement-apart : {r q : Judged} → judgement r ≡ judgement q → r ≡ q
-judgement-apart {r} {q} e = sym (judged-is r) ∙ (λ i. judgedBy (e i .number) (e i .given)) ∙ judged-is q
+pub judgement-apart : (r q : Judged) → judgement r ≡ judgement q → r ≡ q
+judgement-apart r q e = sym (judged-is r) ∙ (λ i. judgedBy (e i .number) (e i .given)) ∙ judged-is q
 
 -- ---- A PROPOSAL
-abbrev proposedBy : ℕ → spelling.Stretch → Proposed
+abbrev proposedBy : ℕ → Stretch → Proposed
 proposedBy = read proposed.Refused (λ g. proposed.Done (g .start) (g .count))
 
-proposed-is : (r : Proposed) (lent : List ℕ) → proposedBy (proposal r lent .number) (proposal r lent .given) ≡ r
-proposed-is (proposed.Refused x) lent = read-refused proposed.Refused (λ (g : spelling.Stretch). proposed.Done (g .start) (g .count)) x (record { start = 0; count = 0 })
-proposed-is (proposed.Done start n) lent = refl
+proposed-is : (r : Proposed) → proposedBy (proposedNumber r) (proposedStretch r) ≡ r
+proposed-is (proposed.Refused x) = read-refused proposed.Refused (λ (g : Stretch). proposed.Done (g .start) (g .count)) x (record { start = 0; count = 0 })
+proposed-is (proposed.Done start n) = refl
 
 pub proposal-apart : (r q : Proposed) (after later : List ℕ) → settled (proposal r after) ≡ settled (proposal q later) → r ≡ q
-proposal-apart r q after later e = sym (proposed-is r after) ∙ (λ i. proposedBy (e i .number) (e i .given)) ∙ proposed-is q later
+proposal-apart r q after later e = sym (proposed-is r) ∙ (λ i. proposedBy (e i .number) (e i .given)) ∙ proposed-is q

@@ -3,7 +3,7 @@ use mathlib.Core.Bool.{true, false}
 use mathlib.Core.List.{List}
 use Prim.Native.Nat.{ℕ}
 use Rattle.model.specs.Answers as tables
-use Rattle.model.specs.Spelling.{Judgement, Proposal, proposes, proposes-none, says}
+use Rattle.model.specs.Spelling.{Judgement, Proposal, says, Stretch}
 use Rattle.answers.specs.declared.Answer.{Answer}
 use Rattle.answers.specs.declared.Answer.the-variants.{Done, Refused}
 use Rattle.answers.specs.declared.Judged.{Judged}
@@ -27,18 +27,32 @@ numberOf PlaceTooFar = 10
 numberOf NotAnEnd = 16
 numberOf NoRoomForStates = 17
 
--- build, read back, match, begin and step
-abbrev pub answered : {Lent : Type 0} → Answer → Lent → tables.Answer ℕ Lent
-answered (Refused x) lent = tables.refused (numberOf x) lent
-answered (Done n) lent = record { number = 0; given = n; lent = lent }
+-- ---- build, read back, match, begin and step: number and count, and what was lent
+abbrev pub numberIn : Answer → ℕ
+numberIn (Refused x) = numberOf x
+numberIn (Done n) = 0
 
--- the check of a spelling, to which nothing is lent
+abbrev pub countIn : Answer → ℕ
+countIn (Refused x) = 0
+countIn (Done n) = n
+
+abbrev pub answered : {Lent : Type 0} → Answer → Lent → tables.Answer ℕ Lent
+answered r lent = record { number = numberIn r; given = countIn r; lent = lent }
+
+-- ---- the check of a spelling, to which nothing is lent
 abbrev pub judgement : Judged → Judgement
 judgement (judged.Refused x) = tables.refusal false (numberOf x) tt
 judgement judged.No = says false
 judgement judged.Yes = says true
 
--- the proposer
+-- ---- the proposer
+abbrev pub proposedNumber : Proposed → ℕ
+proposedNumber (proposed.Refused x) = numberOf x
+proposedNumber (proposed.Done start n) = 0
+
+abbrev pub proposedStretch : Proposed → Stretch
+proposedStretch (proposed.Refused x) = record { start = 0; count = 0 }
+proposedStretch (proposed.Done start n) = record { start = start; count = n }
+
 abbrev pub proposal : Proposed → List ℕ → Proposal
-proposal (proposed.Refused x) lent = proposes-none (numberOf x) lent
-proposal (proposed.Done start n) lent = proposes start n lent
+proposal r lent = record { number = proposedNumber r; given = proposedStretch r; lent = lent }

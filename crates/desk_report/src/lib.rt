@@ -1,14 +1,12 @@
 // What the desk program writes (document 01, "The desk program"), from the bytes of its two files: every check is made before the first byte is written.
+use answers::Answer;
 use program_lines::put_ends;
 use program_lines::put_line;
 use program_lines::put_refusal;
 use program_lines::put_total;
-use watcher::Built;
-use watcher::Matched;
 use watcher::build;
 use watcher::match_ends;
 use watcher::read_back;
-use writing::Written;
 ghost use Prim.Native.Nat.{_≤_};
 ghost use lib.ListN.{length, take};
 ghost use Rattle.program_lines.specs.Lines.{Reports};
@@ -33,9 +31,8 @@ fn report_ends(image: &[u64], journal: &[u8], writing: &[u8], text: &mut [u8]) -
     let mut ends = [0u32; 1000];
     let matched = match_ends(image, journal, &mut ends);
     match matched {
-        Matched::NotAnImage => put_refusal(text, 6),
-        Matched::TextTooLong => put_refusal(text, 7),
-        Matched::Done(total) => put_found(text, writing, total, &ends),
+        Answer::Refused(refusal) => put_refusal(text, refusal),
+        Answer::Done(total) => put_found(text, writing, total, &ends),
     }
 }
 
@@ -46,9 +43,8 @@ fn report_image(image: &[u64], journal: &[u8], text: &mut [u8]) -> usize
     let mut writing = [0u8; 16384];
     let written = read_back(image, &mut writing);
     match written {
-        Written::NotAnImage => put_refusal(text, 6),
-        Written::NoRoom => put_refusal(text, 8),
-        Written::Done(length) => report_ends(image, journal, &writing[..length], text),
+        Answer::Refused(refusal) => put_refusal(text, refusal),
+        Answer::Done(length) => report_ends(image, journal, &writing[..length], text),
     }
 }
 
@@ -59,11 +55,7 @@ pub fn report(rule: &[u8], journal: &[u8], text: &mut [u8]) -> usize
     let mut image = [0u64; 4834];
     let built = build(rule, &mut image);
     match built {
-        Built::TooLong => put_refusal(text, 1),
-        Built::NotARule => put_refusal(text, 2),
-        Built::TooManyStates => put_refusal(text, 3),
-        Built::TooDeep => put_refusal(text, 4),
-        Built::NoRoom => put_refusal(text, 5),
-        Built::Done(length) => report_image(&image[..length], journal, text),
+        Answer::Refused(refusal) => put_refusal(text, refusal),
+        Answer::Done(length) => report_image(&image[..length], journal, text),
     }
 }

@@ -1,17 +1,18 @@
 -- WHAT THE PROGRAM RELIES ON: how long a number can be, and that what a call of the watcher has found lies in the journal.
 use mathlib.Core.Path.{_≡_, ap, subst}
-use mathlib.Core.Bool.{Bool, cond}
+use mathlib.Core.Bool.{cond}
 use mathlib.Core.List.{List, [], _∷_}
 use Prim.Native.Nat.{ℕ, _+_, _-_, _^_, _≤_, _<_}
 use native.Mathlib.Omega.{arith}
 use lib.ListN.{drop, length, length-append, length-drop, length-replicate, length-take, replicate}
-use Rattle.model.specs.Spelling.{between, CheckSays, no-end, no-room, Proposal, proposed, ProposeSays, Spelled, right, wrong}
-use Rattle.spelling_propose.specs.Answers.{proposedAnswer}
-use Rattle.spelling_propose.specs.declared.Proposed.{Proposed}
-use Rattle.spelling_propose.specs.declared.Proposed.the-variants.{Done}
-use Rattle.spelling.specs.Answers.{checkedNumber, checkedYes}
-use Rattle.spelling.specs.declared.Judged.{Judged}
-use Rattle.spelling.specs.declared.Judged.the-variants.{Yes}
+use Rattle.model.specs.Spelling.{between, CheckSays, Judgement, no-end, no-room, Proposal, proposed, ProposeSays, Spelled, right, wrong}
+use Rattle.answers.specs.Answers.{judgement, numberOf, proposal}
+use Rattle.answers.specs.declared.Judged.{Judged}
+use Rattle.answers.specs.declared.Judged.the-variants.{Yes}
+use Rattle.answers.specs.declared.Proposed.{Proposed}
+use Rattle.answers.specs.declared.Proposed.the-variants.{Done}
+use Rattle.answers.specs.declared.Refusal.{Refusal}
+use Rattle.answers.proofs.Apart.{number-known}
 use Rattle.program_lines.specs.Lines.{decimal, refusedText}
 use Rattle.program_lines.specs.Work.{PutAt}
 use Rattle.program_lines.proofs.Laws.Numbers.{number-short}
@@ -25,8 +26,8 @@ use Rattle.explain.specs.declared.reading.Reading.the-variants as readin
 pub ten-digits : (n : ℕ) → n < 2 ^ 32 → length (decimal n) ≤ 10
 ten-digits n l = omega (arith, number-short 9 n (omega (arith, l)), length-append (decimal n) (10 ∷ []))
 
-pub refused-short : (n : ℕ) → n < 100 → {before after : List ℕ} {r : ℕ} → PutAt (refusedText n) before 0 r after → r ≤ 11
-refused-short n l P = omega (arith, P .place, number-short 1 n l)
+pub refused-short : (x : Refusal) {before after : List ℕ} {r : ℕ} → PutAt (refusedText (numberOf x)) before 0 r after → r ≤ 11
+refused-short x P = omega (arith, P .place, number-short 1 (numberOf x) (omega (arith, number-known x .1)))
 
 pub room-enough : (n : ℕ) → n ≤ length {A = ℕ} (replicate n 0)
 room-enough n = omega (arith, length-replicate {A = ℕ} n 0)
@@ -53,32 +54,32 @@ lies : {t : _} {journal states : List ℕ} {start end : ℕ} → length journal 
 lies f S = record { few = f; inside = S .inside; ordered = S .ordered; each = S .each }
 
 module _ {words journal states : List ℕ} {start end : ℕ} where
-  yes-lies : CheckSays words journal start end states (checkedNumber Yes) (checkedYes Yes) → Lies journal start end (length states)
-  yes-lies (CheckSays.not-an-image n e y) = absurd (omega (arith, e))
-  yes-lies (CheckSays.text-too-long t i l e y) = absurd (omega (arith, e))
-  yes-lies (right t i l S e y) = lies l S
-  yes-lies (wrong t i l n e y) = absurd (omega (arith, ap {B = ℕ} (λ (b : Bool). cond b 0 1) y))
+  yes-lies : CheckSays words journal start end states (judgement Yes) → Lies journal start end (length states)
+  yes-lies (CheckSays.not-an-image n e) = absurd (omega (arith, ap (λ (a : Judgement). a .number) e))
+  yes-lies (CheckSays.text-too-long t i l e) = absurd (omega (arith, ap (λ (a : Judgement). a .number) e))
+  yes-lies (right t i l S e) = lies l S
+  yes-lies (wrong t i l n e) = absurd (omega (arith, ap {B = ℕ} (λ (a : Judgement). cond (a .given) 0 1) e))
 
-  pub right-lies : (j : Judged) → CheckSays words journal start end states (checkedNumber j) (checkedYes j) → j ≡ Yes → Lies journal start end (length states)
-  right-lies j C e = yes-lies (subst (λ (q : Judged). CheckSays words journal start end states (checkedNumber q) (checkedYes q)) e C)
+  pub right-lies : (j : Judged) → CheckSays words journal start end states (judgement j) → j ≡ Yes → Lies journal start end (length states)
+  right-lies j C e = yes-lies (subst (λ (q : Judged). CheckSays words journal start end states (judgement q)) e C)
 
 module _ {words journal before : List ℕ} (after : List ℕ) {start end count : ℕ} where
-  done-lies : ProposeSays words journal end before (proposedAnswer (Done start count) after) → Lies journal start end count
+  done-lies : ProposeSays words journal end before (proposal (Done start count) after) → Lies journal start end count
   done-lies (ProposeSays.not-an-image n e) = absurd (omega (arith, ap (λ (a : Proposal). a .number) e))
   done-lies (ProposeSays.text-too-long t i l e) = absurd (omega (arith, ap (λ (a : Proposal). a .number) e))
   done-lies (no-end t i l n e) = absurd (omega (arith, ap (λ (a : Proposal). a .number) e))
   done-lies (no-room t s i l L n e) = absurd (omega (arith, ap (λ (a : Proposal). a .number) e))
   done-lies (proposed t s states i l L n S e) =
-      let at = ap (λ (a : Proposal). a .start) e in
+      let at = ap (λ (a : Proposal). a .given .start) e in
       record {
         few = l;
         inside = S .inside;
         ordered = omega (arith, S .ordered, at);
-        each = omega (arith, ap (λ (a : Proposal). a .count) e, at);
+        each = omega (arith, ap (λ (a : Proposal). a .given .count) e, at);
       }
 
-  pub proposed-lies : (p : Proposed) → ProposeSays words journal end before (proposedAnswer p after) → p ≡ Done start count → Lies journal start end count
-  proposed-lies p P e = done-lies (subst (λ (q : Proposed). ProposeSays words journal end before (proposedAnswer q after)) e P)
+  pub proposed-lies : (p : Proposed) → ProposeSays words journal end before (proposal p after) → p ≡ Done start count → Lies journal start end count
+  proposed-lies p P e = done-lies (subst (λ (q : Proposed). ProposeSays words journal end before (proposal q after)) e P)
 
 pub states-few : {journal : List ℕ} {start end count : ℕ} → Lies journal start end count → count ≤ 65535
 states-few L = omega (arith, L .each, L .inside, L .few)

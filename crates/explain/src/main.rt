@@ -9,15 +9,15 @@ use crate::reading::read_line;
 use crate::reading::read_record;
 use crate::record::put_record;
 use crate::record::put_unreadable;
+use answers::Answer;
+use answers::Judged;
+use answers::Proposed;
 use check::same;
 use libc::STDIN_FILENO;
 use libc::STDOUT_FILENO;
 use program_files::read_file;
 use program_lines::put_line;
 use program_lines::put_refusal;
-use spelling::Judged;
-use spelling_propose::Proposed;
-use watcher::Built;
 use watcher::build;
 use watcher::check_spelling;
 use watcher::propose_spelling;
@@ -32,10 +32,7 @@ fn explain(image: &[u64], journal: &[u8], end: usize, text: &mut [u8]) -> usize
     let mut states = [0u32; 65535];
     let proposed = propose_spelling(image, journal, end, &mut states);
     match proposed {
-        Proposed::NotAnImage => put_refusal(text, 6),
-        Proposed::TextTooLong => put_refusal(text, 7),
-        Proposed::NoEnd => put_refusal(text, 16),
-        Proposed::NoRoom => put_refusal(text, 17),
+        Proposed::Refused(refusal) => put_refusal(text, refusal),
         Proposed::Done(start, count) => put_record(
             text,
             &journal[start..end],
@@ -82,8 +79,7 @@ fn judge_proposal(
 {
     let judged = check_spelling(image, journal, start, end, states);
     match judged {
-        Judged::NotAnImage => put_refusal(text, 6),
-        Judged::TextTooLong => put_refusal(text, 7),
+        Judged::Refused(refusal) => put_refusal(text, refusal),
         Judged::No => put_line(text, 0, b"no"),
         Judged::Yes => confirm(record, &journal[start..end], start, end, states, text),
     }
@@ -124,12 +120,8 @@ fn answer(rule: &[u8], journal: &[u8], request: &[u8], text: &mut [u8]) -> usize
     let mut image = [0u64; 4834];
     let built = build(rule, &mut image);
     match built {
-        Built::TooLong => put_refusal(text, 1),
-        Built::NotARule => put_refusal(text, 2),
-        Built::TooManyStates => put_refusal(text, 3),
-        Built::TooDeep => put_refusal(text, 4),
-        Built::NoRoom => put_refusal(text, 5),
-        Built::Done(length) => respond(&image[..length], journal, request, text),
+        Answer::Refused(refusal) => put_refusal(text, refusal),
+        Answer::Done(length) => respond(&image[..length], journal, request, text),
     }
 }
 

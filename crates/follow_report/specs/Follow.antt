@@ -4,11 +4,11 @@ use mathlib.Core.Path.{_≡_}
 use mathlib.Core.List.{List, [], _∷_, _++_}
 use Prim.Native.Nat.{ℕ, _+_, _%_, _^_, _≤_, _<_, min}
 use lib.ListN.{getD, length, replicate, take}
-use Rattle.model.specs.Answers.{Answer, BuildSays}
+use Rattle.model.specs.Answers.{BuildSays, Counted}
 use Rattle.model.specs.Ends.{EndsAre}
 use Rattle.model.specs.Lists.{All, each}
 use Rattle.model.specs.Tree.{Tree}
-use Rattle.model.specs.Watch.{BeginSays, foundBy, StepSays, Watch}
+use Rattle.model.specs.Watch.{BeginSays, foundBy, StepSays, Watched}
 use Rattle.program_lines.specs.Lines.{endLines, refusedText, totalText}
 
 -- what is kept between stretches: the watch's mask and place, and how many ends were found, a number of 64 bits
@@ -23,8 +23,8 @@ pub data Next : Type 0 where
   stopped : Next
 
 -- an answer of the watch in writing: a line for each end found, with which there are `total`; or the refusal
-pub data Told (w : Watch) (total : ℕ) (next : Next) (text : List ℕ) : Type 0 where
-  found : w .number ≡ 0 → next ≡ on (record { mask = w .mask; place = w .place; total = total % 2 ^ 64 }) → text ≡ endLines (foundBy w) → Told w total next text
+pub data Told (w : Watched) (total : ℕ) (next : Next) (text : List ℕ) : Type 0 where
+  found : w .number ≡ 0 → next ≡ on (record { mask = w .lent .mask; place = w .lent .place; total = total % 2 ^ 64 }) → text ≡ endLines (foundBy w) → Told w total next text
   refused : 0 < w .number → next ≡ stopped → text ≡ refusedText (w .number) → Told w total next text
 
 -- W, an image's third word: a mask is the first W of eight words
@@ -33,20 +33,20 @@ maskWords words = min (getD words 2 0) 8
 
 -- "a watch that begins with an image": the line `0` where place 0 is an end
 pub record Begins (words : List ℕ) (next : Next) (text : List ℕ) : Type 0 where
-  pub answer : Watch
+  pub answer : Watched
   pub says : BeginSays words (take (maskWords words) (replicate 8 0)) 0 (0 ∷ []) answer
-  pub told : Told answer (answer .count) next text
+  pub told : Told answer (answer .given) next text
 
 -- OPENING, before anything of the journal is read: the rule is built, n words into those lent, which are `after` then, and a watch begun
 pub data Opens (rule lent : List ℕ) (n : ℕ) (after : List ℕ) (next : Next) (text : List ℕ) : Type 0 where
-  built : BuildSays rule lent (record { number = 0; count = n; lent = after }) → Begins (take n after) next text → Opens rule lent n after next text
-  refused : (a : Answer) → BuildSays rule lent a → 0 < a .number → after ≡ a .lent → next ≡ stopped → text ≡ refusedText (a .number) → Opens rule lent n after next text
+  built : BuildSays rule lent (record { number = 0; given = n; lent = after }) → Begins (take n after) next text → Opens rule lent n after next text
+  refused : (a : Counted) → BuildSays rule lent a → 0 < a .number → after ≡ a .lent → next ≡ stopped → text ≡ refusedText (a .number) → Opens rule lent n after next text
 
 -- "takes one stretch of bytes at a time", with room for 4,096 ends
 pub record Hears (words : List ℕ) (kept : Kept) (stretch : List ℕ) (next : Next) (text : List ℕ) : Type 0 where
-  pub answer : Watch
+  pub answer : Watched
   pub says : StepSays words (kept .mask) (kept .place) stretch (replicate 4096 0) answer
-  pub told : Told answer (kept .total + answer .count) next text
+  pub told : Told answer (kept .total + answer .given) next text
 
 -- THE JOURNAL, stretch after stretch, and the total at its end
 pub data Writes (words : List ℕ) : (stretches : List (List ℕ)) → Next → (text : List ℕ) → Type 0 where

@@ -1,18 +1,18 @@
 // What the program `follow` writes (document 02, Wish 1), from the bytes of its rule and of the stretches in which its journal arrives: at the opening, for
 // each stretch, and at the end.
+use answers::Answer;
+use answers::Refusal;
 use program_lines::put_ends;
 use program_lines::put_refusal;
 use program_lines::put_total;
 use std::num::wrapping_add_u64;
-use watch::Begun;
-use watch::Stepped;
-use watcher::Built;
 use watcher::begin;
 use watcher::build;
 use watcher::step;
 ghost use mathlib.Core.Path.{_≡_};
 ghost use Prim.Native.Nat.{_≤_};
 ghost use lib.ListN.{length, take};
+ghost use Rattle.answers.specs.Answers.{numberOf};
 ghost use Rattle.program_lines.specs.Lines.{Reports, totalText};
 ghost use Rattle.follow_report.specs.Follow.{Begins, Hears, maskWords, Opens};
 ghost use Rattle.follow_report.specs.Work.{Goes, keptIn, nextIn, Stops};
@@ -38,8 +38,8 @@ pub struct Opened {
 }
 
 // A refusal: nothing is kept, and nothing comes after.
-fn stop(text: &mut [u8], number: u64) -> Said
-    ensures { λ r. ⌜ Stops number (now (text .entry)) r (now (text .exit)) ⌝ }
+fn stop(text: &mut [u8], refusal: Refusal) -> Said
+    ensures { λ r. ⌜ Stops (numberOf refusal) (now (text .entry)) r (now (text .exit)) ⌝ }
 {
     let mask = [0u64; 8];
     let watching = Watching {
@@ -47,7 +47,7 @@ fn stop(text: &mut [u8], number: u64) -> Said
         place: 0,
         total: 0,
     };
-    let length = put_refusal(text, number);
+    let length = put_refusal(text, refusal);
     Said {
         length,
         on: false,
@@ -89,20 +89,12 @@ fn start(image: &[u64], text: &mut [u8]) -> Said
     let width = mask_words(image);
     let begun = begin(image, &mut mask[..width], &mut place, &mut ends);
     match begun {
-        Begun::NotAnImage => stop(text, 6),
-        Begun::NotAMask => stop(text, 9),
-        Begun::Done(count) => {
+        Answer::Refused(refusal) => stop(text, refusal),
+        Answer::Done(count) => {
             let total = count as u64;
             go_on(text, &ends, count, Watching { mask, place, total })
         }
     }
-}
-
-fn unopened(text: &mut [u8], number: u64) -> Opened
-    ensures { λ r. ⌜ Stops number (now (text .entry)) (r .said) (now (text .exit)) ⌝ }
-{
-    let said = stop(text, number);
-    Opened { words: 0, said }
 }
 
 // Opening: the image into the words lent, and a watch begun, before anything of the journal is read.
@@ -112,12 +104,11 @@ pub fn open(rule: &[u8], image: &mut [u64], text: &mut [u8]) -> Opened
 {
     let built = build(rule, image);
     match built {
-        Built::TooLong => unopened(text, 1),
-        Built::NotARule => unopened(text, 2),
-        Built::TooManyStates => unopened(text, 3),
-        Built::TooDeep => unopened(text, 4),
-        Built::NoRoom => unopened(text, 5),
-        Built::Done(words) => {
+        Answer::Refused(refusal) => {
+            let said = stop(text, refusal);
+            Opened { words: 0, said }
+        }
+        Answer::Done(words) => {
             let said = start(&image[..words], text);
             Opened { words, said }
         }
@@ -135,11 +126,8 @@ pub fn hear(image: &[u64], watching: Watching, stretch: &[u8], text: &mut [u8]) 
     let width = mask_words(image);
     let stepped = step(image, &mut mask[..width], &mut place, stretch, &mut ends);
     match stepped {
-        Stepped::NotAnImage => stop(text, 6),
-        Stepped::StretchTooLong => stop(text, 7),
-        Stepped::NotAMask => stop(text, 9),
-        Stepped::TextTooLong => stop(text, 10),
-        Stepped::Done(count) => {
+        Answer::Refused(refusal) => stop(text, refusal),
+        Answer::Done(count) => {
             let total = wrapping_add_u64(watching.total, count as u64);
             go_on(text, &ends, count, Watching { mask, place, total })
         }

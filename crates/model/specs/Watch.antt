@@ -47,16 +47,19 @@ pub record Watch : Type 0 where
   pub place : ℕ
   pub ends : List ℕ
 
+abbrev pub watch : (mask : List ℕ) (place : ℕ) (ends : List ℕ) → Watch
+watch mask place ends = record { mask = mask; place = place; ends = ends }
+
 abbrev pub Watched : Type 0
 Watched = Answer ℕ Watch
 
 -- "A refused stretch leaves the watch where it was."
 abbrev pub stays : ℕ → (mask : List ℕ) (place : ℕ) (ends : List ℕ) → Watched
-stays n mask place ends = refused n (record { mask = mask; place = place; ends = ends })
+stays n mask place ends = refused n (watch mask place ends)
 
 -- done: the new mask and place, the total of what was found, and as much of it written as fits
 abbrev pub goes-on : (mask : List ℕ) (place : ℕ) (found ends : List ℕ) → Watched
-goes-on mask place found ends = record { number = 0; given = length found; lent = record { mask = mask; place = place; ends = done found ends .lent } }
+goes-on mask place found ends = record { number = 0; given = length found; lent = watch mask place (done found ends .lent) }
 
 -- BEGIN: "beginning gives 6, then 9 by the words lent"; "Place 0 is reported by the beginning call only."
 pub data BeginSays (words mask : List ℕ) (place : ℕ) (ends : List ℕ) (a : Watched) : Type 0 where

@@ -1,8 +1,11 @@
 // Lines of bytes and numbers in a lent text, as far as there is room. The place after them has to be a number of 64 bits; the line of a number has at most
 // 21 bytes.
+use answers::Refusal;
+use answers::number;
 ghost use mathlib.Core.Path.{_≡_};
 ghost use Prim.Native.Nat.{_+_, _*_, _^_, _<_, min};
 ghost use lib.ListN.{length, take};
+ghost use Rattle.answers.specs.Answers.{numberOf};
 ghost use Rattle.program_lines.specs.Lines.{decimal, endLines, line, refusedText, totalText};
 ghost use Rattle.program_lines.specs.Work.{PutAt};
 
@@ -49,11 +52,11 @@ pub fn put_total(text: &mut [u8], at: usize, total: u64) -> usize
 }
 
 // `refused N`
-pub fn put_refusal(text: &mut [u8], number: u64) -> usize
-    ensures { λ r. ⌜ PutAt (refusedText number) (now (text .entry)) 0 r (now (text .exit)) ⌝ }
+pub fn put_refusal(text: &mut [u8], refusal: Refusal) -> usize
+    ensures { λ r. ⌜ PutAt (refusedText (numberOf refusal)) (now (text .entry)) 0 r (now (text .exit)) ⌝ }
 {
     let after = put(text, 0, b"refused ");
-    put_number(text, after, number)
+    put_number(text, after, number(refusal))
 }
 
 fn least(a: usize, b: usize) -> usize

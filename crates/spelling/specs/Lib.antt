@@ -1,3 +1,2 @@
--- Answers: what the answers mean. Work: what the parts say.
-pub mod Answers
+-- Work: what the parts of the check say.
 pub mod Work

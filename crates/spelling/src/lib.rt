@@ -1,28 +1,22 @@
 // Spellings (document 02, Wish 9): which bytes of a text did it, and by which states. The check of a proposal, whoever made it; the crate `spelling_propose` makes
-// one. What each answer means is defined in specs/Answers.antt.
+// one.
 
 mod follow;
 
+use answers::Judged;
+use answers::Refusal;
 use crate::follow::follow;
 use image_check::Verdict;
 use image_check::check;
 use image_sections::Sections;
 use run_edges::work;
+ghost use Rattle.answers.specs.Answers.{judgement};
 ghost use Rattle.image_sections.specs.Sections.{Placed};
 ghost use Rattle.model.specs.Spelling.{CheckSays};
-ghost use Rattle.spelling.specs.Answers.{checkedNumber, checkedYes};
 ghost use Rattle.spelling.specs.Work.{RightSays};
 
-// What the check answers: the refusals 6 and 7, no or yes.
-pub enum Judged {
-    NotAnImage,
-    TextTooLong,
-    No,
-    Yes,
-}
-
 // Whether a proposal is right: a start place, an end place, and for each byte between them the state that it enters. The image is checked in this same
-// call.
+// call. The refusals are 6 and 7; otherwise yes or no.
 pub fn check_spelling(
     image: &[u64],
     text: &[u8],
@@ -30,15 +24,15 @@ pub fn check_spelling(
     end: usize,
     states: &[u32],
 ) -> Judged
-    ensures { λ r. ⌜ CheckSays (now (image .entry)) (now (text .entry)) start end (now (states .entry)) (checkedNumber r) (checkedYes r) ⌝ }
+    ensures { λ r. ⌜ CheckSays (now (image .entry)) (now (text .entry)) start end (now (states .entry)) (judgement r) ⌝ }
 {
     let checked = check(image);
     let verdict = checked.verdict;
     let Verdict::Image(sections) = verdict else {
-        return Judged::NotAnImage;
+        return Judged::Refused(Refusal::NotAnImage);
     };
     if text.len() > 65535 {
-        return Judged::TextTooLong;
+        return Judged::Refused(Refusal::TextTooLong);
     }
     if is_right(image, sections, text, start, end, states) {
         return Judged::Yes;

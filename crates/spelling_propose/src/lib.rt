@@ -9,6 +9,8 @@ mod search;
 mod sets;
 mod write;
 
+use answers::Proposed;
+use answers::Refusal;
 use crate::origins::find_origins;
 use crate::search::Found;
 use crate::search::find_start;
@@ -18,32 +20,24 @@ use image_check::check;
 use image_sections::Sections;
 use run_edges::work;
 ghost use Rattle.model.specs.Spelling.{ProposeSays};
-ghost use Rattle.spelling_propose.specs.Answers.{proposedAnswer};
+ghost use Rattle.answers.specs.Answers.{proposal};
 ghost use Rattle.spelling_propose.specs.Work.{ProposeAsks};
 
-// What the proposer answers: the refusals 6, 7, 16 and 17, or done, with the start and the number of states.
-pub enum Proposed {
-    NotAnImage,
-    TextTooLong,
-    NoEnd,
-    NoRoom,
-    Done(usize, usize),
-}
-
 // Propose: from an image, a text and an end to the latest start, and the states of a spelling in lent words. The image is checked in this same call.
+// The refusals are 6, 7, 16 and 17; done gives the start and the number of states.
 pub fn propose_spelling(image: &[u64], text: &[u8], end: usize, states: &mut [u32]) -> Proposed
-    ensures { λ r. ⌜ ProposeSays (now (image .entry)) (now (text .entry)) end (now (states .entry)) (proposedAnswer r (now (states .exit))) ⌝ }
+    ensures { λ r. ⌜ ProposeSays (now (image .entry)) (now (text .entry)) end (now (states .entry)) (proposal r (now (states .exit))) ⌝ }
 {
     let checked = check(image);
     let verdict = checked.verdict;
     let Verdict::Image(sections) = verdict else {
-        return Proposed::NotAnImage;
+        return Proposed::Refused(Refusal::NotAnImage);
     };
     if text.len() > 65535 {
-        return Proposed::TextTooLong;
+        return Proposed::Refused(Refusal::TextTooLong);
     }
     if end > text.len() {
-        return Proposed::NoEnd;
+        return Proposed::Refused(Refusal::NotAnEnd);
     }
     propose(image, sections, text, end, states)
 }
@@ -57,7 +51,7 @@ fn propose(
     states: &mut [u32],
 ) -> Proposed
     requires { ⌜ ProposeAsks (now image) sections (now text) end ⌝ }
-    ensures { λ r. ⌜ ProposeSays (now (image .entry)) (now (text .entry)) end (now (states .entry)) (proposedAnswer r (now (states .exit))) ⌝ }
+    ensures { λ r. ⌜ ProposeSays (now (image .entry)) (now (text .entry)) end (now (states .entry)) (proposal r (now (states .exit))) ⌝ }
 {
     let count = sections.states;
     let last = count - 1;
@@ -67,10 +61,10 @@ fn propose(
     let mut kept = [none; 256];
     let found = find_start(image, sections, text, end, last, &origins, &mut kept);
     let Found::At(start) = found else {
-        return Proposed::NoEnd;
+        return Proposed::Refused(Refusal::NotAnEnd);
     };
     if states.len() < end - start {
-        return Proposed::NoRoom;
+        return Proposed::Refused(Refusal::NoRoomForStates);
     }
     write(
         image,

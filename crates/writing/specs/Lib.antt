@@ -1,3 +1,2 @@
--- Says: what the public function promises. Work: what its parts write.
-pub mod Says
+-- Work: what the parts of read back write.
 pub mod Work

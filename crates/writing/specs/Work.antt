@@ -12,14 +12,15 @@ use Rattle.model.specs.Image.{join}
 use Rattle.model.specs.Models.Sections.{bitOf, lettersIn}
 use Rattle.model.specs.Models.LayOut.{begin, owns}
 use Rattle.model.specs.Writing.{classWriting, markWriting, repeatWriting}
+use Rattle.answers.specs.declared.Answer.{Answer}
+use Rattle.answers.specs.declared.Answer.the-variants.{Done, Refused}
+use Rattle.answers.specs.declared.Refusal.the-variants.{NoRoomForWriting}
 use Rattle.tokens.specs.Kinds.{readKind}
 use Rattle.tokens.specs.Tokens.{markOf, repeatOf}
 use Rattle.tokens.specs.declared.token.Token.{Token}
 use Rattle.tokens.specs.declared.token.Token.the-variants.{Bar, Close, Letter, Open}
 use Rattle.tokens_masks.specs.Tapes.{tokensOf}
 use Rattle.tokens_masks.specs.declared.Tape.{Tape}
-use Rattle.writing.specs.declared.Written.{Written}
-use Rattle.writing.specs.declared.Written.the-variants.{Done, NoRoom}
 
 -- ---- the tape with each union's own mark
 pub record OwnMarks (t r : Tape) : Type 0 where
@@ -43,8 +44,8 @@ abbrev pub rangeText : List ℕ → ℕ → List ℕ → (n from : ℕ) → List
 rangeText ws W kinds n from = join n from (λ i. tokenText ws W (readKind (getD kinds i 0)) (suc i))
 
 -- ---- the whole: written if there is room
-abbrev pub writtenIf : List ℕ → List ℕ → Written
-writtenIf text before = cond (leb (length text) (length before)) (Done (length text)) NoRoom
+abbrev pub writtenIf : List ℕ → List ℕ → Answer
+writtenIf text before = cond (leb (length text) (length before)) (Done (length text)) (Refused NoRoomForWriting)
 
 abbrev pub bytesAfter : List ℕ → List ℕ → List ℕ
 bytesAfter text before = cond (leb (length text) (length before)) (sets before 0 text) before

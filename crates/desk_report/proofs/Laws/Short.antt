@@ -4,14 +4,14 @@ use mathlib.Core.List.{List, [], _∷_, _++_}
 use Prim.Native.Nat.{ℕ, _≤_, _<_}
 use native.Mathlib.Omega.{arith}
 use lib.ListN.{length, length-append, length-replicate, length-take, replicate}
-use Rattle.model.specs.Answers.{Answer, MatchSays}
+use Rattle.model.specs.Answers.{Counted, MatchSays, resultOf}
 use Rattle.model.specs.Lists.{_∈_, All}
 use Rattle.model.proofs.Laws.Lists.{all-map, in-all}
 use Rattle.watcher.proofs.Laws.Ends.{end-within, ends-few}
 use Rattle.program_lines.specs.Lines.{endLines, line, refusedText, totalText}
 use Rattle.program_lines.proofs.Laws.Numbers.{ends-short, number-short}
 use Rattle.program_lines.proofs.Laws.Room.{all-done, all-take, all-zeros, build-fits, room-kept}
-use Rattle.desk_report.specs.Desk.{built, DeskSays, found, foundText, Matches, put, ReadsBack, written}
+use Rattle.desk_report.specs.Desk.{built, DeskSays, found, foundText, Matches, ReadsBack, written}
 use Rattle.desk_report.proofs.Laws.Stages.{read-back-fits}
 
 refused-short : (n : ℕ) → n < 10 → length (refusedText n) ≤ 22397
@@ -21,19 +21,19 @@ refused-short n l = omega (arith, number-short 0 n l)
 abbrev Small : List ℕ → Type 0
 Small = All (λ (p : ℕ). p < 100000)
 
-record FewDigits (a : Answer) : Type 0 where
+record FewDigits (a : Counted) : Type 0 where
   pub number : a .number < 10
-  pub total : a .count < 100000
+  pub total : a .given < 100000
   pub few : length (a .lent) ≡ 1000
   pub places : Small (a .lent)
 
-few-digits : {words journal : List ℕ} {a : Answer} → MatchSays words journal (replicate 1000 0) a → FewDigits a
+few-digits : {words journal : List ℕ} {a : Counted} → MatchSays words journal (replicate 1000 0) a → FewDigits a
 few-digits M = go M
   where
     zeros : Small (replicate 1000 0)
     zeros = all-zeros (λ (p : ℕ). p < 100000) (omega arith) 1000
 
-    go : {words journal : List ℕ} {a : Answer} → MatchSays words journal (replicate 1000 0) a → FewDigits a
+    go : {words journal : List ℕ} {a : Counted} → MatchSays words journal (replicate 1000 0) a → FewDigits a
     go (MatchSays.not-an-image n e) = rw e (record { number = omega arith; total = omega arith; few = length-replicate {A = ℕ} 1000 0; places = zeros })
     go (MatchSays.text-too-long t i l e) = rw e (record { number = omega arith; total = omega arith; few = length-replicate {A = ℕ} 1000 0; places = zeros })
     go {journal = journal} (MatchSays.matched t ends i l E e) =
@@ -55,12 +55,12 @@ matches-short : {words journal writing text : List ℕ} → length writing ≤ 1
 matches-short w (Matches.refused a M l e) = omega (arith, ap length e, refused-short (a .number) (few-digits M .number))
 matches-short {writing = writing} w (found a M z e) =
     let F = few-digits M in
-    let few : length (put a) ≤ 1000 = omega (arith, length-take (a .count) (a .lent), F .few) in
-    omega (arith, ap length e, found-short writing (a .count) (put a) w (F .total) few (all-take (λ (p : ℕ). p < 100000) (a .count) (a .lent) (F .places)))
+    let few : length (resultOf a) ≤ 1000 = omega (arith, length-take (a .given) (a .lent), F .few) in
+    omega (arith, ap length e, found-short writing (a .given) (resultOf a) w (F .total) few (all-take (λ (p : ℕ). p < 100000) (a .given) (a .lent) (F .places)))
 
 reads-back-short : {words journal text : List ℕ} → ReadsBack words journal text → length text ≤ 22397
 reads-back-short (ReadsBack.refused a R l e) = omega (arith, ap length e, refused-short (a .number) (read-back-fits R .0))
-reads-back-short (written a R z M) = matches-short (omega (arith, length-take (a .count) (a .lent), read-back-fits R .1, length-replicate {A = ℕ} 16384 0)) M
+reads-back-short (written a R z M) = matches-short (omega (arith, length-take (a .given) (a .lent), read-back-fits R .1, length-replicate {A = ℕ} 16384 0)) M
 
 pub desk-short : {rule journal text : List ℕ} → DeskSays rule journal text → length text ≤ 22397
 desk-short (DeskSays.refused a B l e) = omega (arith, ap length e, refused-short (a .number) (build-fits B .0))

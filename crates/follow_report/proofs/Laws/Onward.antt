@@ -5,7 +5,7 @@ use mathlib.Core.List.{List}
 use Prim.Native.Nat.{ℕ, _+_, _≤_}
 use native.Mathlib.Omega.{arith}
 use lib.ListN.{length}
-use Rattle.model.specs.Watch.{stepped, StepSays, stretch-too-long, text-too-long, Watch}
+use Rattle.model.specs.Watch.{stepped, StepSays, stretch-too-long, text-too-long, Watched}
 use Rattle.program_lines.proofs.Laws.Room.{build-fits}
 use Rattle.follow_report.specs.Follow.{built, Hears, Kept, Next, on, Opens, stopped, Told}
 use Rattle.follow_report.specs.Work.{keptIn, nextIf, nextIn}
@@ -13,13 +13,13 @@ use Rattle.follow_report.specs.declared.Said.{Said}
 use Rattle.follow_report.specs.declared.Watching.{Watching}
 
 -- ---- where an answer's place is
-step-place : {words mask stretch lent : List ℕ} {place : ℕ} {a : Watch} → StepSays words mask place stretch lent a → a .number ≡ 0
-    → (a .place ≡ place + length stretch) × (a .place ≤ 4294967295)
-step-place (StepSays.not-an-image f e) z = absurd (omega (arith, z, ap (λ (a : Watch). a .number) e))
-step-place (stretch-too-long t i l e) z = absurd (omega (arith, z, ap (λ (a : Watch). a .number) e))
-step-place (StepSays.not-a-mask t i l f e) z = absurd (omega (arith, z, ap (λ (a : Watch). a .number) e))
-step-place (text-too-long t i l f k e) z = absurd (omega (arith, z, ap (λ (a : Watch). a .number) e))
-step-place (stepped t after found I l M k A E e) z = omega (arith, ap (λ (a : Watch). a .place) e, k)
+step-place : {words mask stretch lent : List ℕ} {place : ℕ} {a : Watched} → StepSays words mask place stretch lent a → a .number ≡ 0
+    → (a .lent .place ≡ place + length stretch) × (a .lent .place ≤ 4294967295)
+step-place (StepSays.not-an-image f e) z = absurd (omega (arith, z, ap (λ (a : Watched). a .number) e))
+step-place (stretch-too-long t i l e) z = absurd (omega (arith, z, ap (λ (a : Watched). a .number) e))
+step-place (StepSays.not-a-mask t i l f e) z = absurd (omega (arith, z, ap (λ (a : Watched). a .number) e))
+step-place (text-too-long t i l f k e) z = absurd (omega (arith, z, ap (λ (a : Watched). a .number) e))
+step-place (stepped t after found I l M k A E e) z = omega (arith, ap (λ (a : Watched). a .lent .place) e, k)
 
 -- ---- where the program is that goes on
 abbrev placeOf : Next → ℕ
@@ -32,8 +32,8 @@ never p = let z : _≡_ {A = ℕ} 0 1 = cc in omega arith
 goes-on : (words : List ℕ) (r : Said) → r .on ≡ true → nextIn words r ≡ on (keptIn words (r .watching))
 goes-on words r e = ap (λ (b : Bool). nextIf b (keptIn words (r .watching))) e
 
-told-place : (words : List ℕ) (r : Said) {w : Watch} {total : ℕ} {text : List ℕ} → r .on ≡ true → Told w total (nextIn words r) text
-    → (w .number ≡ 0) × (r .watching .place ≡ w .place)
+told-place : (words : List ℕ) (r : Said) {w : Watched} {total : ℕ} {text : List ℕ} → r .on ≡ true → Told w total (nextIn words r) text
+    → (w .number ≡ 0) × (r .watching .place ≡ w .lent .place)
 told-place words r e (Told.found z n t) = (z, ap placeOf (sym (goes-on words r e) ∙ n))
 told-place words r e (Told.refused z n t) = absurd (never (sym (goes-on words r e) ∙ n))
 

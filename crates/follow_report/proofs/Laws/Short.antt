@@ -7,7 +7,7 @@ use native.Mathlib.Omega.{arith}
 use lib.ListN.{length, length-replicate, length-take, replicate, take}
 use Rattle.model.specs.Answers.{done}
 use Rattle.model.specs.Lists.{_∈_, All}
-use Rattle.model.specs.Watch.{BeginSays, begun, foundBy, stepped, StepSays, stretch-too-long, text-too-long, Watch}
+use Rattle.model.specs.Watch.{BeginSays, begun, foundBy, stepped, StepSays, stretch-too-long, text-too-long, Watched}
 use Rattle.model.proofs.Laws.Lists.{all-map, in-all}
 use Rattle.watcher.proofs.Laws.Ends.{end-within}
 use Rattle.program_lines.specs.Lines.{endLines, refusedText, totalText}
@@ -29,15 +29,15 @@ room-short found k n F =
     omega (arith, few, ends-short 9 (take n lent) (all-take Near n lent (all-done Near found (replicate k 0) F (all-zeros Near (omega arith) k))))
 
 -- an answer of the watch, with room for k ends
-abbrev Short : ℕ → Watch → Type 0
+abbrev Short : ℕ → Watched → Type 0
 Short k a = (a .number < 100) × (length (endLines (foundBy a)) ≤ k * 11)
 
-pub begin-short : {words mask : List ℕ} {place : ℕ} {a : Watch} → BeginSays words mask place (0 ∷ []) a → Short 1 a
+pub begin-short : {words mask : List ℕ} {place : ℕ} {a : Watched} → BeginSays words mask place (0 ∷ []) a → Short 1 a
 begin-short (BeginSays.not-an-image f e) = rw e (omega arith)
 begin-short (BeginSays.not-a-mask t i f e) = rw e (omega arith)
 begin-short (begun t first found I k A E e) = rw e (omega arith, room-short found 1 (length found) (near-all found (λ p h. omega (arith, end-within t [] found E p h))))
 
-pub step-short : {words mask : List ℕ} {place : ℕ} {stretch : List ℕ} {a : Watch} → StepSays words mask place stretch (replicate 4096 0) a → Short 4096 a
+pub step-short : {words mask : List ℕ} {place : ℕ} {stretch : List ℕ} {a : Watched} → StepSays words mask place stretch (replicate 4096 0) a → Short 4096 a
 step-short (StepSays.not-an-image f e) = rw e (omega arith)
 step-short (stretch-too-long t i l e) = rw e (omega arith)
 step-short (StepSays.not-a-mask t i l f e) = rw e (omega arith)
@@ -49,7 +49,7 @@ step-short (stepped t after found I l M k A E e) =
 refused-short : (n : ℕ) → n < 100 → length (refusedText n) ≤ 11
 refused-short n l = omega (arith, number-short 1 n l)
 
-told-short : {w : Watch} {total : ℕ} {next : Next} {text : List ℕ} (k : ℕ) → 1 ≤ k → Short k w → Told w total next text → length text ≤ k * 11
+told-short : {w : Watched} {total : ℕ} {next : Next} {text : List ℕ} (k : ℕ) → 1 ≤ k → Short k w → Told w total next text → length text ≤ k * 11
 told-short k l S (Told.found z n e) = omega (arith, ap length e, S .1)
 told-short {w} k l S (Told.refused z n e) = omega (arith, ap length e, refused-short (w .number) (S .0))
 

@@ -6,7 +6,7 @@ use native.Mathlib.Nat.{add-zero}
 use native.Mathlib.Omega.{arith}
 use lib.ListN.{length, length-append, length-replicate, replicate}
 use Rattle.model.specs.Lists.{All, each}
-use Rattle.model.specs.Watch.{Call, Calls, endsOf, Fair, foundBy, StepSays, textOf, Watch}
+use Rattle.model.specs.Watch.{Call, Calls, endsOf, Fair, foundBy, StepSays, textOf, Watched}
 use Rattle.program_lines.specs.Lines.{endLines, totalText}
 use Rattle.program_lines.proofs.Laws.Puts.{lines-app}
 use Rattle.follow_report.specs.Follow.{ended, Kept, Next, on, Told, went-on, Writes}
@@ -33,13 +33,13 @@ lines-then ps qs m n e u c =
     ap₂ (λ (x y : List ℕ). x ++ y) e u ∙ sym (append-assoc (endLines ps) (endLines qs) (totalText m)) ∙ ap₂ (λ (x y : List ℕ). x ++ y) (sym (lines-app ps qs)) (ap totalText c)
 
 -- ---- one call
-abbrev call : List ℕ → Watch → Call
+abbrev call : List ℕ → Watched → Call
 call s w = record { stretch = s; lent = replicate 4096 0; gave = w }
 
-abbrev after : Kept → Watch → Kept
-after kept w = record { mask = w .mask; place = w .place; total = (kept .total + w .count) % 2 ^ 64 }
+abbrev after : Kept → Watched → Kept
+after kept w = record { mask = w .lent .mask; place = w .lent .place; total = (kept .total + w .given) % 2 ^ 64 }
 
-module _ (words : List ℕ) (kept : Kept) (s : List ℕ) (w : Watch) (S : StepSays words (kept .mask) (kept .place) s (replicate 4096 0) w) (l : length s ≤ 4096) where
+module _ (words : List ℕ) (kept : Kept) (s : List ℕ) (w : Watched) (S : StepSays words (kept .mask) (kept .place) s (replicate 4096 0) w) (l : length s ≤ 4096) where
   first-of : {cs : List Call} → Trace words (after kept w) cs → Trace words kept (call s w ∷ cs)
   first-of T = record {
     calls = (S, T .calls);
@@ -56,7 +56,7 @@ module _ (words : List ℕ) (kept : Kept) (s : List ℕ) (w : Watch) (S : StepSa
     long : length (joined (s ∷ stretches)) ≡ length s + length (joined stretches)
     long = length-append s (joined stretches)
 
-    fits : after kept w .total ≡ kept .total + w .count
+    fits : after kept w .total ≡ kept .total + w .given
     fits = omega (arith, short, long, step-few S l .0)
 
     rest-short : after kept w .total + length (joined stretches) < 2 ^ 64
@@ -77,10 +77,10 @@ traced [] kept ended F b = whole [] (record { calls = tt; fair = tt }) refl (ap 
 traced {words} (s ∷ stretches) kept (went-on {next = next} {first} {rest} H W) F b =
     go (H .told) (λ k e. traced stretches k (subst (λ (n : Next). Writes words stretches n rest) e W) (F .1))
   where
-    w : Watch
+    w : Watched
     w = H .answer
 
-    go : Told w (kept .total + w .count) next first
+    go : Told w (kept .total + w .given) next first
         → ((k : Kept) → next ≡ on k → k .total + length (joined stretches) < 2 ^ 64 → Traced words k stretches rest)
         → Traced words kept (s ∷ stretches) (first ++ rest)
     go (Told.refused z n e) more = call-broken words kept s w (H .says) (F .0) z

@@ -10,7 +10,7 @@ use Rattle.model.specs.Ends.{EndsAre}
 use Rattle.model.specs.Image.{width}
 use Rattle.model.specs.Lists.{All}
 use Rattle.model.specs.Tree.{Tree}
-use Rattle.model.specs.Watch.{Call, Calls, Cutting, endsOf, Fair, foundBy, textOf, Watch}
+use Rattle.model.specs.Watch.{Call, Calls, Cutting, endsOf, Fair, foundBy, textOf, Watched}
 use Rattle.model.proofs.Watch.Cuttings.{cutting}
 use Rattle.follow_report.specs.Follow.{Arrives, Begins, Followed, maskWords, Next, Told, Writes}
 use Rattle.follow_report.proofs.Laws.Few.{begin-few}
@@ -26,20 +26,20 @@ module _ (words : List ℕ) (t : Tree) (I : ImageOf words t) {journal : List ℕ
   pub begun-writes : {next : Next} {first rest : List ℕ} → Begins words next first → Writes words stretches next rest → Followed t journal (first ++ rest)
   begun-writes {next} {first} {rest} B W = go (B .told)
     where
-      w : Watch
+      w : Watched
       w = B .answer
 
-      few : w .count ≤ 1
+      few : w .given ≤ 1
       few = begin-few (B .says) .0
 
-      cut : (cs : List Call) → Calls words (w .mask) (w .place) cs → All Fair cs → length (textOf cs) ≤ 4294967295 → Cutting t w cs
+      cut : (cs : List Call) → Calls words (w .lent .mask) (w .lent .place) cs → All Fair cs → length (textOf cs) ≤ 4294967295 → Cutting t w cs
       cut cs = cutting words t I (take (maskWords words) (replicate 8 0)) 0 (0 ∷ []) w cs (mask-wide words t I) (B .says) few
 
-      go : Told w (w .count) next first → Followed t journal (first ++ rest)
+      go : Told w (w .given) next first → Followed t journal (first ++ rest)
       go (Told.refused z n e) = absurd (omega (arith, z, cut [] tt tt (omega arith) .began))
       go (Told.found z n e) = run (traced stretches _ (subst (λ (x : Next). Writes words stretches x rest) n W) (A .short) (omega (arith, few, ap length (A .joined), A .limit)))
         where
-          run : Traced words (record { mask = w .mask; place = w .place; total = w .count % 2 ^ 64 }) stretches rest → Followed t journal (first ++ rest)
+          run : Traced words (record { mask = w .lent .mask; place = w .lent .place; total = w .given % 2 ^ 64 }) stretches rest → Followed t journal (first ++ rest)
           run (broken cs T k f) = absurd (f (cut cs (T .calls) (T .fair) (omega (arith, k, ap length (A .joined), A .limit)) .went-on))
           run (whole cs T j u) =
               let C = cut cs (T .calls) (T .fair) (omega (arith, ap length j, ap length (A .joined), A .limit)) in
@@ -47,6 +47,6 @@ module _ (words : List ℕ) (t : Tree) (I : ImageOf words t) {journal : List ℕ
                 ends = foundBy w ++ endsOf cs;
                 are = subst (λ (x : List ℕ). EndsAre t x (foundBy w ++ endsOf cs)) (j ∙ A .joined) (C .ends);
                 lines =
-                    lines-then (foundBy w) (endsOf cs) (w .count % 2 ^ 64 + length (endsOf cs)) (length (foundBy w ++ endsOf cs)) e u
+                    lines-then (foundBy w) (endsOf cs) (w .given % 2 ^ 64 + length (endsOf cs)) (length (foundBy w ++ endsOf cs)) e u
                     (omega (arith, few, begin-few (B .says) .1, length-append (foundBy w) (endsOf cs)));
               }

@@ -4,7 +4,7 @@ use mathlib.Core.List.{List, [], _∷_}
 use Prim.Native.Nat.{ℕ, _*_, _/_, _%_, _^_, _≤_, _<_}
 use native.Mathlib.Omega.{arith}
 use lib.ListN.{length, length-append}
-use Rattle.model.specs.Answers.{Answer, ImageOf, no-room, not-an-image, ReadBackSays, written}
+use Rattle.model.specs.Answers.{Counted, ImageOf, no-room, not-an-image, ReadBackSays, written}
 use Rattle.model.specs.Models.LayOut.{begin, owns}
 use Rattle.model.specs.Models.Tokens.{aBar, aClose, aLetter, anOpen, Token, tokens}
 use Rattle.model.specs.Tree.{once, option, optional, plus, Repeat, star, starred, Tree, unmarked}
@@ -15,11 +15,8 @@ use Rattle.model.proofs.Image.TokenWriting.{length-owns, tokens-writing, tokens
 use Rattle.model.proofs.Image.WellFormed.{well-formed}
 use Rattle.model.proofs.Reading.WellFormed.{rule-well}
 use Rattle.writing_letters.proofs.Laws.Bounds.{class-short}
-use Rattle.writing.specs.Says.{writtenAnswer}
-use Rattle.writing.specs.declared.Written.{Written}
-use Rattle.writing.specs.declared.Written.the-variants.{Done, NoRoom, NotAnImage}
-use Rattle.panel.specs.Says.{Gives}
-use Rattle.panel.proofs.Laws.Given.{count-is, number-is, one-given}
+use Rattle.panel.specs.Says.{Gives, itself}
+use Rattle.panel.proofs.Laws.Given.{Apart, apart, one-given}
 
 sign-short : (r : Repeat) → length (repeatWriting r) ≤ 1
 sign-short once = omega arith
@@ -46,22 +43,15 @@ writing-small t i =
     omega (arith, ap (λ (w : List ℕ). length w) e, tokens-short own, length-owns (tokens t []) begin, length-tokens t, i .few)
 
 module _ {words before : List ℕ} where
-  pub count-small : {a : Answer} → ReadBackSays words before a → a .count ≤ 1178877
-  count-small (not-an-image n e) = omega (arith, ap (λ (a : Answer). a .count) e)
-  count-small (no-room t i l e) = omega (arith, ap (λ (a : Answer). a .count) e)
-  count-small (written t i l e) = omega (arith, ap (λ (a : Answer). a .count) e, writing-small t i)
+  pub count-small : {a : Counted} → ReadBackSays words before a → a .given ≤ 1178877
+  count-small (not-an-image n e) = omega (arith, ap (λ (a : Counted). a .given) e)
+  count-small (no-room t i l e) = omega (arith, ap (λ (a : Counted). a .given) e)
+  count-small (written t i l e) = omega (arith, ap (λ (a : Counted). a .given) e, writing-small t i)
 
   -- WHAT A CALLER TAKES FROM THE NUMBER GIVEN is the table's number and count; and there is one number to be given
-  module _ {r : ℕ} {after : List ℕ} (G : Gives (ReadBackSays words before) r after) where
-    pub read-back-apart : (r / 2 ^ 32 ≡ G .answer .number) × (r % 2 ^ 32 ≡ G .answer .count)
-    read-back-apart = let l : G .answer .count < 2 ^ 32 = omega (arith, count-small (G .says)) in (number-is G l, count-is G l)
+  module _ {r : ℕ} {after : List ℕ} (G : Gives itself (ReadBackSays words before) r after) where
+    pub read-back-apart : Apart G
+    read-back-apart = apart G (omega (arith, count-small (G .says)))
 
-    pub read-back-given : {q : ℕ} {later : List ℕ} → Gives (ReadBackSays words before) q later → (r ≡ q) × (after ≡ later)
-    read-back-given H = one-given G (read-back-one words before) H
-
--- read back's answer as an enum: number and count do not depend on what was lent
-pub with-lent : (w : Written) (after : List ℕ)
-    → writtenAnswer w after ≡ record { number = writtenAnswer w [] .number; count = writtenAnswer w [] .count; lent = after }
-with-lent NotAnImage after = refl
-with-lent NoRoom after = refl
-with-lent (Done n) after = refl
+    pub read-back-given : {q : ℕ} {later : List ℕ} → Gives itself (ReadBackSays words before) q later → (r ≡ q) × (after ≡ later)
+    read-back-given = one-given G (read-back-one words before)

@@ -6,7 +6,7 @@ use Prim.Native.Nat.{ℕ, zero, suc, _≤_, _<_}
 use native.Mathlib.Omega.{arith}
 use lib.ListN.{drop, length, length-take, replicate, take, take-append-drop}
 use lib.Seq.{length-sets}
-use Rattle.model.specs.Answers.{Answer, BuildSays, built, done, no-room, not-a-rule, rule-too-long, too-deep, too-many-states}
+use Rattle.model.specs.Answers.{BuildSays, built, Counted, done, no-room, not-a-rule, rule-too-long, too-deep, too-many-states}
 use Rattle.model.specs.Lists.{All}
 use Rattle.model.proofs.Laws.Lists.{all-app, all-left, all-right}
 use Rattle.model.proofs.Laws.Stores.{sets-fit}
@@ -36,10 +36,10 @@ pub first : {n room : ℕ} {after : List ℕ} → n ≤ room → length after �
 first {n} {room} {after} l e = record { fits = omega (arith, e); counted = omega (arith, length-take n after, e) }
 
 -- ---- an answer's number has one digit, and its count is within the room
-abbrev pub Fits : List ℕ → Answer → Type 0
-Fits before a = (a .number < 10) × (a .count ≤ length before)
+abbrev pub Fits : List ℕ → Counted → Type 0
+Fits before a = (a .number < 10) × (a .given ≤ length before)
 
-pub build-fits : {rule before : List ℕ} {a : Answer} → BuildSays rule before a → Fits before a
+pub build-fits : {rule before : List ℕ} {a : Counted} → BuildSays rule before a → Fits before a
 build-fits (rule-too-long l e) = rw e (omega arith)
 build-fits (not-a-rule l f e) = rw e (omega arith)
 build-fits (too-many-states t l d m e) = rw e (omega arith)

@@ -26,10 +26,10 @@ enum-told : tie.Need-enum-told
 enum-told c = search needs
 
 returns : tie.Need-returns
-returns c = let k = c .before .before in not-an-image (not-found (words k) (k .check .result) (k .check .ensures) (c .enum-told .given .1)) refl refl
+returns c = let k = c .before .before in not-an-image (not-found (words k) (k .check .result) (k .check .ensures) (c .enum-told .given .1)) refl
 
 returns-2 : tie.Need-returns-2
-returns-2 c = let F = seen (c .before .before) in text-too-long (F .tree) (F .image-of) (c .if1 .taken) refl refl
+returns-2 c = let F = seen (c .before .before) in text-too-long (F .tree) (F .image-of) (c .if1 .taken) refl
 
 is-right-requires : tie.Need-is-right-requires
 is-right-requires c κs = seen (c .before .before) .placed
@@ -38,13 +38,13 @@ returns-3 : tie.Need-returns-3
 returns-3 c =
     let e = c .before .before in
     let F = seen (e .before .before) in
-    right (F .tree) (F .image-of) (e .if1 .left) (c .before .is-right .ensures (F .tree) (F .image-of) .0 (subst T (sym (c .if2 .taken)) tt)) refl refl
+    right (F .tree) (F .image-of) (e .if1 .left) (c .before .is-right .ensures (F .tree) (F .image-of) .0 (subst T (sym (c .if2 .taken)) tt)) refl
 
 returns-4 : tie.Need-returns-4
 returns-4 c =
     let e = c .before .before in
     let F = seen (e .before .before) in
-    wrong (F .tree) (F .image-of) (e .if1 .left) (λ s. subst T (c .if2 .left) (c .before .is-right .ensures (F .tree) (F .image-of) .1 s)) refl refl
+    wrong (F .tree) (F .image-of) (e .if1 .left) (λ s. subst T (c .if2 .left) (c .before .is-right .ensures (F .tree) (F .image-of) .1 s)) refl
 
 pub check-spelling-spec : {M : Type 1} → statement M
 check-spelling-spec =

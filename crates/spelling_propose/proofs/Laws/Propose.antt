@@ -10,7 +10,7 @@ use Rattle.model.specs.Answers.{ImageOf}
 use Rattle.model.specs.Tree.{Tree}
 use Rattle.model.proofs.Laws.Bool.{le-or-lt}
 use Rattle.model.specs.Models.Leads.{Leads}
-use Rattle.model.specs.Spelling.{between, Latest, no-end, no-room, Proposal, proposed, ProposeSays, refused, Spelled}
+use Rattle.model.specs.Spelling.{between, Latest, no-end, no-room, Proposal, proposed, proposes, proposes-none, ProposeSays, Spelled}
 use Rattle.model.proofs.Spelling.Ends.{spelled-end, spelled-leads}
 use Rattle.image_sections.specs.declared.Sections.{Sections}
 use Rattle.image_sections.proofs.Laws.OfTree.{states-is}
@@ -22,7 +22,7 @@ use Rattle.spelling_propose.proofs.Laws.Back.{ready}
 
 -- an end lies in the text
 pub past-text : (words text : List ℕ) (end : ℕ) (before : List ℕ) (t : Tree) → ImageOf words t → length text ≤ 65535 → length text < end
-    → ProposeSays words text end before (refused 16 before)
+    → ProposeSays words text end before (proposes-none 16 before)
 past-text words text end before t I short h =
     no-end t I short (λ e. let s = spelled-end t (I .is-rule) text end .1 e in omega (arith, s .2 .inside)) refl
 
@@ -48,7 +48,7 @@ module _ {words : List ℕ} {p : Sections} {text : List ℕ} {end : ℕ} (A : Pr
     R : Ready words origins last t
     R = ready words origins (p .states) t I (own-states (A .placed) ∙ states-is words t I) O
 
-    pub nowhere : r ≡ search.Nowhere → Says (refused 16 before)
+    pub nowhere : r ≡ search.Nowhere → Says (proposes-none 16 before)
     nowhere e = no-end t I (A .short) (λ d. go (subst (StartSays words origins last text end kept) e S) (spelled-end t (I .is-rule) text end .1 d)) refl
       where
         go : StartSays words origins last text end kept search.Nowhere → (start : ℕ) × (states : List ℕ) × Spelled t text start end states → ⊥
@@ -71,11 +71,11 @@ module _ {words : List ℕ} {p : Sections} {text : List ℕ} {end : ℕ} (A : Pr
           go j l (inl h) = h
           go j l (inr h) = absurd (at .starts t R .1 j h (l .1) (l .2))
 
-      pub too-short : length before < end - start → Says (refused 17 before)
+      pub too-short : length before < end - start → Says (proposes-none 17 before)
       too-short h = no-room t start I (A .short) latest h refl
 
       pub written : end - start ≤ length before → {after : List ℕ} → WriteSays words origins last text start end kept before after
-          → Says (record { number = 0; start = start; count = end - start; lent = after })
+          → Says (proposes start (end - start) after)
       written h {after} W =
           proposed t start (take (end - start) after) I (A .short) latest h
           (record {
@@ -84,5 +84,5 @@ module _ {words : List ℕ} {p : Sections} {text : List ℕ} {end : ℕ} (A : Pr
             each = length-take-le (end - start) after (omega (arith, W .long));
             follow = W .follows t R (at .starts t R .2) (at .starts t R .0);
           })
-          (ap (λ (l : List ℕ). record { number = 0; start = start; count = end - start; lent = l })
+          (ap (proposes start (end - start))
           (sym (take-append-drop (end - start) after) ∙ ap (λ (l : List ℕ). take (end - start) after ++ l) (W .rest)))

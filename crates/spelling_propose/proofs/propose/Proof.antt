@@ -61,8 +61,8 @@ write-requires c κs =
     let A = entry f .pre in
     (A .placed, f .before .before .before .before .before .work .ensures, record { asked = asked A; ordered = before-end g; room = e .if1 .left })
 
-sub-t19 : tie.Need-sub-t19
-sub-t19 c = before-end (c .before .before .before .before .before .before .before .before .before)
+sub-t20 : tie.Need-sub-t20
+sub-t20 c = before-end (c .before .before .before .before .before .before .before .before .before)
 
 same-length : tie.Need-same-length
 same-length c = search needs
@@ -90,6 +90,6 @@ propose-spec =
     sub-if1
     returns-2
     write-requires
-    sub-t19
+    sub-t20
     same-length
     returns-3)

@@ -17,7 +17,7 @@ use Rattle.model.specs.Live.{Before}
 use Rattle.model.specs.Models.Run.{noted}
 use Rattle.model.specs.Models.Words.{Fit, isMask, value}
 use Rattle.model.specs.Tree.{Tree}
-use Rattle.model.specs.Watch.{BeginSays, begun, goes-on, IsMask, not-a-mask, not-an-image, stays, stepped, StepSays, stretch-too-long, text-too-long, Watch}
+use Rattle.model.specs.Watch.{BeginSays, begun, goes-on, IsMask, not-a-mask, not-an-image, stays, stepped, StepSays, stretch-too-long, text-too-long, watch, Watched}
 use Rattle.model.proofs.Laws.Stores.{sets-fit}
 use Rattle.model.proofs.Watch.Ends.{ends-zero}
 use Rattle.model.proofs.Watch.Masks.{mask-test}
@@ -67,10 +67,10 @@ module _ (ws : List ℕ) {r : Checked} (C : CheckSays ws r) {p : Sections} (g : 
     pub begin-done : length mask ≡ p .width → (words : List ℕ) → length words ≡ 8 → Fit words → run.BeginSays ws words
         → (hit : Bool) → hit ≡ bit (value words) (p .states - 1) → {total : ℕ} → total ≡ (0 + length (noted hit 0)) % 2 ^ 64 → {after new : List ℕ}
         → after ≡ sets ends 0 (noted hit 0) → new ≡ take (p .width) words
-        → BeginSays ws mask place ends (record { number = 0; count = total; mask = new; place = 0; ends = after })
+        → BeginSays ws mask place ends (record { number = 0; given = total; lent = watch new 0 after })
     begin-done long words eight fits B hit looked {total} counts {after} {new} writes laid =
         begun t (take (width (states t)) words) (noted hit 0) I (long ∙ width-is) (states-mask t (I .few) words (Before t) eight fits A) (ends-zero t (I .is-rule) hit is)
-        (ap₂ (λ (n : ℕ) (e : List ℕ). record { number = 0; count = n; mask = new; place = 0; ends = e }) total-is (writes ∙ sets-fit ends (noted hit 0))
+        (ap₂ (λ (n : ℕ) (e : List ℕ). record { number = 0; given = n; lent = watch new 0 e }) total-is (writes ∙ sets-fit ends (noted hit 0))
         ∙ ap (λ (m : List ℕ). goes-on m 0 (noted hit 0) ends) (laid ∙ ap (λ (n : ℕ). take n words) width-is))
       where
         A : run.StatesAre t words (Before t)
@@ -90,7 +90,7 @@ module _ (ws : List ℕ) {r : Checked} (C : CheckSays ws r) {p : Sections} (g : 
 
   -- ---- STEP
   module _ (mask : List ℕ) (place : ℕ) (stretch ends : List ℕ) where
-    abbrev Says : Watch → Type 0
+    abbrev Says : Watched → Type 0
     Says = StepSays ws mask place stretch ends
 
     pub step-long : 65535 < length stretch → Says (stays 7 mask place ends)
@@ -129,11 +129,11 @@ module _ (ws : List ℕ) {r : Checked} (C : CheckSays ws r) {p : Sections} (g : 
           goes = record { placed = placed; long = its-words; limits = record { small = small; near = omega arith; few = omega arith } }
 
           pub step-done : {words : List ℕ} {total : ℕ} {after new : List ℕ} → run.GoOnSays ws mask place stretch ends words total after → new ≡ take (p .width) words
-              → Says (record { number = 0; count = total; mask = new; place = place + length stretch; ends = after })
+              → Says (record { number = 0; given = total; lent = watch new (place + length stretch) after })
           step-done {words} {total} {after} {new} G laid =
               let R = G t I M in
               stepped t (take (width (states t)) words) (R .found) I small M (omega arith) (R .live) (R .ends)
-              (ap₂ (λ (n : ℕ) (l : List ℕ). record { number = 0; count = n; mask = new; place = place + length stretch; ends = l }) (R .counted) (R .stored)
+              (ap₂ (λ (n : ℕ) (l : List ℕ). record { number = 0; given = n; lent = watch new (place + length stretch) l }) (R .counted) (R .stored)
               ∙ ap (λ (m : List ℕ). goes-on m (place + length stretch) (R .found) ends) (laid ∙ ap (λ (n : ℕ). take n words) width-is))
 
 pub begin-other : (ws mask : List ℕ) (place : ℕ) (ends : List ℕ) {r : Checked} → CheckSays ws r → r .verdict ≡ Other → BeginSays ws mask place ends (stays 6 mask place ends)

@@ -4,24 +4,22 @@ use mathlib.Core.List.{List, []}
 use Prim.Native.Nat.{ℕ, _+_, _-_, _*_, _≤_}
 use native.Mathlib.Omega.{arith}
 use lib.ListN.{drop, length, length-replicate, take}
-use lib.Seq.{sets-eq, take-all, take-append-seam}
-use Rattle.model.specs.Answers.{BuildSays, built, no-room, not-a-rule, refused, rule-too-long, too-deep, too-many-states}
+use lib.Seq.{sets-eq, take-append-seam}
+use Rattle.model.specs.Answers.{BuildSays, built, Counted, no-room, not-a-rule, refused, rule-too-long, too-deep, too-many-states}
 use Rattle.model.specs.Edges.{states}
 use Rattle.model.specs.Grammar.{IsRule}
-use Rattle.model.specs.Image.{image as imageOf}
 use Rattle.model.specs.Models.Tokens.{tokens}
 use Rattle.model.specs.Tree as tree
 use Rattle.model.proofs.Image.Tokens.{length-tokens}
+use Rattle.answers.specs.Answers.{numberOf}
 use Rattle.tokens.specs.Rows.{rowWords}
 use Rattle.rule.specs.Says as reading
 use Rattle.rule.specs.Tokens.{noTokens, roomWith}
 use Rattle.rule.specs.declared.Outcome.{Outcome}
-use Rattle.rule.specs.declared.Outcome.the-variants.{NotARule, TooLong, TooManyStates, Tree}
+use Rattle.rule.specs.declared.Outcome.the-variants.{Refused, Tree}
 use Rattle.rule.specs.declared.Reading.{Reading}
 use Rattle.tokens.proofs.Rows.{row-length}
 use Rattle.image.specs.Says as image
-use Rattle.watcher.specs.Answers.{builtAnswer, builtOf, TreeBuilt}
-use Rattle.watcher.specs.declared.Built.{Built}
 
 module _ (rule before : List ℕ) where
   -- the rule was read, and row holds the tokens of its tree, which has m states
@@ -33,9 +31,7 @@ module _ (rule before : List ℕ) where
     pub held : row ≡ roomWith (tokens t [])
 
   abbrev pub Answered : Outcome → List ℕ → Type 0
-  Answered TooLong row = BuildSays rule before (refused 1 before)
-  Answered NotARule row = BuildSays rule before (refused 2 before)
-  Answered TooManyStates row = BuildSays rule before (refused 3 before)
+  Answered (Refused x) row = BuildSays rule before (refused (numberOf x) before)
   Answered (Tree m) row = (t : tree.Tree) × TreeRead t m row
 
   pub answered : (r : Reading) → reading.ReadSays rule r → Answered (r .outcome) (r .tokens)
@@ -46,7 +42,7 @@ module _ (rule before : List ℕ) where
 
   -- ---- a tree that was read
   module _ {t : tree.Tree} {m : ℕ} {row : List ℕ} (T : TreeRead t m row) where
-    some-states : 1 ≤ m
+    pub some-states : 1 ≤ m
     some-states = omega (arith, T .size)
 
     long : m - 1 ≡ length (tokens t [])
@@ -65,13 +61,13 @@ module _ (rule before : List ℕ) where
     is-held : image.TokensOf t row (m - 1)
     is-held = record { rule = rule; is-rule = T .is-rule; few = T .few; long = long; are = held-words }
 
-    pub of-rule : (1 ≤ m) × image.OfRule row (m - 1)
-    of-rule = (some-states, (t, is-held))
+    pub of-rule : image.OfRule row (m - 1)
+    of-rule = (t, is-held)
 
-    pub tree-built : (r : Built) (after : List ℕ) → TreeBuilt row (m - 1) before r after → BuildSays rule before (builtAnswer r after)
-    tree-built r after B = rw (B .is) (go (B .says t is-held))
+    pub tree-built : {a : Counted} → image.StoreSays row (m - 1) before a → BuildSays rule before a
+    tree-built {a} S = go (S t is-held)
       where
-        go : image.TreeSays t before (B .stored) after → BuildSays rule before (builtAnswer (builtOf (B .stored)) after)
-        go (image.too-deep k e a) = too-deep t (T .short) (T .is-rule) (T .few) k (rw (e, a))
-        go (image.no-room k n e a) = no-room t (T .short) (T .is-rule) (T .few) k n (rw (e, a))
-        go (image.stored k n e a) = built t (T .short) (T .is-rule) (T .few) k n (rw (e, a, take-all (length before) (imageOf t) n))
+        go : image.TreeSays t before a → BuildSays rule before a
+        go (image.too-deep k e) = too-deep t (T .short) (T .is-rule) (T .few) k e
+        go (image.no-room k n e) = no-room t (T .short) (T .is-rule) (T .few) k n e
+        go (image.stored k n e) = built t (T .short) (T .is-rule) (T .few) k n e

@@ -28,11 +28,11 @@ module _ (words text before : List ℕ) {r : Checked} (C : CheckSays words r) wh
     too-long l = let F = found words r C g in text-too-long (F .tree) (F .image-of) l refl
 
     pub all-found : length text ≤ 65535 → Bytes text → (total : ℕ) (after : List ℕ) → FindSays words text before total after
-        → MatchSays words text before (record { number = 0; count = total; lent = after })
+        → MatchSays words text before (record { number = 0; given = total; lent = after })
     all-found l B total after S =
         let F = found words r C g in
         let I = F .image-of in
         let ends = treeEnds (F .tree) text in
         let E = tree-ends (F .tree) (rule-full (F .tree) (I .is-rule)) text B in
         let q = S (F .tree) I ends E in
-        matched (F .tree) ends I l E (λ i. record { number = 0; count = q .0 i; lent = q .1 i })
+        matched (F .tree) ends I l E (λ i. record { number = 0; given = q .0 i; lent = q .1 i })

@@ -6,35 +6,35 @@ use Prim.Native.Nat.{ℕ, _≤_, _<_}
 use native.Mathlib.Omega.{arith}
 use lib.Dec.{T}
 use lib.ListN.{length, length-map}
-use Rattle.model.specs.Answers.{done, ImageOf, no-room, written}
+use Rattle.model.specs.Answers.{done, ImageOf, no-room, ReadBackSays, written}
 use Rattle.model.specs.Models.Sections.{widthWord}
 use Rattle.model.specs.Tree.{Tree}
 use Rattle.model.specs.Writing.{writing}
 use Rattle.model.proofs.Image.Tokens.{length-tokens}
 use Rattle.model.proofs.Laws.Bool.{le-false, le-or-lt, le-true}
 use Rattle.model.proofs.Laws.Stores.{sets-fit}
+use Rattle.answers.specs.Answers.{answered}
+use Rattle.answers.specs.declared.Answer.{Answer}
 use Rattle.image_sections.specs.Sections.{Placed}
 use Rattle.image_sections.specs.declared.Sections.{Sections}
 use Rattle.tokens_masks.specs.Tapes.{isTree}
 use Rattle.tokens_masks.specs.declared.Tape.{Tape}
 use Rattle.tokens_masks.proofs.OfTree.{is-tree}
 use Rattle.image_check.proofs.Laws.Found.{Found}
-use Rattle.writing.specs.Says.{WrittenSays}
 use Rattle.writing.specs.Work.{bytesAfter, OwnMarks, rangeText, writtenIf}
-use Rattle.writing.specs.declared.Written.{Written}
 use Rattle.writing.proofs.Laws.Plain.{all-written}
 
 -- any text that is the tree's writing
-of-text : (ws : List ℕ) (s : Tree) → ImageOf ws s → (before text : List ℕ) → text ≡ writing s → WrittenSays ws before (writtenIf text before) (bytesAfter text before)
+of-text : (ws : List ℕ) (s : Tree) → ImageOf ws s → (before text : List ℕ) → text ≡ writing s → ReadBackSays ws before (answered (writtenIf text before) (bytesAfter text before))
 of-text ws s I before text q = go (le-or-lt (length text) (length before))
   where
     long : length text ≡ length (writing s)
     long = ap length q
 
-    go : (length text ≤ length before) ⊎ (length before < length text) → WrittenSays ws before (writtenIf text before) (bytesAfter text before)
+    go : (length text ≤ length before) ⊎ (length before < length text) → ReadBackSays ws before (answered (writtenIf text before) (bytesAfter text before))
     go (inl h) =
         rw (le-true (length text) (length before) h)
-        (written s I (omega (arith, long)) (ap (λ (l : List ℕ). record { number = 0; count = length text; lent = l }) (sets-fit before text) ∙ ap (λ (x : List ℕ). done x before) q))
+        (written s I (omega (arith, long)) (ap (λ (l : List ℕ). record { number = 0; given = length text; lent = l }) (sets-fit before text) ∙ ap (λ (x : List ℕ). done x before) q))
     go (inr h) = rw (le-false (length text) (length before) h) (no-room s I (omega (arith, long)) refl)
 
 -- what `own_marks` and `write` ask, and what `write` answers
@@ -58,10 +58,10 @@ module _ {ws : List ℕ} {p : Sections} {t : Tape} (F : Found ws p t) where
     width-is = ap (λ (q : Sections). q .width) (F .sections-are) ∙ sym (ap widthWord (I .laid))
 
     -- h is how a kind lies in memory
-    pub says-found : {A : Type 0} (h : ℕ → A) → length (map h (u .kinds)) ≡ 512 → (before after : List ℕ) (r : Written)
-        → r ≡ writtenIf (text (p .width)) before → after ≡ bytesAfter (text (p .width)) before → WrittenSays ws before r after
+    pub says-found : {A : Type 0} (h : ℕ → A) → length (map h (u .kinds)) ≡ 512 → (before after : List ℕ) (r : Answer)
+        → r ≡ writtenIf (text (p .width)) before → after ≡ bytesAfter (text (p .width)) before → ReadBackSays ws before (answered r after)
     says-found h room before after r e a =
-        subst (λ (q : Written). WrittenSays ws before q after) (sym e)
-        (subst (λ (l : List ℕ). WrittenSays ws before (writtenIf (text (p .width)) before) l) (sym a)
+        subst (λ (q : Answer). ReadBackSays ws before (answered q after)) (sym e)
+        (subst (λ (l : List ℕ). ReadBackSays ws before (answered (writtenIf (text (p .width)) before) l)) (sym a)
         (of-text ws (F .tree) I before (text (p .width))
         (ap text width-is ∙ all-written ws (F .tree) I t u (F .tape-of) M (sym (length-map (u .kinds) h) ∙ room))))

@@ -7,8 +7,9 @@ use native.Mathlib.Omega.{arith}
 use lib.ListN.{length}
 use lib.Seq.{sets}
 use Rattle.model.proofs.Laws.Bool.{pick-gt, pick-le}
+use Rattle.answers.specs.declared.Answer.the-variants.{Done, Refused}
+use Rattle.answers.specs.declared.Refusal.the-variants.{NoRoomForWriting}
 use Rattle.writing.specs.Work.{bytesAfter, rangeText, writtenIf}
-use Rattle.writing.specs.declared.Written.the-variants.{Done, NoRoom}
 
 -- a part of no bytes, put back
 pub nothing-lent : (part bytes : List ℕ) → length part ≡ 0 → part ++ bytes ≡ bytes
@@ -26,10 +27,10 @@ module _ (ws : List ℕ) (W : ℕ) (kinds : List ℕ) (n : ℕ) (before now : Li
   whole : ranged ≡ text
   whole = let e : n - 0 ≡ n = omega arith in ap (λ (k : ℕ). rangeText ws W kinds k 0) e
 
-  pub no-room : (r : ℕ) → r ≡ 0 + length ranged → length now < r → (NoRoom ≡ writtenIf text before) × (now ≡ bytesAfter text before)
+  pub no-room : (r : ℕ) → r ≡ 0 + length ranged → length now < r → (Refused NoRoomForWriting ≡ writtenIf text before) × (now ≡ bytesAfter text before)
   no-room r size h =
       let l : length before < length text = omega (arith, ap length whole, ap length same) in (
-        sym (pick-gt (length text) (length before) (Done (length text)) NoRoom l),
+        sym (pick-gt (length text) (length before) (Done (length text)) (Refused NoRoomForWriting) l),
         same ∙ sym (pick-gt (length text) (length before) (sets before 0 text) before l),
       )
 
@@ -38,6 +39,6 @@ module _ (ws : List ℕ) (W : ℕ) (kinds : List ℕ) (n : ℕ) (before now : Li
   room r after size h w =
       let e : r ≡ length text = omega (arith, ap length whole) in
       let l : length text ≤ length before = omega (arith, ap length same) in (
-        ap Done e ∙ sym (pick-le (length text) (length before) (Done (length text)) NoRoom l),
+        ap Done e ∙ sym (pick-le (length text) (length before) (Done (length text)) (Refused NoRoomForWriting) l),
         w ∙ ap₂ (λ (b t : List ℕ). sets b 0 t) same whole ∙ sym (pick-le (length text) (length before) (sets before 0 text) before l),
       )

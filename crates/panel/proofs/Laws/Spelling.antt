@@ -25,9 +25,6 @@ module _ {words text : List ℕ} {start end : ℕ} {states : List ℕ} {r : ℕ}
 
 -- ---- PROPOSE
 module _ {words text : List ℕ} {end : ℕ} {before : List ℕ} where
-  abbrev Says : Proposal → Type 0
-  Says = StartsBefore end (ProposeSays words text end before)
-
   pub proposed-small : {a : Proposal} → ProposeSays words text end before a → a .given .count ≤ 65535
   proposed-small (not-an-image n e) = omega (arith, ap (λ (a : Proposal). a .given .count) e)
   proposed-small (text-too-long t i l e) = omega (arith, ap (λ (a : Proposal). a .given .count) e)
@@ -44,11 +41,11 @@ module _ {words text : List ℕ} {end : ℕ} {before : List ℕ} where
   proposed-start (proposed t s xs i l L r S e) z = omega (arith, ap (λ (a : Proposal). a .given .start) e, ap (λ (a : Proposal). a .given .count) e, S .ordered)
 
   -- what was given and lent settles the number given and all of the lent list that is not written
-  module _ {r : ℕ} {after : List ℕ} (G : Gives itsCount Says r after) where
+  module _ {r : ℕ} {after : List ℕ} (G : Gives itsCount (StartsBefore end (ProposeSays words text end before)) r after) where
     pub propose-apart : Apart G
     propose-apart = apart G (omega (arith, proposed-small (G .says .0)))
 
-    pub propose-given : {q : ℕ} {later : List ℕ} → Gives itsCount Says q later → (r ≡ q) × (drop (r % 2 ^ 32) after ≡ drop (r % 2 ^ 32) later)
+    pub propose-given : {q : ℕ} {later : List ℕ} → Gives itsCount (StartsBefore end (ProposeSays words text end before)) q later → (r ≡ q) × (drop (r % 2 ^ 32) after ≡ drop (r % 2 ^ 32) later)
     propose-given {later = later} H =
         let e = propose-one words text end before _ _ (G .says .0) (H .says .0) in (
           G .packed ∙ (λ i. e i .number * 2 ^ 32 + e i .given .count) ∙ sym (H .packed),

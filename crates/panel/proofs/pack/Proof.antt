@@ -1,16 +1,27 @@
--- Number and count in one: neither product nor sum passes 64 bits.
+-- Number and count in one: no refusal's number passes 17, and a refusal has count 0.
+use native.Mathlib.Omega.{arith}
+use Rattle.answers.proofs.Apart.{number-known}
 use borrow.Author.Needs.{needs}
 use Rattle.panel.proofs.pack.Statement.{statement}
 use Rattle.panel.proofs.pack.Tie as tie
 
-mul-result : tie.Need-mul-result
-mul-result c = search needs
+enum-known-answer : tie.Need-enum-known-answer
+enum-known-answer c = search needs
 
-add-result : tie.Need-add-result
-add-result c = search needs
+number-requires : tie.Need-number-requires
+number-requires c κs = search needs
+
+mul-result : tie.Need-mul-result
+mul-result c = omega (arith, c .number .ensures, number-known (c .before .before .answer .given .0 .0) .1)
+
+enum-known-answer-2 : tie.Need-enum-known-answer-2
+enum-known-answer-2 c = search needs
 
 returns : tie.Need-returns
-returns c = search needs
+returns c = rw (c .before .before .answer .given .1) (omega (arith, c .number .ensures))
+
+returns-2 : tie.Need-returns-2
+returns-2 c = rw (c .before .answer2 .given .1) (omega arith)
 
 pub pack-spec : {M : Type 1} → statement M
-pack-spec = tie.close (tie.spec mul-result add-result returns)
+pack-spec = tie.close (tie.spec enum-known-answer number-requires mul-result enum-known-answer-2 returns returns-2)

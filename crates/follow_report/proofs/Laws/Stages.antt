@@ -26,8 +26,8 @@ module _ (words : List ℕ) {before after : List ℕ} {r : Said} where
   off : {n : ℕ} → Stops n before r after → nextIn words r ≡ stopped
   off S = ap (λ (b : Bool). nextIf b (keptIn words (r .watching))) (S .off)
 
-  stops : {x : Refusal} {total : ℕ} {lent : Watch} → Stops (numberOf x) before r after → Told (answered (Refused x) lent) total (nextIn words r) (refusedText (numberOf x))
-  stops {x} S = Told.refused (number-known x .0) (off S) refl
+  stops : (x : Refusal) {total : ℕ} {lent : Watch} → Stops (numberOf x) before r after → Told (answered (Refused x) lent) total (nextIn words r) (refusedText (numberOf x))
+  stops x S = Told.refused (number-known x .0) (off S) refl
 
   goes : (mask rest : List ℕ) (place : ℕ) (ends : List ℕ) {n t total : ℕ} → Goes ends n (record { mask = mask ++ rest; place = place; total = t }) before r after
       → length mask ≡ maskWords words → t ≡ total % 2 ^ 64
@@ -54,7 +54,7 @@ module _ (words : List ℕ) {width : ℕ} (e : width ≡ maskWords words) (b : A
       (subst (λ (q : Answer). BeginSays words (take width (replicate 8 0)) 0 (0 ∷ []) (answered q (watch mask place ends))) d B)
 
   pub begin-refused : {before after : List ℕ} {r : Said} {x : Refusal} → b ≡ Refused x → Stops (numberOf x) before r after → Reports (Begins words (nextIn words r)) before (r .length) after
-  begin-refused {x = x} d S = reports (S .put) (record { answer = answered (Refused x) (watch mask place ends); says = said d; told = stops words S })
+  begin-refused {x = x} d S = reports (S .put) (record { answer = answered (Refused x) (watch mask place ends); says = said d; told = stops words x S })
 
   pub begin-goes : {before after : List ℕ} {r : Said} {n : ℕ} (rest : List ℕ) → b ≡ Done n → Goes ends n (record { mask = mask ++ rest; place = place; total = n }) before r after → n < 2 ^ 64
       → length mask ≡ length {A = ℕ} (take width (replicate 8 0)) → Reports (Begins words (nextIn words r)) before (r .length) after
@@ -74,7 +74,7 @@ module _ (words : List ℕ) {width : ℕ} (e : width ≡ maskWords words) (w : W
 
   pub step-refused : {before after : List ℕ} {r : Said} {x : Refusal} → s ≡ Refused x → Stops (numberOf x) before r after
       → Reports (Hears words (keptIn words w) stretch (nextIn words r)) before (r .length) after
-  step-refused {x = x} d T = reports (T .put) (record { answer = answered (Refused x) (watch mask place ends); says = says d; told = stops words T })
+  step-refused {x = x} d T = reports (T .put) (record { answer = answered (Refused x) (watch mask place ends); says = says d; told = stops words x T })
 
   pub step-goes : {before after : List ℕ} {r : Said} {n t : ℕ} (rest : List ℕ) → s ≡ Done n → Goes ends n (record { mask = mask ++ rest; place = place; total = t }) before r after
       → t ≡ (w .total + n) % 2 ^ 64 → length (w .mask) ≡ 8 → length mask ≡ length (take width (w .mask))

@@ -5,10 +5,10 @@ mod letter_masks;
 mod sections;
 mod tape;
 
-use answers::Answer;
-use answers::Refusal;
 use crate::sections::put_image;
 use crate::tape::tape_of;
+use answers::Answer;
+use answers::Refusal;
 use image_sections::sections_of;
 use tokens_masks::Shape;
 use tokens_masks::lay_out;

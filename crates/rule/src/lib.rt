@@ -9,10 +9,10 @@ mod parts;
 mod readers;
 mod rows;
 
-use answers::Refusal;
 use crate::groups::bracket;
 use crate::parts::Part;
 use crate::readers::read_alternatives;
+use answers::Refusal;
 
 // What a rule is: refused with 1, 2 or 3 (document 01, "Numbers given back"), or the rule of a tree of so many states.
 pub enum Outcome {

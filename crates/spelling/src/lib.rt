@@ -3,9 +3,9 @@
 
 mod follow;
 
+use crate::follow::follow;
 use answers::Judged;
 use answers::Refusal;
-use crate::follow::follow;
 use image_check::Verdict;
 use image_check::check;
 use image_sections::Sections;

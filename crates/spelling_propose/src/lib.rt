@@ -9,12 +9,12 @@ mod search;
 mod sets;
 mod write;
 
-use answers::Proposed;
-use answers::Refusal;
 use crate::origins::find_origins;
 use crate::search::Found;
 use crate::search::find_start;
 use crate::write::write;
+use answers::Proposed;
+use answers::Refusal;
 use image_check::Verdict;
 use image_check::check;
 use image_sections::Sections;

@@ -4,10 +4,10 @@
 
 mod words;
 
-use answers::Answer;
-use answers::Refusal;
 use crate::words::is_mask;
 use crate::words::put_words;
+use answers::Answer;
+use answers::Refusal;
 use image_check::Verdict;
 use image_check::check;
 use mask::bits::row_has_bit;

@@ -6,10 +6,10 @@ mod letter;
 mod own;
 mod ranges;
 
-use answers::Answer;
-use answers::Refusal;
 use crate::own::own_marks;
 use crate::ranges::write_range;
+use answers::Answer;
+use answers::Refusal;
 use image_check::Verdict;
 use image_check::check;
 use image_sections::Sections;

@@ -1,10 +1,15 @@
 -- An image lies in the words lent, and a refusal in the text.
 use native.Mathlib.Omega.{arith}
+use Rattle.program_lines.proofs.Laws.Room.{First}
 use Rattle.desk_report.proofs.Laws.Stages.{image-first}
 use Rattle.explain.proofs.Laws.{refused-short}
 use borrow.Author.Needs.{needs}
 use Rattle.explain.proofs.answer.Statement.{statement}
 use Rattle.explain.proofs.answer.Tie as tie
+
+-- the image lies in the words lent
+lies : (c : tie.After-built2) → First (c .built2 .given .0 .0) (c .before .before .before .build .last .1 .0)
+lies c = let b = c .before .before .before .build in image-first (b .result) (b .last .1 .0) (b .ensures) (c .built2 .given .1) (b .kept .1 .0)
 
 slice-aggregate-build : tie.Need-slice-aggregate-build
 slice-aggregate-build c = search needs
@@ -12,44 +17,20 @@ slice-aggregate-build c = search needs
 build-requires : tie.Need-build-requires
 build-requires c κs = search needs
 
-enum-told : tie.Need-enum-told
-enum-told c = search needs
+enum-known-built : tie.Need-enum-known-built
+enum-known-built c = search needs
 
 put-refusal-requires : tie.Need-put-refusal-requires
 put-refusal-requires c κs = search needs
 
-enum-told-2 : tie.Need-enum-told-2
-enum-told-2 c = search needs
-
-put-refusal-requires-2 : tie.Need-put-refusal-requires-2
-put-refusal-requires-2 c κs = search needs
-
-enum-told-3 : tie.Need-enum-told-3
-enum-told-3 c = search needs
-
-put-refusal-requires-3 : tie.Need-put-refusal-requires-3
-put-refusal-requires-3 c κs = search needs
-
-enum-told-4 : tie.Need-enum-told-4
-enum-told-4 c = search needs
-
-put-refusal-requires-4 : tie.Need-put-refusal-requires-4
-put-refusal-requires-4 c κs = search needs
-
-enum-told-5 : tie.Need-enum-told-5
-enum-told-5 c = search needs
-
-put-refusal-requires-5 : tie.Need-put-refusal-requires-5
-put-refusal-requires-5 c κs = search needs
-
-enum-known-built : tie.Need-enum-known-built
-enum-known-built c = search needs
+enum-known-built-2 : tie.Need-enum-known-built-2
+enum-known-built-2 c = search needs
 
 array-share-prefix-image : tie.Need-array-share-prefix-image
-array-share-prefix-image c = let b = c .before .before .before .before .build in image-first (b .result) (b .last .1 .0) (b .ensures) (c .before .built .given .1) (b .kept .1 .0) .fits
+array-share-prefix-image c = lies (c .before) .fits
 
 slice-aggregate-respond : tie.Need-slice-aggregate-respond
-slice-aggregate-respond c = let b = c .before .before .before .before .before .build in image-first (b .result) (b .last .1 .0) (b .ensures) (c .before .before .built .given .1) (b .kept .1 .0) .counted
+slice-aggregate-respond c = lies (c .before .before) .counted
 
 respond-requires : tie.Need-respond-requires
 respond-requires c κs = search needs
@@ -58,37 +39,13 @@ same-length : tie.Need-same-length
 same-length c = search needs
 
 returns : tie.Need-returns
-returns c = omega (arith, refused-short 1 (omega arith) (c .before .before .put-refusal .ensures))
+returns c = omega (arith, refused-short (c .before .before .before .before .before .built .given .0 .0) (c .before .before .put-refusal .ensures))
 
 same-length-2 : tie.Need-same-length-2
 same-length-2 c = search needs
 
 returns-2 : tie.Need-returns-2
-returns-2 c = omega (arith, refused-short 2 (omega arith) (c .before .before .put-refusal2 .ensures))
-
-same-length-3 : tie.Need-same-length-3
-same-length-3 c = search needs
-
-returns-3 : tie.Need-returns-3
-returns-3 c = omega (arith, refused-short 3 (omega arith) (c .before .before .put-refusal3 .ensures))
-
-same-length-4 : tie.Need-same-length-4
-same-length-4 c = search needs
-
-returns-4 : tie.Need-returns-4
-returns-4 c = omega (arith, refused-short 4 (omega arith) (c .before .before .put-refusal4 .ensures))
-
-same-length-5 : tie.Need-same-length-5
-same-length-5 c = search needs
-
-returns-5 : tie.Need-returns-5
-returns-5 c = omega (arith, refused-short 5 (omega arith) (c .before .before .put-refusal5 .ensures))
-
-same-length-6 : tie.Need-same-length-6
-same-length-6 c = search needs
-
-returns-6 : tie.Need-returns-6
-returns-6 c = search needs
+returns-2 c = search needs
 
 pub answer-spec : {M : Type 1} → statement M
 answer-spec =
@@ -96,29 +53,13 @@ answer-spec =
     (tie.spec
     slice-aggregate-build
     build-requires
-    enum-told
-    put-refusal-requires
-    enum-told-2
-    put-refusal-requires-2
-    enum-told-3
-    put-refusal-requires-3
-    enum-told-4
-    put-refusal-requires-4
-    enum-told-5
-    put-refusal-requires-5
     enum-known-built
+    put-refusal-requires
+    enum-known-built-2
     array-share-prefix-image
     slice-aggregate-respond
     respond-requires
     same-length
     returns
     same-length-2
-    returns-2
-    same-length-3
-    returns-3
-    same-length-4
-    returns-4
-    same-length-5
-    returns-5
-    same-length-6
-    returns-6)
+    returns-2)

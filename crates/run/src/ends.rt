@@ -15,12 +15,12 @@ ghost use Rattle.model.specs.Models.Run.{endsWith};
 ghost use Rattle.image_sections.specs.Sections.{Placed};
 ghost use Rattle.run.specs.Says.{FindSays, GoOnSays};
 ghost use Rattle.run.specs.Work.{Goes, masksOf, ruleMasks, Scans};
-ghost use Rattle.run_word.specs.Ends.{Written};
+ghost use Rattle.run_word.specs.Ends.{Noted};
 
 // The ends of the text, with the table of work: a beginning, with place 0, and the text as one stretch.
 fn scan(image: &[u64], sections: Sections, text: &[u8], ends: &mut [u32], table: &Table) -> u64
     requires { ⌜ Scans (now image) sections (now text) (now table) ⌝ }
-    ensures { λ r. ⌜ Written (endsWith (ruleMasks (now (image .entry)) (sections .width) (now (table .entry))) (sections .depth) (sections .states - 1) (now (text .entry)))
+    ensures { λ r. ⌜ Noted (endsWith (ruleMasks (now (image .entry)) (sections .width) (now (table .entry))) (sections .depth) (sections .states - 1) (now (text .entry)))
         (now (ends .entry)) r (now (ends .exit)) ⌝ }
 {
     let width = sections.width;
@@ -36,7 +36,7 @@ fn scan(image: &[u64], sections: Sections, text: &[u8], ends: &mut [u32], table:
 // The same with the table of the words.
 fn find_words(image: &[u64], sections: Sections, text: &[u8], ends: &mut [u32]) -> u64
     requires { ⌜ Placed (now image) sections × (64 < sections .states) × (length (now text) ≤ 65535) ⌝ }
-    ensures { λ r. ⌜ Written (endsWith (masksOf (now (image .entry))) (sections .depth) (sections .states - 1) (now (text .entry)))
+    ensures { λ r. ⌜ Noted (endsWith (masksOf (now (image .entry))) (sections .depth) (sections .states - 1) (now (text .entry)))
         (now (ends .entry)) r (now (ends .exit)) ⌝ }
 {
     let masks = table(image, sections);

@@ -6,7 +6,7 @@ use native.Mathlib.Omega.{arith}
 use Rattle.mask.proofs.Laws.Bits.{fit-row}
 use Rattle.model.specs.Models.Run.{endsWith}
 use Rattle.image_sections.proofs.Laws.Within.{own-depth, own-placed, own-states, own-width}
-use Rattle.run_word.specs.Ends.{Written}
+use Rattle.run_word.specs.Ends.{Noted}
 use Rattle.run_word.proofs.Laws.Bytes.{all-bytes}
 use Rattle.run.specs.Work.{masksOf}
 use Rattle.run.proofs.Laws.Table.{tabled-of, work-ends}
@@ -31,7 +31,7 @@ returns c =
     let a = s .args in
     let ws = a .image .now in
     let P = s .pre .0 in
-    subst (λ (ends : List ℕ). Written ends (a .ends .now) (r .result) (r .last .1 .1 .1 .0))
+    subst (λ (ends : List ℕ). Noted ends (a .ends .now) (r .result) (r .last .1 .1 .1 .0))
     (work-ends ws (fit-row ws (t .before .before .before .shared-slice-known .given)) (own-placed P) (t .table .result) (tabled-of (t .table .result) P (t .table .ensures)) (own-width P) (own-depth P)
     (own-states P) (a .text .now) (all-bytes (a .text .now) (λ i. omega (arith, t .before .before .shared-slice-known2 .given i)))
     ∙ ap₂ (λ (i k : ℕ). endsWith (masksOf ws) i (k - 1) (a .text .now)) (sym (own-depth P)) (sym (own-states P)))

@@ -165,7 +165,7 @@ pub record Overs (ws stretch : List ℕ) (place found W d last : ℕ) (table : L
   pub whole : Whole table d
 
 -- of a whole text
-pub record Scans (ws : List ℕ) (p : Sections) (text : List ℕ) (table : List (List ℕ)) : Type 0 where
+pub record NotesEnds (ws : List ℕ) (p : Sections) (text : List ℕ) (table : List (List ℕ)) : Type 0 where
   pub placed : Placed ws p
   pub many : 64 < p .states
   pub small : length text ≤ 65535

@@ -17,15 +17,15 @@ use Rattle.run.proofs.ends.find_words.Tie as tie
 table-requires : tie.Need-table-requires
 table-requires c κs = c .before .before .before .pre .0
 
-scan-requires : tie.Need-scan-requires
-scan-requires c κs = let s = c .before .before .before .before .before .before in record { placed = s .pre .0; many = s .pre .1; small = s .pre .2; tabled = c .before .before .table .ensures }
+note-ends-requires : tie.Need-note-ends-requires
+note-ends-requires c κs = let s = c .before .before .before .before .before .before in record { placed = s .pre .0; many = s .pre .1; small = s .pre .2; tabled = c .before .before .table .ensures }
 
 same-length : tie.Need-same-length
 same-length c = search needs
 
 returns : tie.Need-returns
 returns c =
-    let r = c .before .before .scan in
+    let r = c .before .before .note-ends in
     let t = c .before .before .before .before .before in
     let s = t .before .before .before .before in
     let a = s .args in
@@ -38,4 +38,4 @@ returns c =
     (r .ensures)
 
 pub find-words-spec : {M : Type 1} → statement M
-find-words-spec = tie.close (tie.spec table-requires scan-requires same-length returns)
+find-words-spec = tie.close (tie.spec table-requires note-ends-requires same-length returns)

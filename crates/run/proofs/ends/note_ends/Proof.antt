@@ -1,4 +1,4 @@
--- `scan`: place 0 noted, and then the places after it (`begun`).
+-- `note_ends`: place 0 noted, and then the places after it (`begun`).
 use mathlib.Core.Path.{_≡_, ap, _∙_}
 use mathlib.Core.List.{List}
 use Prim.Native.Nat.{ℕ, _-_}
@@ -13,8 +13,8 @@ use Rattle.run.specs.Work.{ruleMasks}
 use Rattle.run.proofs.Laws.Backs.{whole-backs}
 use Rattle.run.proofs.Laws.Table.{close-wide, tabled-of}
 use borrow.Author.Needs.{needs}
-use Rattle.run.proofs.ends.scan.Statement.{statement}
-use Rattle.run.proofs.ends.scan.Tie as tie
+use Rattle.run.proofs.ends.note_ends.Statement.{statement}
+use Rattle.run.proofs.ends.note_ends.Tie as tie
 
 -- where the function began, from the first states closed; these, from place 0 noted
 abbrev entry : tie.After-close → tie.Start
@@ -87,8 +87,8 @@ returns c =
     begun M w d last (a .text .now) live (a .ends .now) first (h .is-live .result)
     (h .is-live .ensures ∙ take-bit w (q .result .words) last (omega (arith, within P .room, own-states P, P .some))) (n .note .ensures .0) (n .note .ensures .1) (g .run-over .ensures)
 
-pub scan-spec : {M : Type 1} → statement M
-scan-spec =
+pub note-ends-spec : {M : Type 1} → statement M
+note-ends-spec =
     tie.close
     (tie.spec
     sub-last

@@ -1,4 +1,4 @@
--- THE MASKS OF WORK: as they lie in the words of an image, with words of zeros above; by kinds; and in one table the nine kinds side by side, then the back
+-- THE MASKS OF WORK: as they lie in the words of an image, with words of zeros above; in series; and in one table the nine series side by side, then the back
 -- edges' masks.
 use mathlib.Core.Path.{_≡_}
 use mathlib.Core.Logic.{_≢_}
@@ -34,28 +34,28 @@ masksOf ws =
       startMask = startWords;
     }
 
--- ---- MASKS BY KINDS: mask j of the three of each depth below n, from a section's first word on; rows of zeros above, nine in all
+-- ---- MASKS IN SERIES: mask j of the three of each depth below n, from a section's first word on; rows of zeros above, nine in all
 abbrev pub rowsFrom : ℕ → ℕ → (ℕ → List ℕ) → List (List ℕ)
 rowsFrom zero k f = []
 rowsFrom (suc n) k f = f k ∷ rowsFrom n (suc k) f
 
-abbrev pub kindAt : List ℕ → (at W n j : ℕ) → List (List ℕ)
-kindAt ws at W n j = rowsFrom n 0 (λ k. rowAt ws (threePlace at W k j) W) ++ replicate (9 - n) (replicate 8 0)
+abbrev pub seriesAt : List ℕ → (at W n j : ℕ) → List (List ℕ)
+seriesAt ws at W n j = rowsFrom n 0 (λ k. rowAt ws (threePlace at W k j) W) ++ replicate (9 - n) (replicate 8 0)
 
 abbrev pub Lessened : (source below : List (List ℕ)) → Type 0
 Lessened source below = (k : ℕ) → k < 9 → getD below k [] ≡ lessOne (getD source k [])
 
--- the mask of depth k of kind j: scatter's three, gather's three, propagate's three with the source less one
-abbrev pub kindRow : List ℕ → (W d j k : ℕ) → List ℕ
-kindRow ws W d j k =
-    let last = getD (kindAt ws (propagateAt W d) W (d + 1) (j - 6)) k [] in
-    ofNine j (getD (kindAt ws (scatterAt W) W d j) k []) (getD (kindAt ws (gatherAt W d) W d (j - 3)) k []) (lessOne last) last
+-- the mask of depth k of series j: scatter's three, gather's three, propagate's three with the source less one
+abbrev pub seriesRow : List ℕ → (W d j k : ℕ) → List ℕ
+seriesRow ws W d j k =
+    let last = getD (seriesAt ws (propagateAt W d) W (d + 1) (j - 6)) k [] in
+    ofNine j (getD (seriesAt ws (scatterAt W) W d j) k []) (getD (seriesAt ws (gatherAt W d) W d (j - 3)) k []) (lessOne last) last
 
-abbrev pub KindOf : List ℕ → (W d j : ℕ) → List (List ℕ) → Type 0
-KindOf ws W d j masks = (k : ℕ) → k < 9 → getD masks k [] ≡ kindRow ws W d j k
+abbrev pub SeriesOf : List ℕ → (W d j : ℕ) → List (List ℕ) → Type 0
+SeriesOf ws W d j masks = (k : ℕ) → k < 9 → getD masks k [] ≡ seriesRow ws W d j k
 
--- ---- THE TABLE: the nine kinds side by side, and from row 81 on the source and the target of the back edges of each depth. What it is to put the first masks
--- of a kind, and all; and to put the first rows of the back edges
+-- ---- THE TABLE: the nine series side by side, and from row 81 on the source and the target of the back edges of each depth. What it is to put the first masks
+-- of a series, and all; and to put the first rows of the back edges
 pub record PutTo (count j : ℕ) (masks table new : List (List ℕ)) : Type 0 where
   pub here : (k : ℕ) → k < count → getD new (9 * k + j) [] ≡ getD masks k []
   pub there : (k i : ℕ) → i < 9 → i ≢ j → getD new (9 * k + i) [] ≡ getD table (9 * k + i) []
@@ -65,7 +65,7 @@ abbrev pub Put : (j : ℕ) (masks table new : List (List ℕ)) → Type 0
 Put = PutTo 9
 
 abbrev pub Entered : List ℕ → (W d : ℕ) → List (List ℕ) → Type 0
-Entered ws W d table = (k j : ℕ) → k < 9 → j < 9 → getD table (9 * k + j) [] ≡ kindRow ws W d j k
+Entered ws W d table = (k j : ℕ) → k < 9 → j < 9 → getD table (9 * k + j) [] ≡ seriesRow ws W d j k
 
 pub record PutBacks (count : ℕ) (ws : List ℕ) (W d : ℕ) (table new : List (List ℕ)) : Type 0 where
   pub here : (i : ℕ) → i < count → getD new (81 + i) [] ≡ rowAt ws (backAt W d + W * i) W
@@ -165,7 +165,7 @@ pub record Overs (ws stretch : List ℕ) (place found W d last : ℕ) (table : L
   pub whole : Whole table d
 
 -- of a whole text
-pub record Scans (ws : List ℕ) (p : Sections) (text : List ℕ) (table : List (List ℕ)) : Type 0 where
+pub record NotesEnds (ws : List ℕ) (p : Sections) (text : List ℕ) (table : List (List ℕ)) : Type 0 where
   pub placed : Placed ws p
   pub many : 64 < p .states
   pub small : length text ≤ 65535

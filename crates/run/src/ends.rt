@@ -14,13 +14,13 @@ ghost use lib.ListN.{length};
 ghost use Rattle.model.specs.Models.Run.{endsWith};
 ghost use Rattle.image_sections.specs.Sections.{Placed};
 ghost use Rattle.run.specs.Says.{FindSays, GoOnSays};
-ghost use Rattle.run.specs.Work.{Goes, masksOf, ruleMasks, Scans};
-ghost use Rattle.run_word.specs.Ends.{Written};
+ghost use Rattle.run.specs.Work.{Goes, masksOf, NotesEnds, ruleMasks};
+ghost use Rattle.run_word.specs.Ends.{Noted};
 
 // The ends of the text, with the table of work: a beginning, with place 0, and the text as one stretch.
-fn scan(image: &[u64], sections: Sections, text: &[u8], ends: &mut [u32], table: &Table) -> u64
-    requires { ⌜ Scans (now image) sections (now text) (now table) ⌝ }
-    ensures { λ r. ⌜ Written (endsWith (ruleMasks (now (image .entry)) (sections .width) (now (table .entry))) (sections .depth) (sections .states - 1) (now (text .entry)))
+fn note_ends(image: &[u64], sections: Sections, text: &[u8], ends: &mut [u32], table: &Table) -> u64
+    requires { ⌜ NotesEnds (now image) sections (now text) (now table) ⌝ }
+    ensures { λ r. ⌜ Noted (endsWith (ruleMasks (now (image .entry)) (sections .width) (now (table .entry))) (sections .depth) (sections .states - 1) (now (text .entry)))
         (now (ends .entry)) r (now (ends .exit)) ⌝ }
 {
     let width = sections.width;
@@ -36,11 +36,11 @@ fn scan(image: &[u64], sections: Sections, text: &[u8], ends: &mut [u32], table:
 // The same with the table of the words.
 fn find_words(image: &[u64], sections: Sections, text: &[u8], ends: &mut [u32]) -> u64
     requires { ⌜ Placed (now image) sections × (64 < sections .states) × (length (now text) ≤ 65535) ⌝ }
-    ensures { λ r. ⌜ Written (endsWith (masksOf (now (image .entry))) (sections .depth) (sections .states - 1) (now (text .entry)))
+    ensures { λ r. ⌜ Noted (endsWith (masksOf (now (image .entry))) (sections .depth) (sections .states - 1) (now (text .entry)))
         (now (ends .entry)) r (now (ends .exit)) ⌝ }
 {
     let masks = table(image, sections);
-    scan(image, sections, text, ends, &masks)
+    note_ends(image, sections, text, ends, &masks)
 }
 
 // The ends of a text: the total, and the first that fit in what is lent, rising.

@@ -1,4 +1,4 @@
-// The masks of work: from the image's words kind by kind, and then laid side by side, so that one index steps through all that a depth needs; and the
+// The masks of work: from the image's words series by series, and then laid side by side, so that one index steps through all that a depth needs; and the
 // masks of the back edges after them.
 use crate::rows::row_at;
 use image_sections::Sections;
@@ -9,18 +9,18 @@ ghost use mathlib.Core.Path.{_≡_};
 ghost use Prim.Native.Nat.{_+_, _*_, _≤_, _<_};
 ghost use lib.ListN.{length};
 ghost use Rattle.image_sections.specs.Sections.{Placed};
-ghost use Rattle.run.specs.Work.{kindAt, KindOf, Lessened, Put, PutBacks, Sources, Tabled, Whole};
+ghost use Rattle.run.specs.Work.{Lessened, Put, PutBacks, seriesAt, SeriesOf, Sources, Tabled, Whole};
 
-// The masks of a kind, block, source or target of a section, for depths 0 to 8.
-pub type Kind = [[u64; 8]; 9];
+// A series: one of the three masks of a section, block, source or target, for each of the depths 0 to 8.
+pub type Series = [[u64; 8]; 9];
 
-// Nine kinds, nine masks to a depth; then the source and the target of the back edges of depths 0 to 7.
+// Nine series, nine masks to a depth; then the source and the target of the back edges of depths 0 to 7.
 pub type Table = [[u64; 8]; 97];
 
 // Mask `which` of the three of each depth below count, from a section's first word on.
-fn kind_at(image: &[u64], at: usize, width: usize, count: usize, which: usize) -> Kind
+fn series_at(image: &[u64], at: usize, width: usize, count: usize, which: usize) -> Series
     requires { ⌜ (width ≤ 8) × (count ≤ 9) × (which < 3) × (at + width * (3 * count) ≤ length (now image)) ⌝ }
-    ensures { λ r. ⌜ r ≡ kindAt (now (image .entry)) at width count which ⌝ }
+    ensures { λ r. ⌜ r ≡ seriesAt (now (image .entry)) at width count which ⌝ }
 {
     let none = [0u64; 8];
     let mut r = [none; 9];
@@ -34,7 +34,7 @@ fn kind_at(image: &[u64], at: usize, width: usize, count: usize, which: usize) -
 }
 
 // Each mask less one.
-fn less_ones(source: Kind) -> Kind
+fn less_ones(source: Series) -> Series
     ensures { λ r. ⌜ Lessened source r ⌝ }
 {
     let mut r = source;
@@ -48,28 +48,28 @@ fn less_ones(source: Kind) -> Kind
     r
 }
 
-// Kind j of the nine: scatter's three, gather's three, propagate's three with the source less one.
-fn kind(image: &[u64], sections: Sections, j: usize) -> Kind
+// Series j of the nine: scatter's three, gather's three, propagate's three with the source less one.
+fn series(image: &[u64], sections: Sections, j: usize) -> Series
     requires { ⌜ Placed (now image) sections × (j < 9) ⌝ }
-    ensures { λ r. ⌜ KindOf (now (image .entry)) (sections .width) (sections .depth) j r ⌝ }
+    ensures { λ r. ⌜ SeriesOf (now (image .entry)) (sections .width) (sections .depth) j r ⌝ }
 {
     let width = sections.width;
     let depth = sections.depth;
     if j < 3 {
-        return kind_at(image, sections.scatter, width, depth, j);
+        return series_at(image, sections.scatter, width, depth, j);
     }
     if j < 6 {
-        return kind_at(image, sections.gather, width, depth, j - 3);
+        return series_at(image, sections.gather, width, depth, j - 3);
     }
-    let masks = kind_at(image, sections.propagate, width, depth + 1, j - 6);
+    let masks = series_at(image, sections.propagate, width, depth + 1, j - 6);
     if j == 7 {
         return less_ones(masks);
     }
     masks
 }
 
-// The masks of kind j into their places.
-fn put_kind(table: &mut Table, j: usize, masks: Kind)
+// The masks of series j into their places.
+fn put_series(table: &mut Table, j: usize, masks: Series)
     requires { ⌜ (j < 9) × (length (now table) ≡ 97) ⌝ }
     ensures { λ _. ⌜ Put j masks (now (table .entry)) (now (table .exit)) ⌝ }
 {
@@ -120,8 +120,8 @@ pub fn table(image: &[u64], sections: Sections) -> Table
     let mut r = [none; 97];
     let mut j = 0;
     while j < 9 {
-        let masks = kind(image, sections, j);
-        put_kind(&mut r, j, masks);
+        let masks = series(image, sections, j);
+        put_series(&mut r, j, masks);
         j += 1;
     }
     put_backs(&mut r, image, sections);

@@ -7,7 +7,7 @@ use lib.Seq.{sets}
 use Rattle.model.specs.Models.Run.{endsAfter, Masks, runFrom}
 
 -- the total of a list, and its places stored one after another in what was lent: a store past the end changes nothing
-pub record Written (ps before : List ℕ) (total : ℕ) (after : List ℕ) : Type 0 where
+pub record Noted (ps before : List ℕ) (total : ℕ) (after : List ℕ) : Type 0 where
   pub counted : total ≡ length ps
   pub stored : after ≡ sets before 0 ps
 

@@ -13,7 +13,7 @@ ghost use mathlib.Core.List.{[], _∷_};
 ghost use Prim.Native.Nat.{_-_, _≤_};
 ghost use lib.ListN.{length};
 ghost use Rattle.model.specs.Models.Run.{endsWith};
-ghost use Rattle.run_word.specs.Ends.{Limits, RanOver, Written};
+ghost use Rattle.run_word.specs.Ends.{Limits, Noted, RanOver};
 ghost use Rattle.image_sections.specs.Sections.{Placed};
 ghost use Rattle.run_word.specs.One.{oneMasks};
 
@@ -21,7 +21,7 @@ ghost use Rattle.run_word.specs.One.{oneMasks};
 // one stretch.
 pub fn find(image: &[u64], sections: Sections, text: &[u8], ends: &mut [u32]) -> u64
     requires { ⌜ Placed (now image) sections × (sections .states ≤ 64) × (length (now text) ≤ 65535) ⌝ }
-    ensures { λ r. ⌜ Written (endsWith (oneMasks (now (image .entry))) (sections .depth) (sections .states - 1) (now (text .entry)))
+    ensures { λ r. ⌜ Noted (endsWith (oneMasks (now (image .entry))) (sections .depth) (sections .states - 1) (now (text .entry)))
         (now (ends .entry)) r (now (ends .exit)) ⌝ }
 {
     let deep = sections.depth;

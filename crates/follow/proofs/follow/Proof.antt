@@ -17,6 +17,16 @@ Inv-loop image watching₀ stretch₀ text₀ watching stretch text = (length te
 abbrev μ-loop : tie.MeasureT-loop
 μ-loop image watching₀ stretch₀ text₀ watching stretch text = 4294967296 - watching .place
 
+-- where the function began, from a stretch read; the stretch, from the answer to it; the answer, from the next watch
+abbrev start : tie.After-read-some Inv-loop μ-loop → tie.Start Inv-loop μ-loop
+start c = c .before .before .before .before
+
+abbrev arrived : tie.After-hear Inv-loop μ-loop → tie.After-read-some Inv-loop μ-loop
+arrived c = c .before .before .before .before
+
+abbrev heard : tie.After-next Inv-loop μ-loop → tie.After-hear Inv-loop μ-loop
+heard c = c .before .before .before .before .before .before .before
+
 loop-holds : tie.Need-loop-holds Inv-loop μ-loop
 loop-holds c = (length-replicate {A = ℕ} 45056 0, c .before .good .1 .0 .1 .1 .1 .1 .0 .1)
 
@@ -77,14 +87,15 @@ returns-2 c = search needs
 
 loop-less : tie.Need-loop-less Inv-loop μ-loop
 loop-less c =
-    let h = c .before .before .before .before .before .before .before .hear in
-    let r = c .before .before .before .before .before .before .before .before .before .before .before .read-some in
-    let l = c .before .before .before .before .before .before .before .before .before .before .before .before .before .loop in
-    let some : 0 < r .result = omega (arith, c .before .before .before .before .before .before .before .before .before .before .if1 .left) in
-    omega (arith, heard-place (c .before .before .before .before .before .before .before .before .before .before .before .before .before .before .before .args .image .now) (l .watching) (h .result) (not-false (h .result .on) (c .before .if3 .left)) (h .ensures .says), some, r .ensures .1)
+    let k = arrived (heard c) in
+    let h = heard c .hear in
+    let r = k .read-some in
+    let l = k .before .before .loop in
+    let some : 0 < r .result = omega (arith, heard c .before .before .before .if1 .left) in
+    omega (arith, heard-place (start k .args .image .now) (l .watching) (h .result) (not-false (h .result .on) (c .before .if3 .left)) (h .ensures .says), some, r .ensures .1)
 
 loop-again : tie.Need-loop-again Inv-loop μ-loop
-loop-again c = (c .before .before .before .before .before .before .text5 .given, c .before .before .before .before .before .before .before .hear .ok .1 .1 .1 .1 .0 .1 .1 .1 .1 .0 .1)
+loop-again c = (c .before .before .before .before .before .before .text5 .given, heard c .hear .ok .1 .1 .1 .1 .0 .1 .1 .1 .1 .0 .1)
 
 pub follow-spec : {M : Type 1} → statement M
 follow-spec =

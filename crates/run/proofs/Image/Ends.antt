@@ -18,7 +18,7 @@ use Rattle.model.proofs.Watch.Stretch.{whole-ends}
 use Rattle.model.proofs.Words.Run.{Bytes}
 use Rattle.image_sections.proofs.Laws.OfTree.{states-is}
 use Rattle.run.specs.Says.{FindSays}
-use Rattle.run_word.specs.Ends.{Written}
+use Rattle.run_word.specs.Ends.{Noted}
 use Rattle.run.specs.Work.{masksOf}
 use Rattle.run.proofs.Image.Carry.{carried}
 use Rattle.run.proofs.Image.Live.{depth-is}
@@ -41,7 +41,7 @@ module _ (ws : List ℕ) (t : Tree) (I : ImageOf ws t) (text : List ℕ) (B : By
 
 -- WHAT `find` SAYS, for any list that is the one found
 pub find-says : (ws text before : List ℕ) (total : ℕ) (after ps : List ℕ) → Bytes text → ps ≡ endsWith (masksOf ws) (depthWord ws) (stateWord ws - 1) text
-    → Written ps before total after → FindSays ws text before total after
+    → Noted ps before total after → FindSays ws text before total after
 find-says ws text before total after found B e R t I ps E =
     let q = e ∙ found-is ws t I text B ps E in
     (R .counted ∙ ap length q, R .stored ∙ ap (sets before 0) q ∙ sets-fit before ps)

@@ -1,4 +1,4 @@
--- MASKS AS THEY LIE IN WORDS, with zeros above, and by kinds: a row made word by word has at most eight, and each fits in 64 bits; the masks of a kind
+-- MASKS AS THEY LIE IN WORDS, with zeros above, and in series: a row made word by word has at most eight, and each fits in 64 bits; the masks of a series
 -- made row by row.
 use mathlib.Core.Path.{_≡_, refl, sym, ap, _∙_}
 use mathlib.Core.List.{List, [], _∷_, _++_, append-assoc}
@@ -10,7 +10,7 @@ use lib.Seq.{getD-drop, length-take-le, set-at, take-suc}
 use Rattle.model.specs.Models.Words.{Fit}
 use Rattle.model.proofs.Image.Address.{part-fits}
 use Rattle.run_moves.proofs.Laws.Less.{fit-take}
-use Rattle.run.specs.Work.{kindAt, rowAt, rowsFrom}
+use Rattle.run.specs.Work.{rowAt, rowsFrom, seriesAt}
 
 -- ---- a row made word by word: what was made so far is the row of fewer words
 pub row-more : (ws : List ℕ) (at i : ℕ) → i < 8 → at + i < length ws → set (rowAt ws at i) i (getD ws (at + i) 0) ≡ rowAt ws at (i + 1)
@@ -99,16 +99,16 @@ rows-at zero a f r k h = absurd (not-suc-le-zero h)
 rows-at (suc n) a f r zero h = ap f (sym (add-zero a))
 rows-at (suc n) a f r (suc k) h = rows-at n (suc a) f r k (le-of-suc-le-suc h) ∙ ap f (suc-add a k ∙ sym (add-suc a k))
 
--- ---- the masks of a kind: each, and one more
+-- ---- the masks of a series: each, and one more
 module _ (ws : List ℕ) (at W j : ℕ) where
   abbrev rowOf : ℕ → List ℕ
   rowOf k = rowAt ws (at + W * (3 * k + j)) W
 
-  pub kind-row : (n k : ℕ) → k < n → getD (kindAt ws at W n j) k [] ≡ rowOf k
-  kind-row n k h = rows-at n 0 rowOf (replicate (9 - n) (replicate 8 0)) k h ∙ ap rowOf (let e : 0 + k ≡ k = omega arith in e)
+  pub series-row : (n k : ℕ) → k < n → getD (seriesAt ws at W n j) k [] ≡ rowOf k
+  series-row n k h = rows-at n 0 rowOf (replicate (9 - n) (replicate 8 0)) k h ∙ ap rowOf (let e : 0 + k ≡ k = omega arith in e)
 
-  pub kind-more : (n : ℕ) → n < 9 → set (kindAt ws at W n j) n (rowOf n) ≡ kindAt ws at W (n + 1) j
-  kind-more n h =
+  pub series-more : (n : ℕ) → n < 9 → set (seriesAt ws at W n j) n (rowOf n) ≡ seriesAt ws at W (n + 1) j
+  series-more n h =
       ap (λ (i : ℕ). set (rowsFrom n 0 rowOf ++ replicate i (replicate 8 0)) n (rowOf n)) left
       ∙ set-at (rowsFrom n 0 rowOf) (replicate 8 0) rest (rowOf n) n (rows-length n 0 rowOf)
       ∙ sym (append-assoc (rowsFrom n 0 rowOf) (rowOf n ∷ []) rest)
@@ -128,5 +128,5 @@ module _ (ws : List ℕ) (at W j : ℕ) where
       one = omega arith
 
 -- ---- each lies within the section
-pub within-kind : (W n k j : ℕ) → k < n → j < 3 → W * (3 * k + j) + W ≤ W * (3 * n)
-within-kind W n k j h l = part-fits W {k = 3 * k + j} {n = 3 * n} (omega arith)
+pub within-series : (W n k j : ℕ) → k < n → j < 3 → W * (3 * k + j) + W ≤ W * (3 * n)
+within-series W n k j h l = part-fits W {k = 3 * k + j} {n = 3 * n} (omega arith)

@@ -1,4 +1,4 @@
--- THE TABLE OF WORK HOLDS THE IMAGE'S MASKS: each kind has the masks where they lie, propagate's source less one, and the back edges have theirs; so the
+-- THE TABLE OF WORK HOLDS THE IMAGE'S MASKS: each series has the masks where they lie, propagate's source less one, and the back edges have theirs; so the
 -- run on the table's first words finds the ends of the image's masks.
 use mathlib.Core.Path.{_≡_, refl, sym, ap, ap₂, _∙_, subst}
 use mathlib.Core.Bool.{true}
@@ -21,10 +21,10 @@ use Rattle.image_sections.proofs.Laws.Within.{own-depth, own-width}
 use Rattle.run_word.proofs.Laws.Back.{BackCut}
 use Rattle.run_word.proofs.Laws.Cut.{close-cut, Cut, ends-cut}
 use Rattle.run_word.proofs.Laws.Nine.{nine-scatter}
-use Rattle.run.specs.Work.{cutMasks, kindAt, masksOf, passMasks, Put, PutTo, rowAt, ruleMasks, Tabled, workMasks}
+use Rattle.run.specs.Work.{cutMasks, masksOf, passMasks, Put, PutTo, rowAt, ruleMasks, seriesAt, Tabled, workMasks}
 use Rattle.run.proofs.Laws.Backs.{masks-low}
 use Rattle.run.proofs.Laws.Rounds.{close-letters}
-use Rattle.run.proofs.Laws.Rows.{fit-at, kind-row, row-short}
+use Rattle.run.proofs.Laws.Rows.{fit-at, row-short, series-row}
 
 module _ (ws : List ℕ) (fits : Fit ws) (S : Placed ws (sectionsIn ws)) (table : List (List ℕ)) (I : Tabled ws (widthOf ws) (depthWord ws) table) where
   abbrev W : ℕ
@@ -37,14 +37,14 @@ module _ (ws : List ℕ) (fits : Fit ws) (S : Placed ws (sectionsIn ws)) (table 
   narrow = omega (arith, S .few)
 
   scattered : (k j : ℕ) → k < d → j < 3 → getD table (9 * k + j) [] ≡ masksOf ws .scatterMask k j
-  scattered k j h l = I .passes k j (omega (arith, S .shallow)) (omega arith) ∙ sym (nine-scatter j _ _ _ _ l) ∙ kind-row ws (scatterAt W) W j d k h
+  scattered k j h l = I .passes k j (omega (arith, S .shallow)) (omega arith) ∙ sym (nine-scatter j _ _ _ _ l) ∙ series-row ws (scatterAt W) W j d k h
 
-  -- where the number of the kind is written out, so is the section
-  gathered : (k j : ℕ) → k < d → j < 3 → getD (kindAt ws (gatherAt W d) W d j) k [] ≡ masksOf ws .gatherMask k j
-  gathered k j h l = kind-row ws (gatherAt W d) W j d k h
+  -- where the number of the series is written out, so is the section
+  gathered : (k j : ℕ) → k < d → j < 3 → getD (seriesAt ws (gatherAt W d) W d j) k [] ≡ masksOf ws .gatherMask k j
+  gathered k j h l = series-row ws (gatherAt W d) W j d k h
 
-  propagated : (k j : ℕ) → k ≤ d → getD (kindAt ws (propagateAt W d) W (d + 1) j) k [] ≡ masksOf ws .propagateMask k j
-  propagated k j h = kind-row ws (propagateAt W d) W j (d + 1) k (omega arith)
+  propagated : (k j : ℕ) → k ≤ d → getD (seriesAt ws (propagateAt W d) W (d + 1) j) k [] ≡ masksOf ws .propagateMask k j
+  propagated k j h = series-row ws (propagateAt W d) W j (d + 1) k (omega arith)
 
   source : (k : ℕ) → k ≤ d → plusWords (getD table (9 * k + 7) []) true ≡ masksOf ws .propagateMask k 1
   source k h =
@@ -120,7 +120,7 @@ module _ (ws : List ℕ) (fits : Fit ws) (S : Placed ws (sectionsIn ws)) (table 
       ap (λ (n : ℕ). endsWith (ruleMasks ws n table) deep (count - 1) text) ew ∙ ap₂ (λ (i k : ℕ). endsWith (N W) i (k - 1) text) ed em
       ∙ sym (ends-cut W d (masksOf ws) (N W) (work-cut W) (back-cut W (le-refl W)) (stateWord ws - 1) (omega (arith, S .some)) text B)
 
--- ---- the table made: a kind put, one mask more and one kind more
+-- ---- the table made: a series put, one mask more and one series more
 pub put-begin : (j : ℕ) (masks table : List (List ℕ)) → PutTo 0 j masks table table
 put-begin j masks table = record { here = λ k h. absurd (not-suc-le-zero h); there = λ k i h q. refl; long = refl }
 
@@ -137,9 +137,9 @@ put-more {c} {j} {masks} {table} {new} P h l long = record {
     v : List ℕ
     v = getD masks c []
 
-pub kind-entered : {c : ℕ} (rows : ℕ → ℕ → List ℕ) {masks table new : List (List ℕ)} → ((k j : ℕ) → k < 9 → j < c → getD table (9 * k + j) [] ≡ rows j k) → c < 9 → Put c masks table new
+pub series-entered : {c : ℕ} (rows : ℕ → ℕ → List ℕ) {masks table new : List (List ℕ)} → ((k j : ℕ) → k < 9 → j < c → getD table (9 * k + j) [] ≡ rows j k) → c < 9 → Put c masks table new
     → ((k : ℕ) → k < 9 → getD masks k [] ≡ rows c k) → (k j : ℕ) → k < 9 → j < c + 1 → getD new (9 * k + j) [] ≡ rows j k
-kind-entered {c} rows {masks} {table} {new} I h P M k j l =
+series-entered {c} rows {masks} {table} {new} I h P M k j l =
     below-more (λ (i : ℕ). getD new (9 * k + i) [] ≡ rows i k) c
     (λ i m. P .there k i (omega arith) (λ q. let e : i ≡ c = q in absurd (omega arith)) ∙ I k i l m) (P .here k l ∙ M k l) j
 

@@ -12,7 +12,7 @@ use Rattle.model.specs.Bits.{bit}
 use Rattle.model.specs.Models.Run.{closeWords, endsAfter, endsWith, Masks, noted, runFrom, stepWords}
 use Rattle.model.specs.Models.Words.{value}
 use Rattle.model.proofs.Laws.Stores.{sets-append}
-use Rattle.run_word.specs.Ends.{RanOver, Written}
+use Rattle.run_word.specs.Ends.{Noted, RanOver}
 
 pub noted-few : (b : Bool) (p : ℕ) → length (noted b p) ≤ 1
 noted-few true p = omega arith
@@ -105,7 +105,7 @@ module _ (M : Masks) (d last place : ℕ) (stretch : List ℕ) where
 -- ---- A BEGINNING AND ONE STRETCH: place 0 noted, and then the places after it
 pub begun : (M : Masks) (W d last : ℕ) (text live before : List ℕ) → live ≡ closeWords M d (M .startMask) → (hit : Bool) → hit ≡ bit (value live) last → {count total : ℕ} {places words after : List ℕ}
     → count ≡ (0 + length (noted hit 0)) % 2 ^ 64 → places ≡ sets before 0 (noted hit 0) → RanOver M W d last 0 count text live places words total after
-    → Written (endsWith M d last text) before total after
+    → Noted (endsWith M d last text) before total after
 begun M W d last text live before e hit looked {count} {total} {places} {words} {after} counts writes G = record {
   counted = omega (arith, G .counted, count′, ap length whole, length-append (noted hit 0) rest);
   stored = G .stored ∙ ap₂ (λ (l : List ℕ) (n : ℕ). sets l n rest) writes count′ ∙ sym (sets-append before 0 (noted hit 0) rest) ∙ ap (sets before 0) (sym whole);

@@ -7,6 +7,13 @@ use borrow.Author.Needs.{needs}
 use Rattle.image_sections.proofs.reader.counts_fit.Statement.{statement}
 use Rattle.image_sections.proofs.reader.counts_fit.Tie as tie
 
+-- where the function began, from three counts compared; four of them compared, from the last count asked
+abbrev start : tie.Joined3 → tie.Start
+start c = c .before .before .before .before .before .before .before .before
+
+abbrev four-compared : tie.After-struct-known12 → tie.Joined4
+four-compared c = c .before .before .before .before .before
+
 mul-bytes : tie.Need-mul-bytes
 mul-bytes c = search needs
 
@@ -65,7 +72,7 @@ mul-if5-2 : tie.Need-mul-if5-2
 mul-if5-2 c = search needs
 
 add-if5 : tie.Need-add-if5
-add-if5 c = chains-fit (c .before .before .before .before .before .before .before .before .before .before .before .before .pre)
+add-if5 c = chains-fit (start (c .before .before .before .before) .pre)
 
 sub-result : tie.Need-sub-result
 sub-result c = search needs
@@ -80,12 +87,12 @@ mul-result-2 : tie.Need-mul-result-2
 mul-result-2 c = search needs
 
 mul-result-3 : tie.Need-mul-result-3
-mul-result-3 c = backs-fit (c .before .before .before .before .before .before .before .before .before .before .before .before .before .before .pre)
+mul-result-3 c = backs-fit (start (four-compared c .before) .pre)
 
 returns : tie.Need-returns
 returns c =
-    let a = c .before .before .before .before .before .before .before .before .before .before .before .before .before .before .args in
-    let s = c .before .before .before .before .before in
+    let s = four-compared c in
+    let a = start (s .before) .args in
     let first = both (λ w. (eq-eqb _ _ (w .0 .taken), w .3)) (λ w. (ne-eqb _ _ (w .0 .left), w .1)) (s .before .before .before .if1 .came) in
     let second = both (λ w. (w .0 .taken, w .3)) (λ w. (w .0 .left, w .1)) (s .before .before .if2 .came) in
     let third = both (λ w. (w .0 .taken, w .3)) (λ w. (w .0 .left, w .1)) (s .before .if3 .came) in
@@ -94,8 +101,8 @@ returns c =
 
 returns-2 : tie.Need-returns-2
 returns-2 c =
-    let a = c .before .before .before .before .before .before .before .before .before .before .args in
     let s = c .before in
+    let a = start (s .before) .args in
     let first = both (λ w. (eq-eqb _ _ (w .0 .taken), w .3)) (λ w. (ne-eqb _ _ (w .0 .left), w .1)) (s .before .before .before .if1 .came) in
     let second = both (λ w. (w .0 .taken, w .3)) (λ w. (w .0 .left, w .1)) (s .before .before .if2 .came) in
     let third = both (λ w. (w .0 .taken, w .3)) (λ w. (w .0 .left, w .1)) (s .before .if3 .came) in

@@ -10,6 +10,10 @@ use Rattle.image_sections.proofs.Laws.Header.{refused, shape-fits, shap
 use Rattle.image_sections.proofs.reader.read_shape.Statement.{statement}
 use Rattle.image_sections.proofs.reader.read_shape.Tie as tie
 
+-- where the function began, from the shape's words read
+abbrev start : tie.After-shared-slice-known5 → tie.Start
+start c = c .before .before .before .before .before .before .before
+
 returns : tie.Need-returns
 returns c =
     let ws = c .before .before .args .words .now in
@@ -34,7 +38,7 @@ shared-slice-read-depth c = search needs
 
 returns-3 : tie.Need-returns-3
 returns-3 c =
-    let ws = c .before .before .before .before .before .before .before .before .args .words .now in
+    let ws = start (c .before) .args .words .now in
     refused (shapeFits ws) ws
     (λ t. ⊎-elim (λ w. omega (arith, w .taken, shape-of ws t .some-states))
     (λ w. omega (arith, ltb-true, w .1 .taken, shape-of ws t .few-states)) (c .if3 .came))
@@ -44,12 +48,12 @@ add-if5 c = omega (arith, ltb-false)
 
 returns-4 : tie.Need-returns-4
 returns-4 c =
-    let ws = c .before .before .before .before .before .before .before .before .before .before .args .words .now in
+    let ws = start (c .before .before .before) .args .words .now in
     refused (shapeFits ws) ws (λ t. c .if5 .taken (shape-of ws t .wide))
 
 returns-5 : tie.Need-returns-5
 returns-5 c =
-    let ws = c .before .before .before .before .before .before .before .before .before .before .before .args .words .now in
+    let ws = start (c .before .before .before .before) .args .words .now in
     refused (shapeFits ws) ws (λ t. omega (arith, c .if6 .taken, shape-of ws t .shallow))
 
 sections-of-requires : tie.Need-sections-of-requires
@@ -58,11 +62,12 @@ sections-of-requires c κs = (omega (arith, ltb-false), c .if6 .left)
 returns-6 : tie.Need-returns-6
 returns-6 c =
     let s = c .before in
-    let ws = s .before .before .before .before .before .before .before .before .before .before .before .args .words .now in
+    let k = s .before .before .before .before in
+    let ws = start k .args .words .now in
     ap Sound (c .sections-of .ensures)
     ∙ taken (shapeFits ws) ws (shape-fits ws (record {
-      four = s .before .before .before .before .before .before .before .before .before .if1 .left;
-      three = s .before .before .before .before .before .before .before .if2 .left;
+      four = k .before .before .before .before .before .if1 .left;
+      three = k .before .before .before .if2 .left;
       some-states = s .before .before .before .if3 .left;
       few-states = omega (arith, ltb-false);
       wide = s .before .if5 .left;

@@ -25,6 +25,16 @@ Inv-loop image stretch places₀ place found width depth last table sources live
 abbrev μ-loop : tie.MeasureT-loop
 μ-loop image stretch places₀ place found width depth last table sources live₀ total₀ p₀ places live total p = length stretch - p
 
+-- where the function began, from a portion cut off; the portion, from a turn for one of its bytes; the turn, from the note of its place
+abbrev start : tie.After-portion Inv-loop2 μ-loop2 Inv-loop μ-loop → tie.Start Inv-loop2 μ-loop2 Inv-loop μ-loop
+start c = c .before .before .before .before .before .before
+
+abbrev cut-off : tie.In-loop2 Inv-loop2 μ-loop2 Inv-loop μ-loop → tie.After-portion Inv-loop2 μ-loop2 Inv-loop μ-loop
+cut-off c = c .before .before
+
+abbrev turn : tie.After-note-arg Inv-loop2 μ-loop2 Inv-loop μ-loop → tie.In-loop2 Inv-loop2 μ-loop2 Inv-loop μ-loop
+turn c = c .before .before .before .before
+
 loop-holds : tie.Need-loop-holds Inv-loop2 μ-loop2 Inv-loop μ-loop
 loop-holds c =
     let s = c .before .before .before in
@@ -36,7 +46,7 @@ portion-requires c κs = c .before .loop .inv .within
 
 loop2-holds : tie.Need-loop2-holds Inv-loop2 μ-loop2 Inv-loop μ-loop
 loop2-holds c =
-    let a = c .before .before .before .before .before .before .args in
+    let a = start c .args in
     let l = c .before .before .loop in
     since-now (ruleMasks (a .image .now) (a .width) (a .table .now)) (a .depth) (a .last) (a .place) (a .stretch .now) (l .places) (take (a .width) (l .live)) (l .total) (l .p) (l .inv .within) (l .inv .few)
 
@@ -47,49 +57,57 @@ loop-less c =
 
 loop-again : tie.Need-loop-again Inv-loop2 μ-loop2 Inv-loop μ-loop
 loop-again c =
-    let a = c .before .before .before .before .before .before .before .before .args in
+    let a = start (c .before .before) .args in
     since-then (ruleMasks (a .image .now) (a .width) (a .table .now)) (a .depth) (a .last) (a .place) (a .stretch .now) (c .before .before .before .before .loop .inv) (c .before .loop2 .inv)
 
 shared-slice-read-turn-by : tie.Need-shared-slice-read-turn-by Inv-loop2 μ-loop2 Inv-loop μ-loop
-shared-slice-read-turn-by c = omega (arith, c .before .before .loop2-test .taken, c .before .before .before .before .portion .ensures .1)
+shared-slice-read-turn-by c = let t = c .before .before in omega (arith, t .loop2-test .taken, cut-off t .portion .ensures .1)
 
 turn-by-requires : tie.Need-turn-by-requires Inv-loop2 μ-loop2 Inv-loop μ-loop
-turn-by-requires c κs = let p = c .before .before .before .before .before .before .before .before .before .before .pre in record { steps = p .0 .steps; whole = p .0 .whole; sources = p .1 }
+turn-by-requires c κs = let p = start (cut-off (c .before .before)) .pre in record { steps = p .0 .steps; whole = p .0 .whole; sources = p .1 }
 
 add-p : tie.Need-add-p Inv-loop2 μ-loop2 Inv-loop μ-loop
-add-p c = omega (arith, c .before .before .before .loop2-test .taken, c .before .before .before .before .before .portion .ensures .1, c .before .before .before .before .before .before .before .before .before .before .before .pre .0 .limits .small)
+add-p c =
+    let t = c .before .before .before in
+    let q = cut-off t in
+    omega (arith, t .loop2-test .taken, q .portion .ensures .1, start q .pre .0 .limits .small)
 
 add-note : tie.Need-add-note Inv-loop2 μ-loop2 Inv-loop μ-loop
-add-note c = omega (arith, c .before .before .before .before .loop2-test .taken, c .before .before .before .before .before .before .portion .ensures .1, c .before .before .before .before .before .before .before .before .before .before .before .before .pre .0 .limits .near)
+add-note c =
+    let q = cut-off (turn c) in
+    omega (arith, turn c .loop2-test .taken, q .portion .ensures .1, start q .pre .0 .limits .near)
 
 cast-note : tie.Need-cast-note Inv-loop2 μ-loop2 Inv-loop μ-loop
-cast-note c = omega (arith, c .before .before .before .before .loop2-test .taken, c .before .before .before .before .before .before .portion .ensures .1, c .before .before .before .before .before .before .before .before .before .before .before .before .pre .0 .limits .near)
+cast-note c =
+    let q = cut-off (turn c) in
+    omega (arith, turn c .loop2-test .taken, q .portion .ensures .1, start q .pre .0 .limits .near)
 
 slice-aggregate-is-live : tie.Need-slice-aggregate-is-live Inv-loop2 μ-loop2 Inv-loop μ-loop
 slice-aggregate-is-live c = sym (c .before .before .turn-by .ensures .eight)
 
 is-live-requires : tie.Need-is-live-requires Inv-loop2 μ-loop2 Inv-loop μ-loop
 is-live-requires c κs =
-    let s = c .before .before .before .before .before .before .before .before .before .before .before .before .before in
+    let s = start (cut-off (turn (c .before))) in
     omega (arith, c .before .before .turn-by .ensures .eight, s .pre .0 .within, s .pre .0 .steps .narrow)
 
 note-requires : tie.Need-note-requires Inv-loop2 μ-loop2 Inv-loop μ-loop
 note-requires c κs = search needs
 
 loop2-less : tie.Need-loop2-less Inv-loop2 μ-loop2 Inv-loop μ-loop
-loop2-less c = omega (arith, c .before .before .before .before .before .before .before .before .before .loop2-test .taken)
+loop2-less c = omega (arith, turn (c .before .before .before .before .before) .loop2-test .taken)
 
 loop2-again : tie.Need-loop2-again Inv-loop2 μ-loop2 Inv-loop μ-loop
 loop2-again c =
     let n = c .before .before in
     let h = n .before in
     let b = h .before .before .before .turn-by in
-    let t = h .before .before .before .before .before .before in
+    let t = turn (h .before .before) in
     let l = t .before .loop2 in
-    let s = t .before .before .before .before .before .before .before .before in
+    let q = cut-off t in
+    let s = start q in
     let a = s .args in
     at-next (ruleMasks (a .image .now) (a .width) (a .table .now)) (a .depth) (a .last) (a .place) (a .stretch .now) (s .pre .0 .limits .small) (take (a .width) (b .last .0)) (l .inv)
-    (omega (arith, t .loop2-test .taken, t .before .before .portion .ensures .1)) (b .ensures .made) (h .is-live .result)
+    (omega (arith, t .loop2-test .taken, q .portion .ensures .1)) (b .ensures .made) (h .is-live .result)
     (h .is-live .ensures ∙ take-bit (a .width) (b .last .0) (a .last) (s .pre .0 .within)) (n .note .ensures .0) (n .note .ensures .1)
 
 same-length : tie.Need-same-length Inv-loop2 μ-loop2 Inv-loop μ-loop

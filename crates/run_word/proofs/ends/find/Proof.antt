@@ -12,6 +12,13 @@ use borrow.Author.Needs.{needs}
 use Rattle.run_word.proofs.ends.find.Statement.{statement}
 use Rattle.run_word.proofs.ends.find.Tie as tie
 
+-- where the function began, from the table; the table, from the back edges
+abbrev start : tie.After-table → tie.Start
+start c = c .before .before .before .before .before
+
+abbrev tabled : tie.After-edges → tie.After-table
+tabled c = c .before .before .before .before .before
+
 sub-last : tie.Need-sub-last
 sub-last c =
     let s = c .before .before .before .before in
@@ -21,17 +28,17 @@ table-requires : tie.Need-table-requires
 table-requires c κs = let s = c .before .before .before .before in single (s .pre .0) (s .pre .1)
 
 any-chain-requires : tie.Need-any-chain-requires
-any-chain-requires c κs = let s = c .before .before .before .before .before .before in single (s .pre .0) (s .pre .1) .deep
+any-chain-requires c κs = let s = start (c .before) in single (s .pre .0) (s .pre .1) .deep
 
 backs-requires : tie.Need-backs-requires
-backs-requires c κs = let s = c .before .before .before .before .before .before .before in single (s .pre .0) (s .pre .1)
+backs-requires c κs = let s = start (c .before .before) in single (s .pre .0) (s .pre .1)
 
 close-requires : tie.Need-close-requires
-close-requires c κs = let s = c .before .before .before .before .before .before .before .before .before .before in single (s .pre .0) (s .pre .1) .deep
+close-requires c κs = let s = start (tabled c) in single (s .pre .0) (s .pre .1) .deep
 
 is-live-requires : tie.Need-is-live-requires
 is-live-requires c κs =
-    let s = c .before .before .before .before .before .before .before .before .before .before .before .before in
+    let s = start (tabled (c .before .before)) in
     omega (arith, ap (λ (q : Sections). q .states) (s .pre .0 .own), s .pre .0 .some, s .pre .1)
 
 note-requires : tie.Need-note-requires
@@ -44,7 +51,7 @@ run-over-requires c κs =
     let e = q .before .before .before in
     let y = e .before in
     let b = y .before .before in
-    let s = b .before .before .before .before .before in
+    let s = start b in
     may-choose (s .pre .0) (s .pre .1) (b .table .ensures) (y .any-chain .ensures) (e .backs .ensures)
     (record { live = q .close .result; place = 0; found = n .note .result })
     (record { small = s .pre .2; near = omega (arith, s .pre .2); few = omega (arith, n .note .ensures .0, noted-few (n .before .is-live .result) 0) })
@@ -61,7 +68,7 @@ returns c =
     let e = q .before .before .before in
     let y = e .before in
     let b = y .before .before in
-    let s = b .before .before .before .before .before in
+    let s = start b in
     let a = s .args in
     let ws = a .image .now in
     begun (oneMasks ws) 1 (a .sections .depth) (a .sections .states - 1) (a .text .now) (q .close .result ∷ []) (a .ends .now)

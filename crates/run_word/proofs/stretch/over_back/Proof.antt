@@ -18,6 +18,13 @@ Inv-loop image stretch ends₀ from last depth any table backs live₀ total₀ 
 abbrev μ-loop : tie.MeasureT-loop
 μ-loop image stretch ends₀ from last depth any table backs live₀ total₀ p₀ ends live total p = length stretch - p
 
+-- where the function began, from a turn; the turn, from the note of its place
+abbrev start : tie.In-loop Inv-loop μ-loop → tie.Start Inv-loop μ-loop
+start c = c .before .before .before .before .before
+
+abbrev turn : tie.After-struct-known Inv-loop μ-loop → tie.In-loop Inv-loop μ-loop
+turn c = c .before .before .before .before .before
+
 loop-holds : tie.Need-loop-holds Inv-loop μ-loop
 loop-holds c = since-now _ _ _ _ _ _ _ _ 0 (omega arith) (omega (arith, c .before .before .before .pre .0 .limits .few))
 
@@ -25,28 +32,28 @@ shared-slice-read-moved : tie.Need-shared-slice-read-moved Inv-loop μ-loop
 shared-slice-read-moved c = search needs
 
 moved-requires : tie.Need-moved-requires Inv-loop μ-loop
-moved-requires c κs = c .before .before .before .before .before .before .pre .0 .long
+moved-requires c κs = start (c .before) .pre .0 .long
 
 close-requires : tie.Need-close-requires Inv-loop μ-loop
-close-requires c κs = c .before .before .before .before .before .before .before .pre .1
+close-requires c κs = start (c .before .before) .pre .1
 
 add-p : tie.Need-add-p Inv-loop μ-loop
-add-p c = omega (arith, c .before .before .before .loop-test .taken, c .before .before .before .before .before .before .before .before .pre .0 .limits .small)
+add-p c = let t = c .before .before .before in omega (arith, t .loop-test .taken, start t .pre .0 .limits .small)
 
 add-note : tie.Need-add-note Inv-loop μ-loop
-add-note c = omega (arith, c .before .before .before .before .before .loop-test .taken, c .before .before .before .before .before .before .before .before .before .before .pre .0 .limits .near)
+add-note c = omega (arith, turn c .loop-test .taken, start (turn c) .pre .0 .limits .near)
 
 cast-note : tie.Need-cast-note Inv-loop μ-loop
-cast-note c = omega (arith, c .before .before .before .before .before .loop-test .taken, c .before .before .before .before .before .before .before .before .before .before .pre .0 .limits .near)
+cast-note c = omega (arith, turn c .loop-test .taken, start (turn c) .pre .0 .limits .near)
 
 is-live-requires : tie.Need-is-live-requires Inv-loop μ-loop
-is-live-requires c κs = c .before .before .before .before .before .before .before .before .before .before .pre .0 .few
+is-live-requires c κs = start (turn c) .pre .0 .few
 
 note-requires : tie.Need-note-requires Inv-loop μ-loop
 note-requires c κs = search needs
 
 loop-less : tie.Need-loop-less Inv-loop μ-loop
-loop-less c = omega (arith, c .before .before .before .before .before .before .before .before .before .loop-test .taken)
+loop-less c = omega (arith, turn (c .before .before .before .before) .loop-test .taken)
 
 loop-again : tie.Need-loop-again Inv-loop μ-loop
 loop-again c =
@@ -55,7 +62,7 @@ loop-again c =
     let q = h .before .before .before in
     let m = q .before in
     let t = m .before .before in
-    let s = t .before .before .before .before .before in
+    let s = start t in
     let a = s .args in
     at-next _ _ _ _ _ (s .pre .0 .limits .small) (q .close .result ∷ []) (t .before .loop .inv) (t .loop-test .taken)
     (q .close .ensures (a .image .now) ∙ ap (closeWords (workMasks (a .image .now) (a .any) (a .table .now) (a .backs .now)) (a .depth)) (m .moved .ensures)) (h .is-live .result) (h .is-live .ensures)

@@ -7,11 +7,18 @@ use borrow.Author.Needs.{needs}
 use Rattle.run_word.proofs.stretch.run_over.Statement.{statement}
 use Rattle.run_word.proofs.stretch.run_over.Tie as tie
 
+-- where the function began, from the question for back edges; the question, from both tables copied
+abbrev start : tie.After-any-back → tie.Start
+start c = c .before .before .before .before
+
+abbrev asked : tie.After-b2 → tie.After-any-back
+asked c = c .before .before .before .before .before .before
+
 any-back-requires : tie.Need-any-back-requires
 any-back-requires c κs = search needs
 
 over-back-requires : tie.Need-over-back-requires
-over-back-requires c κs = let s = c .before .before .before .before .before .before .before .before .before .before in (s .pre .overs, s .pre .shallow)
+over-back-requires c κs = let s = start (asked c) in (s .pre .overs, s .pre .shallow)
 
 same-length : tie.Need-same-length
 same-length c = search needs
@@ -19,8 +26,9 @@ same-length c = search needs
 returns : tie.Need-returns
 returns c =
     let r = c .before .before .over-back in
-    let k = c .before .before .before .before .before .before .before .before .before .before in
-    let s = k .before .before .before in
+    let y = asked (c .before .before .before) in
+    let k = y .before in
+    let s = start y in
     let a = s .args in
     chosen (s .pre) (λ i. k .before .before .shared-slice-known .given i .fits) (all-bytes (a .stretch .now) (λ i. omega (arith, k .before .shared-slice-known2 .given i))) (a .any) (s .pre .none) (a .backs .now)
     (s .pre .edges) (a .depth) refl (r .result) (r .ensures)
@@ -28,7 +36,7 @@ returns c =
 run-plain-requires : tie.Need-run-plain-requires
 run-plain-requires c κs =
     let y = c .before .before in
-    no-back (y .before .before .before .before .pre) (y .any-back .ensures (c .before .if1 .left))
+    no-back (start y .pre) (y .any-back .ensures (c .before .if1 .left))
 
 same-length-2 : tie.Need-same-length-2
 same-length-2 c = search needs

@@ -9,6 +9,10 @@ use borrow.Author.Needs.{needs}
 use Rattle.run_word.proofs.stretch.run_plain.Statement.{statement}
 use Rattle.run_word.proofs.stretch.run_plain.Tie as tie
 
+-- where the function began, from the table copied
+abbrev start : tie.After-t → tie.Start
+start c = c .before .before .before .before
+
 array-read-block : tie.Need-array-read-block
 array-read-block c = search needs
 
@@ -19,7 +23,7 @@ array-read-target : tie.Need-array-read-target
 array-read-target c = search needs
 
 over-0-requires : tie.Need-over-0-requires
-over-0-requires c κs = c .before .before .before .before .before .before .before .before .pre .overs
+over-0-requires c κs = start (c .before .before .before .before) .pre .overs
 
 same-length : tie.Need-same-length
 same-length c = search needs
@@ -27,13 +31,15 @@ same-length c = search needs
 returns : tie.Need-returns
 returns c =
     let r = c .before .before .over-0 in
-    let s = c .before .before .before .before .before .before .before .before .before .before .before in
-    let w = c .before .before .before .before .before .before .before .before .before .before .shared-slice-known .given in
-    let b = c .before .before .before .before .before .before .before .before .before .shared-slice-known2 .given in
-    chosen (s .pre) (λ i. w i .fits) (all-bytes (s .args .stretch .now) (λ i. omega (arith, b i))) true (λ e. absurd (never e)) [] (s .pre .edges) 0 (c .before .before .before .before .before .before .if1 .taken) (r .result) (r .ensures)
+    let k = c .before .before .before .before .before .before in
+    let t = k .before in
+    let s = start t in
+    let w = t .before .before .before .shared-slice-known .given in
+    let b = t .before .before .shared-slice-known2 .given in
+    chosen (s .pre) (λ i. w i .fits) (all-bytes (s .args .stretch .now) (λ i. omega (arith, b i))) true (λ e. absurd (never e)) [] (s .pre .edges) 0 (k .if1 .taken) (r .result) (r .ensures)
 
 over-0-plain-requires : tie.Need-over-0-plain-requires
-over-0-plain-requires c κs = c .before .before .before .before .before .before .before .before .pre .overs
+over-0-plain-requires c κs = start (c .before .before .before .before) .pre .overs
 
 same-length-2 : tie.Need-same-length-2
 same-length-2 c = search needs
@@ -41,13 +47,15 @@ same-length-2 c = search needs
 returns-2 : tie.Need-returns-2
 returns-2 c =
     let r = c .before .before .over-0-plain in
-    let s = c .before .before .before .before .before .before .before .before .before .before .before in
-    let w = c .before .before .before .before .before .before .before .before .before .before .shared-slice-known .given in
-    let b = c .before .before .before .before .before .before .before .before .before .shared-slice-known2 .given in
-    chosen (s .pre) (λ i. w i .fits) (all-bytes (s .args .stretch .now) (λ i. omega (arith, b i))) false (λ e. s .pre .none (c .before .before .before .before .before .if2 .left)) [] (s .pre .edges) 0 (c .before .before .before .before .before .before .if1 .taken) (r .result) (r .ensures)
+    let k = c .before .before .before .before .before .before in
+    let t = k .before in
+    let s = start t in
+    let w = t .before .before .before .shared-slice-known .given in
+    let b = t .before .before .shared-slice-known2 .given in
+    chosen (s .pre) (λ i. w i .fits) (all-bytes (s .args .stretch .now) (λ i. omega (arith, b i))) false (λ e. s .pre .none (c .before .before .before .before .before .if2 .left)) [] (s .pre .edges) 0 (k .if1 .taken) (r .result) (r .ensures)
 
 over-1-requires : tie.Need-over-1-requires
-over-1-requires c κs = c .before .before .before .before .before .before .before .before .before .pre .overs
+over-1-requires c κs = start (c .before .before .before .before .before) .pre .overs
 
 same-length-3 : tie.Need-same-length-3
 same-length-3 c = search needs
@@ -55,13 +63,15 @@ same-length-3 c = search needs
 returns-3 : tie.Need-returns-3
 returns-3 c =
     let r = c .before .before .over-1 in
-    let s = c .before .before .before .before .before .before .before .before .before .before .before .before in
-    let w = c .before .before .before .before .before .before .before .before .before .before .before .shared-slice-known .given in
-    let b = c .before .before .before .before .before .before .before .before .before .before .shared-slice-known2 .given in
-    chosen (s .pre) (λ i. w i .fits) (all-bytes (s .args .stretch .now) (λ i. omega (arith, b i))) true (λ e. absurd (never e)) [] (s .pre .edges) 1 (c .before .before .before .before .before .before .if3 .taken) (r .result) (r .ensures)
+    let k = c .before .before .before .before .before .before in
+    let t = k .before .before in
+    let s = start t in
+    let w = t .before .before .before .shared-slice-known .given in
+    let b = t .before .before .shared-slice-known2 .given in
+    chosen (s .pre) (λ i. w i .fits) (all-bytes (s .args .stretch .now) (λ i. omega (arith, b i))) true (λ e. absurd (never e)) [] (s .pre .edges) 1 (k .if3 .taken) (r .result) (r .ensures)
 
 over-1-plain-requires : tie.Need-over-1-plain-requires
-over-1-plain-requires c κs = c .before .before .before .before .before .before .before .before .before .pre .overs
+over-1-plain-requires c κs = start (c .before .before .before .before .before) .pre .overs
 
 same-length-4 : tie.Need-same-length-4
 same-length-4 c = search needs
@@ -69,13 +79,15 @@ same-length-4 c = search needs
 returns-4 : tie.Need-returns-4
 returns-4 c =
     let r = c .before .before .over-1-plain in
-    let s = c .before .before .before .before .before .before .before .before .before .before .before .before in
-    let w = c .before .before .before .before .before .before .before .before .before .before .before .shared-slice-known .given in
-    let b = c .before .before .before .before .before .before .before .before .before .before .shared-slice-known2 .given in
-    chosen (s .pre) (λ i. w i .fits) (all-bytes (s .args .stretch .now) (λ i. omega (arith, b i))) false (λ e. s .pre .none (c .before .before .before .before .before .if4 .left)) [] (s .pre .edges) 1 (c .before .before .before .before .before .before .if3 .taken) (r .result) (r .ensures)
+    let k = c .before .before .before .before .before .before in
+    let t = k .before .before in
+    let s = start t in
+    let w = t .before .before .before .shared-slice-known .given in
+    let b = t .before .before .shared-slice-known2 .given in
+    chosen (s .pre) (λ i. w i .fits) (all-bytes (s .args .stretch .now) (λ i. omega (arith, b i))) false (λ e. s .pre .none (c .before .before .before .before .before .if4 .left)) [] (s .pre .edges) 1 (k .if3 .taken) (r .result) (r .ensures)
 
 over-2-requires : tie.Need-over-2-requires
-over-2-requires c κs = c .before .before .before .before .before .before .before .before .before .pre .overs
+over-2-requires c κs = start (c .before .before .before .before .before) .pre .overs
 
 same-length-5 : tie.Need-same-length-5
 same-length-5 c = search needs
@@ -83,13 +95,15 @@ same-length-5 c = search needs
 returns-5 : tie.Need-returns-5
 returns-5 c =
     let r = c .before .before .over-2 in
-    let s = c .before .before .before .before .before .before .before .before .before .before .before .before in
-    let w = c .before .before .before .before .before .before .before .before .before .before .before .shared-slice-known .given in
-    let b = c .before .before .before .before .before .before .before .before .before .before .shared-slice-known2 .given in
-    chosen (s .pre) (λ i. w i .fits) (all-bytes (s .args .stretch .now) (λ i. omega (arith, b i))) true (λ e. absurd (never e)) [] (s .pre .edges) 2 (c .before .before .before .before .before .if5 .taken) (r .result) (r .ensures)
+    let k = c .before .before .before .before .before in
+    let t = k .before .before .before in
+    let s = start t in
+    let w = t .before .before .before .shared-slice-known .given in
+    let b = t .before .before .shared-slice-known2 .given in
+    chosen (s .pre) (λ i. w i .fits) (all-bytes (s .args .stretch .now) (λ i. omega (arith, b i))) true (λ e. absurd (never e)) [] (s .pre .edges) 2 (k .if5 .taken) (r .result) (r .ensures)
 
 over-requires : tie.Need-over-requires
-over-requires c κs = let s = c .before .before .before .before .before .before .before .before .before in (s .pre .overs .long, s .pre .overs .few, s .pre .shallow, s .pre .overs .limits)
+over-requires c κs = let s = start (c .before .before .before .before .before) in (s .pre .overs .long, s .pre .overs .few, s .pre .shallow, s .pre .overs .limits)
 
 same-length-6 : tie.Need-same-length-6
 same-length-6 c = search needs
@@ -97,9 +111,10 @@ same-length-6 c = search needs
 returns-6 : tie.Need-returns-6
 returns-6 c =
     let r = c .before .before .over in
-    let s = c .before .before .before .before .before .before .before .before .before .before .before .before in
-    let w = c .before .before .before .before .before .before .before .before .before .before .before .shared-slice-known .given in
-    let b = c .before .before .before .before .before .before .before .before .before .before .shared-slice-known2 .given in
+    let t = c .before .before .before .before .before .before .before .before in
+    let s = start t in
+    let w = t .before .before .before .shared-slice-known .given in
+    let b = t .before .before .shared-slice-known2 .given in
     chosen (s .pre) (λ i. w i .fits) (all-bytes (s .args .stretch .now) (λ i. omega (arith, b i))) (s .args .any) (s .pre .none) [] (s .pre .edges) (s .args .depth) refl (r .result) (r .ensures)
 
 pub run-plain-spec : {M : Type 1} → statement M

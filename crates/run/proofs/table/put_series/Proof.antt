@@ -1,12 +1,12 @@
--- `put_kind`: each turn puts one mask more (`put-more`).
+-- `put_series`: each turn puts one mask more (`put-more`).
 use mathlib.Core.Path.{_≡_, subst}
 use Prim.Native.Nat.{ℕ, _-_, _≤_}
 use native.Mathlib.Omega.{arith}
 use Rattle.run.specs.Work.{PutTo}
 use Rattle.run.proofs.Laws.Table.{put-begin, put-more}
 use borrow.Author.Needs.{needs}
-use Rattle.run.proofs.table.put_kind.Statement.{statement}
-use Rattle.run.proofs.table.put_kind.Tie as tie
+use Rattle.run.proofs.table.put_series.Statement.{statement}
+use Rattle.run.proofs.table.put_series.Tie as tie
 
 abbrev Inv-loop : tie.InvT-loop
 Inv-loop table₀ j masks k₀ table k = (k ≤ 9) × PutTo k j masks table₀ table
@@ -54,8 +54,8 @@ returns c =
     let e : l .k ≡ 9 = omega (arith, l .inv .0, c .loop-test .left) in
     subst (λ (k : ℕ). PutTo k (a .j) (a .t3) (a .table .now) (l .table)) e (l .inv .1)
 
-pub put-kind-spec : {M : Type 1} → statement M
-put-kind-spec =
+pub put-series-spec : {M : Type 1} → statement M
+put-series-spec =
     tie.close
     (tie.spec
     Inv-loop

@@ -1,4 +1,4 @@
--- `scan`: place 0 noted, and then the places after it (`begun`).
+-- `note_ends`: place 0 noted, and then the places after it (`begun`).
 use mathlib.Core.Path.{_≡_, ap, _∙_}
 use mathlib.Core.List.{List}
 use Prim.Native.Nat.{ℕ, _-_}
@@ -13,8 +13,15 @@ use Rattle.run.specs.Work.{ruleMasks}
 use Rattle.run.proofs.Laws.Backs.{whole-backs}
 use Rattle.run.proofs.Laws.Table.{close-wide, tabled-of}
 use borrow.Author.Needs.{needs}
-use Rattle.run.proofs.ends.scan.Statement.{statement}
-use Rattle.run.proofs.ends.scan.Tie as tie
+use Rattle.run.proofs.ends.note_ends.Statement.{statement}
+use Rattle.run.proofs.ends.note_ends.Tie as tie
+
+-- where the function began, from the first states closed; these, from place 0 noted
+abbrev entry : tie.After-close → tie.Start
+entry c = c .before .before .before .before .before .before
+
+abbrev closed : tie.After-note → tie.After-close
+closed c = c .before .before .before .before .before
 
 sub-last : tie.Need-sub-last
 sub-last c = let P = c .before .before .before .before .pre .placed in omega (arith, own-states P, P .some)
@@ -30,8 +37,9 @@ slice-aggregate-is-live c = search needs
 
 is-live-requires : tie.Need-is-live-requires
 is-live-requires c κs =
-    let P = c .before .before .before .before .before .before .before .before .before .pre .placed in
-    let eight : length (c .before .before .before .close .result .words) ≡ 8 = search needs in
+    let q = c .before .before .before in
+    let P = entry q .pre .placed in
+    let eight : length (q .close .result .words) ≡ 8 = search needs in
     omega (arith, eight, own-states P, P .some, P .few)
 
 note-requires : tie.Need-note-requires
@@ -40,7 +48,7 @@ note-requires c κs = search needs
 run-over-requires : tie.Need-run-over-requires
 run-over-requires c κs =
     let n = c .before .before .before in
-    let s = c .before .before .before .before .before .before .before .before .before .before .before .before .before .before in
+    let s = entry (closed n) in
     let P = s .pre .placed in
     let I = within P in
     record {
@@ -58,9 +66,10 @@ returns c =
     let g = c .before .before in
     let n = g .before .before .before .before in
     let h = n .before in
-    let q = h .before .before .before .before .close in
-    let f = h .before .before .before .before .before .start in
-    let s = h .before .before .before .before .before .before .before .before .before .before in
+    let k = closed n in
+    let q = k .close in
+    let f = k .before .start in
+    let s = entry k in
     let a = s .args in
     let w = a .sections .width in
     let d = a .sections .depth in
@@ -72,14 +81,14 @@ returns c =
     let P = s .pre .placed in
     let eight : length (f .result .words) ≡ 8 = ap length (f .ensures) in
     let first : live ≡ closeWords M d (M .startMask) =
-    close-wide ws (fit-row ws (h .before .before .before .before .before .before .before .before .before .shared-slice-known .given)) (own-placed P) table (tabled-of table P (s .pre .tabled)) (own-width P) (own-depth P)
+    close-wide ws (fit-row ws (k .before .before .before .before .before .shared-slice-known .given)) (own-placed P) table (tabled-of table P (s .pre .tabled)) (own-width P) (own-depth P)
     (f .result .words) (q .result .words) (omega (arith, eight)) (q .ensures)
     ∙ ap (λ (x : List ℕ). closeWords M d (take w x)) (f .ensures) in
     begun M w d last (a .text .now) live (a .ends .now) first (h .is-live .result)
     (h .is-live .ensures ∙ take-bit w (q .result .words) last (omega (arith, within P .room, own-states P, P .some))) (n .note .ensures .0) (n .note .ensures .1) (g .run-over .ensures)
 
-pub scan-spec : {M : Type 1} → statement M
-scan-spec =
+pub note-ends-spec : {M : Type 1} → statement M
+note-ends-spec =
     tie.close
     (tie.spec
     sub-last

@@ -6,6 +6,13 @@ use borrow.Author.Needs.{needs}
 use Rattle.tokens_masks.proofs.lay_kinds.Statement.{statement}
 use Rattle.tokens_masks.proofs.lay_kinds.Tie as tie
 
+-- from the masks emptied again, the scan; from the scan, where the function began
+abbrev scanned : tie.After-blank2 → tie.After-scan-tape
+scanned c = c .before .before .before .before .before .before
+
+abbrev start : tie.After-scan-tape → tie.Start
+start c = c .before .before .before .before .before .before .before
+
 blank-requires : tie.Need-blank-requires
 blank-requires c κs = search needs
 
@@ -22,12 +29,16 @@ enum-told-2 : tie.Need-enum-told-2
 enum-told-2 c = search needs
 
 same-length : tie.Need-same-length
-same-length c = blank-held (c .before .before .before .before .before .before .before .before .scan-tape .ensures .1 .long) (c .before .before .blank2 .ensures) .long ∙ sym (c .before .before .before .before .before .before .before .before .before .before .before .before .before .before .before .pre)
+same-length c =
+    let b = c .before .before in
+    let s = scanned b in
+    blank-held (s .scan-tape .ensures .1 .long) (b .blank2 .ensures) .long ∙ sym (start s .pre)
 
 returns : tie.Need-returns
 returns c =
-    let s = c .before .before .before .before .before .before .before .before .scan-tape .ensures in
-    (s .0, kinds-other _ (s .0) (c .before .before .before .before .enum-told .given .1) (blank-held (s .1 .long) (c .before .before .blank2 .ensures)))
+    let b = c .before .before in
+    let s = scanned b .scan-tape .ensures in
+    (s .0, kinds-other _ (s .0) (b .before .before .enum-told .given .1) (blank-held (s .1 .long) (b .blank2 .ensures)))
 
 same-length-2 : tie.Need-same-length-2
 same-length-2 c = search needs

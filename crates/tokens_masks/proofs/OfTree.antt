@@ -35,8 +35,8 @@ use Rattle.tokens_masks.specs.Joins.{Either, joinTables, Only}
 use Rattle.tokens_masks.specs.Masks.{Joined, rowIn, tableIn}
 use Rattle.tokens_masks.specs.Says.{Laid, LettersSay, LoopsSay, MasksSay, PropagateSays, TreeOnTape, UnionsSay}
 use Rattle.tokens_masks.specs.Tables.{Table}
-use Rattle.tokens_masks.specs.Tapes.{bares, isTree, Kinds, propagateBlockTable, propagateSourceTable, propagateTargetTable, shapeOf, tableOf, tokensOf}
-use Rattle.tokens_masks.specs.declared.Shape.the-variants.{Other, Tree}
+use Rattle.tokens_masks.specs.Tapes.{bares, isTree, onTape, PlanesHold, propagateBlockTable, propagateSourceTable, propagateTargetTable, tableOf, tokensOf}
+use Rattle.tokens_masks.specs.declared.OnTape.the-variants.{Other, Tree}
 use Rattle.tokens_masks.specs.declared.Tape.{Tape}
 use Rattle.tokens_masks.proofs.Bare.{bares-lay, bares-length, bares-reach, bares-valid}
 use Rattle.tokens_masks.proofs.Deep.{deep, ofUnion}
@@ -68,8 +68,8 @@ module _ (s : tree.Tree) (t : Tape) (O : TreeOnTape s t) where
       (le→leb (t .length) 511 (omega (arith, O .tape .long, length-tokens s, O .few)))
       (subst T (sym (ap (λ (l : List Token). valid l begin) tokens-are ∙ bares-valid (tokens s []) begin)) (good-valid s (good .0) (good .1) (O .shallow)))
 
-  pub shape-is : shapeOf t ≡ Tree (depth s)
-  shape-is =
+  pub on-tape-is : onTape t ≡ Tree (depth s)
+  on-tape-is =
       ap₂ (λ (b : Bool) (n : ℕ). cond b (Tree n) Other) (is-true (isTree t) is-tree)
       (ap (λ (l : List Token). reach l begin) tokens-are ∙ bares-reach (tokens s []) begin ∙ reach-is s)
 
@@ -237,7 +237,7 @@ pub loops-say : (t : Tape) → LoopsSay t (getD (tableOf t loop-place) 0 [])
 loops-say t s O = loops-row s t O
 
 -- LAY OUT: the words hold what is laid out, and that is what document 01 puts there
-pub laid-of : {t : Tape} {ms ms′ : List ℕ} → Kinds t ms → Joined ms ms′ → Laid t ms′
+pub laid-of : {t : Tape} {ms ms′ : List ℕ} → PlanesHold t ms → Joined ms ms′ → Laid t ms′
 laid-of {t} {ms} {ms′} K J = record {
   letter-places = first 0 letter-place (J .below 0 (omega arith) ∙ K .held letter-place);
   loop-places = first 1 loop-place (J .below 1 (omega arith) ∙ K .held loop-place);

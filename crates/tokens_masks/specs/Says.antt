@@ -15,8 +15,8 @@ use Rattle.model.specs.Tree as tree
 use Rattle.tokens_masks.specs.Masks.{rowIn, tableIn}
 use Rattle.tokens_masks.specs.Tables.{Table}
 use Rattle.tokens_masks.specs.Tapes.{propagateBlockTable, propagateSourceTable, propagateTargetTable, tableOf, TapeOf}
-use Rattle.tokens_masks.specs.declared.Shape.{Shape}
-use Rattle.tokens_masks.specs.declared.Shape.the-variants.{Tree}
+use Rattle.tokens_masks.specs.declared.OnTape.{OnTape}
+use Rattle.tokens_masks.specs.declared.OnTape.the-variants.{Tree}
 use Rattle.tokens_masks.specs.declared.Tape.{Tape}
 
 -- the tree of a rule, "within 512 states and depth 8", and its tape
@@ -28,9 +28,9 @@ pub record TreeOnTape (s : tree.Tree) (t : Tape) : Type 0 where
   pub tape : TapeOf s t
 
 -- a tape is told to be a tree's exactly if it is one, with the tree's depth
-pub record ShapeSays (t : Tape) (shape : Shape) : Type 0 where
-  pub of-tree : (s : tree.Tree) → TreeOnTape s t → shape ≡ Tree (depth s)
-  pub some-tree : (d : ℕ) → shape ≡ Tree d → (s : tree.Tree) × TreeOnTape s t
+pub record OnTapeSays (t : Tape) (told : OnTape) : Type 0 where
+  pub of-tree : (s : tree.Tree) → TreeOnTape s t → told ≡ Tree (depth s)
+  pub some-tree : (d : ℕ) → told ≡ Tree d → (s : tree.Tree) × TreeOnTape s t
 
 -- the first rows are, in eight words, the masks of sets of the tree's states, one for each depth; the rows past them are 0
 pub record RowsAre (s : tree.Tree) (table : Table) (rows : ℕ) (sets : ℕ → ℕ → Bool) : Type 0 where

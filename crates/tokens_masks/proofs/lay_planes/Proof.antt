@@ -1,10 +1,10 @@
--- `lay_kinds`: of a tree's tape the scan has marked what is laid out, and any other has none.
+-- `lay_planes`: of a tree's tape the scan has marked what is laid out, and any other has none.
 use mathlib.Core.Path.{sym, _∙_}
 use Rattle.tokens_masks.proofs.InWords.{blank-held}
-use Rattle.tokens_masks.proofs.Scanning.{kinds-other, kinds-tree}
+use Rattle.tokens_masks.proofs.Scanning.{planes-other, planes-tree}
 use borrow.Author.Needs.{needs}
-use Rattle.tokens_masks.proofs.lay_kinds.Statement.{statement}
-use Rattle.tokens_masks.proofs.lay_kinds.Tie as tie
+use Rattle.tokens_masks.proofs.lay_planes.Statement.{statement}
+use Rattle.tokens_masks.proofs.lay_planes.Tie as tie
 
 -- from the masks emptied again, the scan; from the scan, where the function began
 abbrev scanned : tie.After-blank2 → tie.After-scan-tape
@@ -38,7 +38,7 @@ returns : tie.Need-returns
 returns c =
     let b = c .before .before in
     let s = scanned b .scan-tape .ensures in
-    (s .0, kinds-other _ (s .0) (b .before .before .enum-told .given .1) (blank-held (s .1 .long) (b .blank2 .ensures)))
+    (s .0, planes-other _ (s .0) (b .before .before .enum-told .given .1) (blank-held (s .1 .long) (b .blank2 .ensures)))
 
 same-length-2 : tie.Need-same-length-2
 same-length-2 c = search needs
@@ -46,7 +46,7 @@ same-length-2 c = search needs
 returns-2 : tie.Need-returns-2
 returns-2 c =
     let s = c .before .before .before .before .scan-tape .ensures in
-    (s .0, kinds-tree _ (s .0) (c .enum-told2 .given .1) (s .1))
+    (s .0, planes-tree _ (s .0) (c .enum-told2 .given .1) (s .1))
 
-pub lay-kinds-spec : {M : Type 1} → statement M
-lay-kinds-spec = tie.close (tie.spec blank-requires scan-tape-requires enum-told blank-requires-2 enum-told-2 same-length returns same-length-2 returns-2)
+pub lay-planes-spec : {M : Type 1} → statement M
+lay-planes-spec = tie.close (tie.spec blank-requires scan-tape-requires enum-told blank-requires-2 enum-told-2 same-length returns same-length-2 returns-2)

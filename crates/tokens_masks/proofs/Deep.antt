@@ -14,7 +14,7 @@ use Rattle.model.proofs.Laws.Bool.{and-split, or-split}
 use Rattle.model.proofs.Laws.Lists.{all-in, any-out}
 use Rattle.tokens_masks.proofs.Within.{close-all, letter-all}
 
--- the masks of unions, by the kinds' numbers: scatter's, gather's and the back edges'
+-- the planes of unions, by their numbers: scatter's, gather's and the back edges'
 abbrev ofUnionAt : ℕ → Bool
 ofUnionAt n = (leb 2 n && ltb n 8) || leb 11 n
 

@@ -1,5 +1,5 @@
 -- THE SCAN OVER A TAPE, as the loop goes: before token i the scan finds of what is still to come what the whole tape is and how deep it reaches, and in
--- the masks of every kind what is marked and what is still to come make the whole.
+-- every plane what is marked and what is still to come make the whole.
 use mathlib.Core.Path.{_≡_, refl, sym, ap, ap₂, _∙_, subst}
 use mathlib.Core.Bool.{Bool, true, false, cond}
 use mathlib.Core.List.{List}

@@ -50,7 +50,7 @@ deeperBy deepest depth anOpen = max deepest (suc depth)
 deeperBy deepest depth aBar = deepest
 deeperBy deepest depth (aClose m) = deepest
 
--- LAY OUT: the masks of kind w; none has a state where the tape is not a tree's
+-- LAY OUT: plane w; no mask has a state where the tape is not a tree's
 abbrev pub tableOf : Tape → Which → Table
 tableOf t w = cond (isTree t) (paintAll (tokensOf t) begin w blank) blank
 
@@ -64,11 +64,12 @@ propagateSourceTable t = joinTables Only (tableOf t leaving) (tableOf t entering
 abbrev pub propagateTargetTable : Tape → Table
 propagateTargetTable t = joinTables Only (tableOf t entering) (tableOf t leaving)
 
--- the words hold, plane by plane, what is laid out, before propagate's masks are joined; if the tape is a tree's, whatever else it is
+-- the words hold, plane by plane, what is laid out, before propagate's masks are joined
 pub record PlanesHold (t : Tape) (ms : List ℕ) : Type 0 where
   pub long : length ms ≡ 936
   pub held : (w : Which) → tableIn ms (number w) ≡ tableOf t w
 
+-- they do if the tape is a tree's; of any other nothing is said
 pub record ScanLays (t : Tape) (ms : List ℕ) : Type 0 where
   pub long : length ms ≡ 936
   pub held : T (isTree t) → (w : Which) → tableIn ms (number w) ≡ tableOf t w

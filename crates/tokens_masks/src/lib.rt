@@ -9,6 +9,7 @@ mod stroke;
 
 use crate::masks::blank;
 use crate::masks::join_propagate;
+use crate::plane::place_of;
 use crate::stroke::mark_token;
 use tokens::begin_scan;
 use tokens::fits;
@@ -21,7 +22,7 @@ use tokens::token::Token;
 ghost use mathlib.Core.Path.{_≡_};
 ghost use Prim.Native.Nat.{_<_, max};
 ghost use lib.ListN.{length};
-ghost use Rattle.tokens_masks.specs.Masks.{Blank, RowSays};
+ghost use Rattle.tokens_masks.specs.Masks.{Blank, planes, rowIn, rowNumber};
 ghost use Rattle.tokens_masks.specs.Says.{Laid, MasksSay, OnTapeSays};
 ghost use Rattle.tokens_masks.specs.Tapes.{deeperBy, onTape, PlanesHold, ScanLays};
 ghost use Rattle.tokens.specs.Tokens.{tokenOf};
@@ -125,17 +126,15 @@ pub fn lay_out(tape: Tape, masks: &mut [u64; 936]) -> OnTape
     on_tape
 }
 
-// One of the masks that lay out gives; past their end a mask without a state.
-pub fn row_of(masks: &[u64], row: usize) -> [u64; 8]
-    ensures { λ r. ⌜ RowSays (now (masks .entry)) row r ⌝ }
+// The mask of a depth and a plane, of those that lay out gives.
+pub fn row_of(masks: &[u64], depth: usize, plane: usize) -> [u64; 8]
+    requires { ⌜ (depth < 9) × (plane < planes) × (length (now masks) ≡ 936) ⌝ }
+    ensures { λ r. ⌜ r ≡ rowIn (now (masks .entry)) (rowNumber depth plane) ⌝ }
 {
     let mut words = [0u64; 8];
-    if row >= masks.len() / 8 {
-        return words;
-    }
     let mut j: usize = 0;
     while j < 8 {
-        words[j] = masks[8 * row + j];
+        words[j] = masks[place_of(depth, plane, j)];
         j += 1;
     }
     words

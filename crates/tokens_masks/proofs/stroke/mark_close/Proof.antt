@@ -5,6 +5,7 @@ use mathlib.Core.Path.{sym, ap, ap₂, _∙_}
 use Prim.Native.Nat.{ℕ, suc, _+_}
 use native.Mathlib.Numerals.{add-one}
 use native.Mathlib.Omega.{arith}
+use Rattle.model.specs.Models.LayOut.{back-source, gather-block, gather-source, gather-target, leaving, number, scatter-block}
 use Rattle.model.specs.Tree.{canOmit, canReturn}
 use Rattle.tokens.specs.Scans.{frameOf}
 use Rattle.tokens.specs.Tokens.{markOf}
@@ -100,23 +101,23 @@ returns c =
     let z = a .position in
     let f = frameOf (a .frame) in
     let m = markOf (a .shown) in
-    let ended : List ℕ → ℕ → ℕ → ℕ → List ℕ = λ l b n x. runIn (runIn (runIn (runIn l 2 d b (suc b)) 5 d n x) 6 d z (suc z)) 7 d x (suc x) in
+    let ended : List ℕ → ℕ → ℕ → ℕ → List ℕ = λ l b n x. runIn (runIn (runIn (runIn l (number scatter-block) d b (suc b)) (number gather-block) d n x) (number gather-source) d z (suc z)) (number gather-target) d x (suc x) in
     r .mark-edge2 .ensures
-    ∙ ap₂ (λ (l : List ℕ) (b : Bool). cond b (edgeIn l 11 d z (a .frame .start + 1)) l)
+    ∙ ap₂ (λ (l : List ℕ) (b : Bool). cond b (edgeIn l (number back-source) d z (a .frame .start + 1)) l)
     (v .mark-edge .ensures
-    ∙ ap₂ (λ (l : List ℕ) (b : Bool). cond b (edgeIn l 9 d (f .start) (z + 1)) l)
+    ∙ ap₂ (λ (l : List ℕ) (b : Bool). cond b (edgeIn l (number leaving) d (f .start) (z + 1)) l)
     (t .mark3 .ensures
-    ∙ ap (λ (l : List ℕ). runIn l 7 d (z + 1) (suc (z + 1)))
+    ∙ ap (λ (l : List ℕ). runIn l (number gather-target) d (z + 1) (suc (z + 1)))
     (o .mark2 .ensures
-    ∙ ap (λ (l : List ℕ). runIn l 6 d z (suc z))
+    ∙ ap (λ (l : List ℕ). runIn l (number gather-source) d z (suc z))
     (g .mark-run .ensures
-    ∙ ap₂ (λ (l : List ℕ) (n : ℕ). runIn l 5 d n (z + 1)) (s .mark .ensures) (g .before .before .first-end-of .ensures))))
+    ∙ ap₂ (λ (l : List ℕ) (n : ℕ). runIn l (number gather-block) d n (z + 1)) (s .mark .ensures) (g .before .before .first-end-of .ensures))))
     (v .before .can-omit .ensures))
     (k .can-return .ensures)
     ∙ (λ i. let x = add-one z i in
     let e = ended ms (add-one (f .alternative) i) (cond (f .barred) (f .firstEnd) z) x in
-    let o = cond (canOmit m) (edgeIn e 9 d (f .start) x) e in
-    cond (canReturn m) (edgeIn o 11 d z (add-one (f .start) i)) o)
+    let o = cond (canOmit m) (edgeIn e (number leaving) d (f .start) x) e in
+    cond (canReturn m) (edgeIn o (number back-source) d z (add-one (f .start) i)) o)
     ∙ sym (close-in m f z d ms)
 
 pub mark-close-spec : {M : Type 1} → statement M

@@ -4,6 +4,7 @@ use mathlib.Core.List.{List}
 use mathlib.Core.Path.{sym, ap, ap₂, _∙_}
 use Prim.Native.Nat.{ℕ, suc, _+_}
 use native.Mathlib.Numerals.{add-one}
+use Rattle.model.specs.Models.LayOut.{leaving, letter-place, loop-place, number}
 use Rattle.model.specs.Tree.{canLoop, canSkip}
 use Rattle.tokens.specs.Tokens.{repeatOf}
 use Rattle.tokens_masks.proofs.Strokes.{letter-in}
@@ -59,11 +60,11 @@ returns c =
     let r = repeatOf (a .repeat) in
     let t = a .position in
     e .mark-edge .ensures
-    ∙ ap₂ (λ (l : List ℕ) (b : Bool). cond b (edgeIn l 9 (a .depth) t (t + 1)) l)
+    ∙ ap₂ (λ (l : List ℕ) (b : Bool). cond b (edgeIn l (number leaving) (a .depth) t (t + 1)) l)
     (o .mark-if .ensures
-    ∙ ap₂ (λ (l : List ℕ) (b : Bool). cond b (runIn l 1 0 (t + 1) (suc (t + 1))) l) (p .mark .ensures) (o .before .can-loop .ensures))
+    ∙ ap₂ (λ (l : List ℕ) (b : Bool). cond b (runIn l (number loop-place) 0 (t + 1) (suc (t + 1))) l) (p .mark .ensures) (o .before .can-loop .ensures))
     (e .before .can-skip .ensures)
-    ∙ ap (λ (x : ℕ). let l = runIn ms 0 0 x (suc x) in let o = cond (canLoop r) (runIn l 1 0 x (suc x)) l in cond (canSkip r) (edgeIn o 9 (a .depth) t x) o) (add-one t)
+    ∙ ap (λ (x : ℕ). let l = runIn ms (number letter-place) 0 x (suc x) in let o = cond (canLoop r) (runIn l (number loop-place) 0 x (suc x)) l in cond (canSkip r) (edgeIn o (number leaving) (a .depth) t x) o) (add-one t)
     ∙ sym (letter-in r t (a .depth) ms)
 
 pub mark-letter-spec : {M : Type 1} → statement M

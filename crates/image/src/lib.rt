@@ -8,7 +8,7 @@ mod tape;
 use crate::sections::put_image;
 use crate::tape::tape_of;
 use image_sections::sections_of;
-use tokens_masks::Shape;
+use tokens_masks::OnTape;
 use tokens_masks::lay_out;
 ghost use Rattle.image.specs.Says.{OfRule, StoreSays};
 
@@ -28,7 +28,7 @@ pub fn store(tokens: [u64; 2555], length: usize, words: &mut [u64]) -> Stored
     let tape = tape_of(tokens, length);
     let mut masks = [0u64; 936];
     let shape = lay_out(tape, &mut masks);
-    let Shape::Tree(depth) = shape else {
+    let OnTape::Tree(depth) = shape else {
         return Stored::TooDeep;
     };
     let sections = sections_of(length + 1, depth);

@@ -14,9 +14,9 @@ use Rattle.model.specs.Tree as tree
 use Rattle.model.proofs.Laws.Bool.{le-or-lt}
 use Rattle.image_sections.specs.Sections.{sectionsOf}
 use Rattle.image_sections.specs.declared.Sections.{Sections}
-use Rattle.tokens_masks.specs.Says.{ShapeSays, TreeOnTape}
-use Rattle.tokens_masks.specs.declared.Shape.{Shape}
-use Rattle.tokens_masks.specs.declared.Shape.the-variants.{Other, Tree}
+use Rattle.tokens_masks.specs.Says.{OnTapeSays, TreeOnTape}
+use Rattle.tokens_masks.specs.declared.OnTape.{OnTape}
+use Rattle.tokens_masks.specs.declared.OnTape.the-variants.{Other, Tree}
 use Rattle.tokens_masks.specs.declared.Tape.{Tape}
 use Rattle.image.specs.Says.{no-room, stored, StoreSays, TokensOf, too-deep, TreeSays}
 use Rattle.image.specs.Work.{imageWords, KindsAre}
@@ -37,18 +37,18 @@ written-first before ws h =
     sets-eq ws before 0 (omega arith) ∙ ap (λ (k : ℕ). ws ++ drop k before) z
 
 -- the tape of the first n tokens of a row, and what it was told to be
-pub record Taped (row : List ℕ) (n : ℕ) (tape : Tape) (shape : Shape) : Type 0 where
+pub record Taped (row : List ℕ) (n : ℕ) (tape : Tape) (shape : OnTape) : Type 0 where
   pub long : tape .length ≡ n
   pub kinds : KindsAre row (tape .kinds)
   pub room : length (tape .kinds) ≡ 512
-  pub says : ShapeSays tape shape
+  pub says : OnTapeSays tape shape
 
 -- f is how a kind lies in memory
-pub taped : (row : List ℕ) (tape : Tape) {n : ℕ} {shape : Shape} {A : Type 0} (f : ℕ → A) → tape .length ≡ n → KindsAre row (tape .kinds)
-    → length (map f (tape .kinds)) ≡ 512 → ShapeSays tape shape → Taped row n tape shape
+pub taped : (row : List ℕ) (tape : Tape) {n : ℕ} {shape : OnTape} {A : Type 0} (f : ℕ → A) → tape .length ≡ n → KindsAre row (tape .kinds)
+    → length (map f (tape .kinds)) ≡ 512 → OnTapeSays tape shape → Taped row n tape shape
 taped row tape f l k e S = record { long = l; kinds = k; room = sym (length-map (tape .kinds) f) ∙ e; says = S }
 
-module _ {row : List ℕ} {n : ℕ} {tape : Tape} {shape : Shape} (T : Taped row n tape shape) where
+module _ {row : List ℕ} {n : ℕ} {tape : Tape} {shape : OnTape} (T : Taped row n tape shape) where
   all-tokens : (t : tree.Tree) → TokensOf t row n → TokensOf t row (tape .length)
   all-tokens t R = subst (TokensOf t row) (sym (T .long)) R
 

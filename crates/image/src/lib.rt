@@ -10,7 +10,7 @@ use crate::tape::tape_of;
 use answers::Answer;
 use answers::Refusal;
 use image_sections::sections_of;
-use tokens_masks::Shape;
+use tokens_masks::OnTape;
 use tokens_masks::lay_out;
 ghost use Rattle.answers.specs.Answers.{answered};
 ghost use Rattle.image.specs.Says.{OfRule, StoreSays};
@@ -22,8 +22,8 @@ pub fn store(tokens: [u64; 2555], length: usize, words: &mut [u64]) -> Answer
 {
     let tape = tape_of(tokens, length);
     let mut masks = [0u64; 936];
-    let shape = lay_out(tape, &mut masks);
-    let Shape::Tree(depth) = shape else {
+    let laid = lay_out(tape, &mut masks);
+    let OnTape::Tree(depth) = laid else {
         return Answer::Refused(Refusal::TooDeep);
     };
     let sections = sections_of(length + 1, depth);

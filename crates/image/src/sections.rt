@@ -15,9 +15,10 @@ ghost use mathlib.Core.Path.{_≡_};
 ghost use Prim.Native.Nat.{_+_, _-_, _*_, _≤_, _<_};
 ghost use lib.ListN.{length as lengthOf, take};
 ghost use lib.Seq.{sets};
+ghost use Rattle.model.specs.Models.LayOut.{back-source, back-target, number};
 ghost use Rattle.model.specs.Models.Sections.{lettersAt};
 ghost use Rattle.image_sections.specs.Sections.{Within};
-ghost use Rattle.tokens_masks.specs.Masks.{tableIn};
+ghost use Rattle.tokens_masks.specs.Masks.{planes, tableIn};
 ghost use Rattle.tokens_masks.specs.Says.{Laid};
 ghost use Rattle.image.specs.Work.{backPart, imageWords, shapePart, tablesPart, threeRows, twoRows};
 
@@ -70,7 +71,7 @@ fn put_shape(words: &mut [u64], sections: Sections)
     words[3] = sections.depth as u64;
 }
 
-// Three masks for each of the first depths, those of kind `first` and of the two after it.
+// Three masks for each of the first depths, those of plane `first` and of the two after it.
 fn put_tables(
     words: &mut [u64],
     at: usize,
@@ -79,15 +80,15 @@ fn put_tables(
     first: usize,
     masks: &[u64],
 )
-    requires { ⌜ (width ≤ 8) × (depths ≤ 9) × (1 ≤ at) × (at + width * (3 * depths) ≤ lengthOf (now words)) × (first < 11) × (lengthOf (now masks) ≡ 936) ⌝ }
+    requires { ⌜ (width ≤ 8) × (depths ≤ 9) × (1 ≤ at) × (at + width * (3 * depths) ≤ lengthOf (now words)) × (first + 2 < planes) × (lengthOf (now masks) ≡ 936) ⌝ }
     ensures { λ r. ⌜ now (words .exit) ≡ sets (now (words .entry)) (at - 1) (tablesPart width depths (tableIn (now (masks .entry)) first) (tableIn (now (masks .entry)) (first + 1)) (tableIn (now (masks .entry)) (first + 2))) ⌝ }
 {
     words[at - 1] = (3 * width * depths) as u64;
     let mut k: usize = 0;
     while k < depths {
-        let block = row_of(masks, 13 * k + first);
-        let source = row_of(masks, 13 * k + first + 1);
-        let target = row_of(masks, 13 * k + first + 2);
+        let block = row_of(masks, k, first);
+        let source = row_of(masks, k, first + 1);
+        let target = row_of(masks, k, first + 2);
         put_three(words, at + 3 * width * k, width, block, source, target);
         k += 1;
     }
@@ -96,13 +97,13 @@ fn put_tables(
 // "the back edges as two masks, source and target", for each of the first depths.
 fn put_back(words: &mut [u64], at: usize, width: usize, depths: usize, masks: &[u64])
     requires { ⌜ (width ≤ 8) × (depths ≤ 9) × (1 ≤ at) × (at + width * (2 * depths) ≤ lengthOf (now words)) × (lengthOf (now masks) ≡ 936) ⌝ }
-    ensures { λ r. ⌜ now (words .exit) ≡ sets (now (words .entry)) (at - 1) (backPart width depths (tableIn (now (masks .entry)) 11) (tableIn (now (masks .entry)) 12)) ⌝ }
+    ensures { λ r. ⌜ now (words .exit) ≡ sets (now (words .entry)) (at - 1) (backPart width depths (tableIn (now (masks .entry)) (number back-source)) (tableIn (now (masks .entry)) (number back-target))) ⌝ }
 {
     words[at - 1] = (2 * width * depths) as u64;
     let mut k: usize = 0;
     while k < depths {
-        let source = row_of(masks, 13 * k + BACK_SOURCE);
-        let target = row_of(masks, 13 * k + BACK_TARGET);
+        let source = row_of(masks, k, BACK_SOURCE);
+        let target = row_of(masks, k, BACK_TARGET);
         put_two(words, at + 2 * width * k, width, source, target);
         k += 1;
     }
@@ -123,7 +124,7 @@ pub fn put_image(
     let letters = sections.letters;
     let width = sections.width;
     let depth = sections.depth;
-    let loops = row_of(masks, LOOP_PLACE);
+    let loops = row_of(masks, 0, LOOP_PLACE);
     put_shape(words, sections);
     put_letters(words, letters, width, &tokens, tape.length);
     put_repeats(words, letters, sections.repeats, width, loops);

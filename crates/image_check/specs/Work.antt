@@ -7,7 +7,7 @@ use Rattle.model.specs.Image.{join}
 use Rattle.model.specs.Models.LayOut.{back-source, back-target, gather-block, gather-source, gather-target, letter-place, loop-place, scatter-block, scatter-source, scatter-target}
 use Rattle.model.specs.Models.Verdict.{sameWords}
 use Rattle.model.specs.Models.Words.{andWords}
-use Rattle.tokens_masks.specs.Masks.{rowIn}
+use Rattle.tokens_masks.specs.Masks.{rowIn, rowNumber}
 use Rattle.tokens_masks.specs.Tables.{Table}
 use Rattle.tokens_masks.specs.Tapes.{propagateBlockTable, propagateSourceTable, propagateTargetTable, tableOf}
 use Rattle.tokens_masks.specs.declared.Tape.{Tape}
@@ -19,9 +19,9 @@ use Rattle.image_apart.specs.Work.{wordsAt}
 abbrev pub sameRepeats : List ℕ → (letters repeats W : ℕ) → List ℕ → Bool
 sameRepeats ws letters repeats W loops = sameWords (wordsAt ws repeats (W * 256)) (join 256 0 (λ b. andWords (wordsAt ws (letters + W * b) W) loops))
 
--- of the masks of one depth k, `count` from the one of number `first` on; and those of all depths, from a place on
+-- the masks of one depth k, of `count` planes from `first` on; and those of all depths, from a place on
 abbrev pub depthMasks : (W first count : ℕ) (masks : List ℕ) → ℕ → List ℕ
-depthMasks W first count masks k = join count 0 (λ i. take W (rowIn masks (13 * k + first + i)))
+depthMasks W first count masks k = join count 0 (λ i. take W (rowIn masks (rowNumber k (first + i))))
 
 abbrev pub sameMasks : List ℕ → (at W depths first count : ℕ) → List ℕ → Bool
 sameMasks ws at W depths first count masks = sameWords (wordsAt ws at (count * W * depths)) (join depths 0 (depthMasks W first count masks))

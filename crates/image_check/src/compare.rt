@@ -8,12 +8,14 @@ use tokens_masks::plane::LETTER_PLACE;
 use tokens_masks::plane::LOOP_PLACE;
 use tokens_masks::plane::PROPAGATE_BLOCK;
 use tokens_masks::plane::SCATTER_BLOCK;
+use tokens_masks::plane::place_of;
 use tokens_masks::row_of;
 ghost use mathlib.Core.Path.{_≡_};
 ghost use mathlib.Core.Bool.{not};
 ghost use Prim.Native.Nat.{_+_, _*_, _≤_};
 ghost use lib.ListN.{length as lengthOf};
 ghost use Rattle.image_sections.specs.Sections.{Within};
+ghost use Rattle.tokens_masks.specs.Masks.{planes};
 ghost use Rattle.tokens_masks.specs.Says.{Laid};
 ghost use Rattle.image_check.specs.Work.{sameAll, sameMasks, sameRepeats};
 
@@ -41,7 +43,7 @@ fn repeats_differ(words: &[u64], sections: Sections, loops: [u64; 8]) -> bool
     differ
 }
 
-// Masks for each of the first depths, from a place on, with those laid out: `count` kinds of them, from `first` on. By depths, masks and words.
+// Masks for each of the first depths, from a place on, with those laid out: those of `count` planes, from `first` on. By depths, masks and words.
 fn masks_differ(
     words: &[u64],
     at: usize,
@@ -51,7 +53,7 @@ fn masks_differ(
     count: usize,
     masks: &[u64],
 ) -> bool
-    requires { ⌜ (width ≤ 8) × (depths ≤ 9) × (first + count ≤ 13) × (at + count * width * depths ≤ lengthOf (now words)) × (lengthOf (now masks) ≡ 936) ⌝ }
+    requires { ⌜ (width ≤ 8) × (depths ≤ 9) × (first + count ≤ planes) × (at + count * width * depths ≤ lengthOf (now words)) × (lengthOf (now masks) ≡ 936) ⌝ }
     ensures { λ r. ⌜ r ≡ not (sameMasks (now (words .entry)) at width depths first count (now (masks .entry))) ⌝ }
 {
     let mut differ = false;
@@ -62,7 +64,7 @@ fn masks_differ(
             let mut j: usize = 0;
             while j < width {
                 if words[at + (count * k + which) * width + j]
-                    != masks[8 * (13 * k + first + which) + j]
+                    != masks[place_of(k, first + which, j)]
                 {
                     differ = true;
                     break 'search;
@@ -90,11 +92,11 @@ pub fn agrees(
 {
     let width = sections.width;
     let depth = sections.depth;
-    let letter_places = row_of(masks, LETTER_PLACE);
+    let letter_places = row_of(masks, 0, LETTER_PLACE);
     if !same_rows(letters, letter_places) {
         return false;
     }
-    let loop_places = row_of(masks, LOOP_PLACE);
+    let loop_places = row_of(masks, 0, LOOP_PLACE);
     if repeats_differ(words, sections, loop_places) {
         return false;
     }

@@ -8,7 +8,7 @@ use crate::compare::agrees;
 use image_apart::take_apart;
 use image_sections::Header;
 use image_sections::Sections;
-use tokens_masks::Shape;
+use tokens_masks::OnTape;
 use tokens_masks::Tape;
 use tokens_masks::lay_out;
 ghost use mathlib.Core.Path.{_≡_};
@@ -50,8 +50,8 @@ pub fn check(words: &[u64]) -> Checked
     };
     let tape = parts.tape;
     let mut masks = [0u64; 936];
-    let shape = lay_out(tape, &mut masks);
-    let Shape::Tree(deepest) = shape else {
+    let on_tape = lay_out(tape, &mut masks);
+    let OnTape::Tree(deepest) = on_tape else {
         return refuse();
     };
     if deepest != sections.depth {

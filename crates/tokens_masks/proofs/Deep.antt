@@ -8,15 +8,16 @@ use native.Mathlib.Omega.{arith}
 use lib.Dec.{T, eqb, eqb→eq, leb, ltb}
 use lib.ListN.{length}
 use Rattle.model.specs.Lists.{All}
-use Rattle.model.specs.Models.LayOut.{afterBar, afterClose, back-source, back-target, barStrokesIn, closeStrokesIn, covers, entering, Frame, gather-source, gather-target, layOut, leaving, mark, marks, number, oneState, reach, sameKind, Scan, scatter-source, scatter-target, step, Stroke, strokes, Which}
+use Rattle.model.specs.Models.LayOut.{afterBar, afterClose, back-source, back-target, barStrokesIn, closeStrokesIn, covers, entering, Frame, gather-source, gather-target, layOut, leaving, mark, marks, number, oneState, reach, sameKind, Scan, scatter-block, scatter-source, scatter-target, step, Stroke, strokes, Which}
 use Rattle.model.specs.Models.Tokens.{aBar, aClose, aLetter, anOpen, Token}
 use Rattle.model.proofs.Laws.Bool.{and-split, or-split}
 use Rattle.model.proofs.Laws.Lists.{all-in, any-out}
+use Rattle.tokens_masks.specs.Masks.{blockPlane}
 use Rattle.tokens_masks.proofs.Within.{close-all, letter-all}
 
--- the masks of unions, by the kinds' numbers: scatter's, gather's and the back edges'
+-- the planes of unions, by their numbers: scatter's, gather's and the back edges'
 abbrev ofUnionAt : ℕ → Bool
-ofUnionAt n = (leb 2 n && ltb n 8) || leb 11 n
+ofUnionAt n = (leb (number scatter-block) n && ltb n blockPlane) || leb (number back-source) n
 
 abbrev pub ofUnion : Which → Bool
 ofUnion w = ofUnionAt (number w)

@@ -1,5 +1,5 @@
 -- MASKS IN A ROW OF WORDS: a state that is marked in one row is marked in the table that has this row, and no other table changes. So strokes, painted
--- one after another into the words, are painted into the table of each kind.
+-- one after another into the words, are painted into the table of each plane.
 use mathlib.Core.Path.{_≡_, refl, sym, ap, _∙_, subst}
 use mathlib.Core.Bool.{Bool, true, false, cond}
 use mathlib.Core.List.{List, [], _∷_}
@@ -14,8 +14,8 @@ use lib.Seq.{ext-getD, getD-drop, getD-set-other, getD-set-same, getD-take, leng
 use Rattle.model.specs.Models.LayOut.{back-source, back-target, entering, gather-block, gather-source, gather-target, leaving, letter-place, loop-place, number, sameKind, scatter-block, scatter-source, scatter-target, Stroke, Which}
 use Rattle.model.specs.Lists.{All}
 use Rattle.model.specs.Models.Words.{putBit}
-use Rattle.tokens_masks.specs.Masks.{Blank, markRow, paint, rowIn, rowsFrom, runIn, runRow, tableIn}
-use Rattle.tokens_masks.specs.Tables.{blank, markRun, markState, paintKind, paintStroke, Table}
+use Rattle.tokens_masks.specs.Masks.{Blank, markRow, paint, planes, rowIn, rowNumber, rowsFrom, runIn, runRow, tableIn}
+use Rattle.tokens_masks.specs.Tables.{blank, markRun, markState, paintPlane, paintStroke, Table}
 use Rattle.tokens_masks.proofs.Within.{Within}
 
 -- ---- rows
@@ -67,23 +67,23 @@ module _ (ms : List ℕ) (r x : ℕ) (hx : x < 512) (fits : 8 * r + 8 ≤ length
       word j h = row-word after s j h ∙ getD-set-other ms at (8 * s + j) _ 0 (λ q. d (omega arith)) ∙ sym (row-word ms s j h)
 
 -- ---- tables
-rows-at : (n k₀ : ℕ) (ms : List ℕ) (i k : ℕ) → k < n → getD (rowsFrom n k₀ ms i) k [] ≡ rowIn ms (13 * (k₀ + k) + i)
+rows-at : (n k₀ : ℕ) (ms : List ℕ) (i k : ℕ) → k < n → getD (rowsFrom n k₀ ms i) k [] ≡ rowIn ms (rowNumber (k₀ + k) i)
 rows-at zero k₀ ms i k h = absurd (not-suc-le-zero h)
-rows-at (suc n) k₀ ms i zero h = let e : k₀ ≡ k₀ + 0 = omega arith in ap (λ (k : ℕ). rowIn ms (13 * k + i)) e
+rows-at (suc n) k₀ ms i zero h = let e : k₀ ≡ k₀ + 0 = omega arith in ap (λ (k : ℕ). rowIn ms (rowNumber k i)) e
 rows-at (suc n) k₀ ms i (suc k) h =
-    rows-at n (suc k₀) ms i k (le-of-suc-le-suc h) ∙ (let e : suc k₀ + k ≡ k₀ + suc k = omega arith in ap (λ (j : ℕ). rowIn ms (13 * j + i)) e)
+    rows-at n (suc k₀) ms i k (le-of-suc-le-suc h) ∙ (let e : suc k₀ + k ≡ k₀ + suc k = omega arith in ap (λ (j : ℕ). rowIn ms (rowNumber j i)) e)
 
 pub table-long : (ms : List ℕ) (i : ℕ) → length (tableIn ms i) ≡ 9
 unfolding tableIn
 table-long ms i = refl
 
-pub table-row : (ms : List ℕ) (i k : ℕ) → k < 9 → getD (tableIn ms i) k [] ≡ rowIn ms (13 * k + i)
+pub table-row : (ms : List ℕ) (i k : ℕ) → k < 9 → getD (tableIn ms i) k [] ≡ rowIn ms (rowNumber k i)
 unfolding tableIn
-table-row ms i k h = rows-at 9 0 ms i k h ∙ ap (λ (j : ℕ). rowIn ms (13 * j + i)) (zero-add k)
+table-row ms i k h = rows-at 9 0 ms i k h ∙ ap (λ (j : ℕ). rowIn ms (rowNumber j i)) (zero-add k)
 
-module _ (ms : List ℕ) (long : length ms ≡ 936) (i k x : ℕ) (hi : i < 13) (hk : k < 9) (hx : x < 512) where
+module _ (ms : List ℕ) (long : length ms ≡ 936) (i k x : ℕ) (hi : i < planes) (hk : k < 9) (hx : x < 512) where
   abbrev r : ℕ
-  r = 13 * k + i
+  r = rowNumber k i
 
   fits : 8 * r + 8 ≤ length ms
   fits = omega arith
@@ -103,17 +103,17 @@ module _ (ms : List ℕ) (long : length ms ≡ 936) (i k x : ℕ) (hi : i < 13) 
       go j h false e =
           let d = eqb-false j k e in
           table-row (markRow ms r x) i j h
-          ∙ row-other ms r x hx fits (13 * j + i) (λ q. d (omega arith)) (omega arith)
+          ∙ row-other ms r x hx fits (rowNumber j i) (λ q. d (omega arith)) (omega arith)
           ∙ sym (getD-set-other (tableIn ms i) k j _ [] d ∙ table-row ms i j h)
 
-  mark-other : (v : ℕ) → v < 13 → (v ≡ i → ⊥) → tableIn (markRow ms r x) v ≡ tableIn ms v
+  mark-other : (v : ℕ) → v < planes → (v ≡ i → ⊥) → tableIn (markRow ms r x) v ≡ tableIn ms v
   mark-other v hv d =
       ext-getD [] (tableIn (markRow ms r x) v) (tableIn ms v) (table-long (markRow ms r x) v ∙ sym (table-long ms v))
       (λ j l. row j (omega (arith, table-long (markRow ms r x) v)))
     where
       row : (j : ℕ) → j < 9 → getD (tableIn (markRow ms r x) v) j [] ≡ getD (tableIn ms v) j []
       row j h =
-          table-row (markRow ms r x) v j h ∙ row-other ms r x hx fits (13 * j + v) (λ q. d (omega arith)) (omega arith) ∙ sym (table-row ms v j h)
+          table-row (markRow ms r x) v j h ∙ row-other ms r x hx fits (rowNumber j v) (λ q. d (omega arith)) (omega arith) ∙ sym (table-row ms v j h)
 
 -- ---- a run of states
 pub run-long : (n : ℕ) (ms : List ℕ) (r x : ℕ) → length (runRow n ms r x) ≡ length ms
@@ -135,21 +135,21 @@ run-end ms r x z h = let e : z - x ≡ 0 = omega arith in ap (λ (n : ℕ). runR
 abbrev States : ℕ → ℕ → Type 0
 States n x = (y : ℕ) → x ≤ y → y < x + n → y < 512
 
-module _ (i k : ℕ) (hi : i < 13) (hk : k < 9) where
-  run-same : (n : ℕ) (ms : List ℕ) (x : ℕ) → length ms ≡ 936 → States n x → tableIn (runRow n ms (13 * k + i) x) i ≡ markRun n (tableIn ms i) k x
+module _ (i k : ℕ) (hi : i < planes) (hk : k < 9) where
+  run-same : (n : ℕ) (ms : List ℕ) (x : ℕ) → length ms ≡ 936 → States n x → tableIn (runRow n ms (rowNumber k i) x) i ≡ markRun n (tableIn ms i) k x
   run-same zero ms x l h = refl
   run-same (suc n) ms x l h =
-      run-same n (markRow ms (13 * k + i) x) (suc x) (length-set ms _ _ ∙ l) (λ y a b. h y (omega arith) (omega arith))
+      run-same n (markRow ms (rowNumber k i) x) (suc x) (length-set ms _ _ ∙ l) (λ y a b. h y (omega arith) (omega arith))
       ∙ ap (λ (t : Table). markRun n t k (suc x)) (mark-same ms l i k x hi hk (h x (omega arith) (omega arith)))
 
-  run-other : (n : ℕ) (ms : List ℕ) (x : ℕ) → length ms ≡ 936 → States n x → (v : ℕ) → v < 13 → (v ≡ i → ⊥) → tableIn (runRow n ms (13 * k + i) x) v ≡ tableIn ms v
+  run-other : (n : ℕ) (ms : List ℕ) (x : ℕ) → length ms ≡ 936 → States n x → (v : ℕ) → v < planes → (v ≡ i → ⊥) → tableIn (runRow n ms (rowNumber k i) x) v ≡ tableIn ms v
   run-other zero ms x l h v hv d = refl
   run-other (suc n) ms x l h v hv d =
-      run-other n (markRow ms (13 * k + i) x) (suc x) (length-set ms _ _ ∙ l) (λ y a b. h y (omega arith) (omega arith)) v hv d
+      run-other n (markRow ms (rowNumber k i) x) (suc x) (length-set ms _ _ ∙ l) (λ y a b. h y (omega arith) (omega arith)) v hv d
       ∙ mark-other ms l i k x hi hk (h x (omega arith) (omega arith)) v hv d
 
 -- ---- strokes
-pub number-small : (w : Which) → number w < 13
+pub number-small : (w : Which) → number w < planes
 number-small letter-place = omega arith
 number-small loop-place = omega arith
 number-small scatter-block = omega arith
@@ -165,7 +165,7 @@ number-small back-target = omega arith
 
 pub paint-long : (ss : List Stroke) (ms : List ℕ) → length (paint ss ms) ≡ length ms
 paint-long [] ms = refl
-paint-long (s ∷ ss) ms = paint-long ss _ ∙ run-long (s .to - s .from) ms (13 * s .row + number (s .which)) (s .from)
+paint-long (s ∷ ss) ms = paint-long ss _ ∙ run-long (s .to - s .from) ms (rowNumber (s .row) (number (s .which))) (s .from)
 
 module _ (w : Which) where
   one-held : (s : Stroke) (ms : List ℕ) → length ms ≡ 936 → Within s
@@ -185,9 +185,9 @@ module _ (w : Which) where
           ∙ run-same (number w) (s .row) (number-small w) (W .0) (s .to - s .from) ms (s .from) l states
       go false e d = run-other (number v) (s .row) (number-small v) (W .0) (s .to - s .from) ms (s .from) l states (number w) (number-small w) (λ q. d refl (sym q))
 
-  pub paint-held : (ss : List Stroke) (ms : List ℕ) → length ms ≡ 936 → All Within ss → tableIn (paint ss ms) (number w) ≡ paintKind w ss (tableIn ms (number w))
+  pub paint-held : (ss : List Stroke) (ms : List ℕ) → length ms ≡ 936 → All Within ss → tableIn (paint ss ms) (number w) ≡ paintPlane w ss (tableIn ms (number w))
   paint-held [] ms l W = refl
-  paint-held (s ∷ ss) ms l W = paint-held ss _ (paint-long (s ∷ []) ms ∙ l) (W .1) ∙ ap (paintKind w ss) (one-held s ms l (W .0))
+  paint-held (s ∷ ss) ms l W = paint-held ss _ (paint-long (s ∷ []) ms ∙ l) (W .1) ∙ ap (paintPlane w ss) (one-held s ms l (W .0))
 
 -- ---- no state
 pub blank-held : {n : ℕ} {ms : List ℕ} → n ≡ 936 → ms ≡ replicate n 0 → Blank ms
@@ -206,4 +206,4 @@ blank-held {n} {ms} l p = let e = p ∙ ap (λ (k : ℕ). replicate k 0) l in re
     none w =
         ext-getD [] (tableIn zeros (number w)) blank (table-long zeros (number w) ∙ sym (length-replicate 9 (replicate {A = ℕ} 8 0)))
         (λ k l. let h : k < 9 = omega (arith, table-long zeros (number w)) in
-        table-row zeros (number w) k h ∙ row (13 * k + number w) (omega (arith, number-small w)) ∙ sym (getD-replicate 9 k (replicate {A = ℕ} 8 0) [] h))
+        table-row zeros (number w) k h ∙ row (rowNumber k (number w)) (omega (arith, number-small w)) ∙ sym (getD-replicate 9 k (replicate {A = ℕ} 8 0) [] h))

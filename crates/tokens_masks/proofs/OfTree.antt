@@ -4,7 +4,6 @@ use mathlib.Core.Path.{_≡_, refl, sym, ap, ap₂, _∙_, subst}
 use mathlib.Core.Bool.{Bool, false, _&&_, _||_, cond, not}
 use mathlib.Core.List.{List, []}
 use Prim.Native.Nat.{ℕ, zero, suc, _+_, _*_, _≤_, _<_}
-use native.Mathlib.Nat.{zero-add}
 use native.Mathlib.Omega.{arith}
 use lib.Dec.{T, le→leb, leb}
 use lib.ListN.{getD, length, replicate}
@@ -12,7 +11,7 @@ use Rattle.model.specs.Bits.{bit, digit, mask}
 use Rattle.model.specs.Edges.{depth, states}
 use Rattle.model.specs.Image.{backSource, backTarget, gatherBlock, gatherSource, gatherTarget, letters, propagateBlock, propagateSource, propagateTarget, repeats, scatterBlock, scatterSource, scatterTarget, words}
 use Rattle.model.specs.Models.Apart.{anyBelow}
-use Rattle.model.specs.Models.LayOut.{back-source, back-target, begin, blockOf, entering, gather-block, gather-source, gather-target, layOut, leaving, letter-place, loop-place, reach, scatter-block, scatter-source, scatter-target, set, sourceOf, targetOf, tokenLetters, valid, Which}
+use Rattle.model.specs.Models.LayOut.{back-source, back-target, begin, blockOf, entering, gather-block, gather-source, gather-target, layOut, leaving, letter-place, loop-place, number, reach, scatter-block, scatter-source, scatter-target, set, sourceOf, targetOf, tokenLetters, valid, Which}
 use Rattle.model.specs.Models.Tokens.{Token, tokens}
 use Rattle.model.specs.Models.Words.{value}
 use Rattle.model.specs.Tree as tree
@@ -32,11 +31,11 @@ use Rattle.model.proofs.Laws.Bool.{and-both, is-not, is-true}
 use Rattle.model.proofs.Laws.Trees.{NonEmpty}
 use Rattle.model.proofs.Reading.WellFormed.{rule-well}
 use Rattle.tokens_masks.specs.Joins.{Either, joinTables, Only}
-use Rattle.tokens_masks.specs.Masks.{Joined, rowIn, tableIn}
+use Rattle.tokens_masks.specs.Masks.{blockPlane, Joined, rowIn, rowNumber, tableIn}
 use Rattle.tokens_masks.specs.Says.{Laid, LettersSay, LoopsSay, MasksSay, PropagateSays, TreeOnTape, UnionsSay}
 use Rattle.tokens_masks.specs.Tables.{Table}
-use Rattle.tokens_masks.specs.Tapes.{bares, isTree, Kinds, propagateBlockTable, propagateSourceTable, propagateTargetTable, shapeOf, tableOf, tokensOf}
-use Rattle.tokens_masks.specs.declared.Shape.the-variants.{Other, Tree}
+use Rattle.tokens_masks.specs.Tapes.{bares, isTree, onTape, PlanesHold, propagateBlockTable, propagateSourceTable, propagateTargetTable, tableOf, tokensOf}
+use Rattle.tokens_masks.specs.declared.OnTape.the-variants.{Other, Tree}
 use Rattle.tokens_masks.specs.declared.Tape.{Tape}
 use Rattle.tokens_masks.proofs.Bare.{bares-lay, bares-length, bares-reach, bares-valid}
 use Rattle.tokens_masks.proofs.Deep.{deep, ofUnion}
@@ -68,8 +67,8 @@ module _ (s : tree.Tree) (t : Tape) (O : TreeOnTape s t) where
       (le→leb (t .length) 511 (omega (arith, O .tape .long, length-tokens s, O .few)))
       (subst T (sym (ap (λ (l : List Token). valid l begin) tokens-are ∙ bares-valid (tokens s []) begin)) (good-valid s (good .0) (good .1) (O .shallow)))
 
-  pub shape-is : shapeOf t ≡ Tree (depth s)
-  shape-is =
+  pub on-tape-is : onTape t ≡ Tree (depth s)
+  on-tape-is =
       ap₂ (λ (b : Bool) (n : ℕ). cond b (Tree n) Other) (is-true (isTree t) is-tree)
       (ap (λ (l : List Token). reach l begin) tokens-are ∙ bares-reach (tokens s []) begin ∙ reach-is s)
 
@@ -83,7 +82,7 @@ module _ (s : tree.Tree) (t : Tape) (O : TreeOnTape s t) where
   as-states : (f g : ℕ → Bool) → ((x : ℕ) → x < states s → f x ≡ g x) → set (suc (length (tokensOf t))) 8 f ≡ set (states s) 8 g
   as-states f g h = ap (λ (m : ℕ). set m 8 f) states-are ∙ set-same (states s) 8 f g h
 
-  -- row k of the table of any kind; letter and loop places have row 0
+  -- row k of the table of any plane; letter and loop places have row 0
   pub laid-row : (w : Which) (k : ℕ) → k < 9 → getD (tableOf t w) k [] ≡ words 8 (mask (states s) (laid w k))
   laid-row w k h = row-is t is-tree w k h ∙ as-states (layOut (tokensOf t) begin w k) (laid w k) (λ x l. laid-is w k x)
 
@@ -237,26 +236,29 @@ pub loops-say : (t : Tape) → LoopsSay t (getD (tableOf t loop-place) 0 [])
 loops-say t s O = loops-row s t O
 
 -- LAY OUT: the words hold what is laid out, and that is what document 01 puts there
-pub laid-of : {t : Tape} {ms ms′ : List ℕ} → Kinds t ms → Joined ms ms′ → Laid t ms′
+pub laid-of : {t : Tape} {ms ms′ : List ℕ} → PlanesHold t ms → Joined ms ms′ → Laid t ms′
 laid-of {t} {ms} {ms′} K J = record {
-  letter-places = first 0 letter-place (J .below 0 (omega arith) ∙ K .held letter-place);
-  loop-places = first 1 loop-place (J .below 1 (omega arith) ∙ K .held loop-place);
-  scatter-blocks = J .below 2 (omega arith) ∙ K .held scatter-block;
-  scatter-sources = J .below 3 (omega arith) ∙ K .held scatter-source;
-  scatter-targets = J .below 4 (omega arith) ∙ K .held scatter-target;
-  gather-blocks = J .below 5 (omega arith) ∙ K .held gather-block;
-  gather-sources = J .below 6 (omega arith) ∙ K .held gather-source;
-  gather-targets = J .below 7 (omega arith) ∙ K .held gather-target;
+  letter-places = first letter-place (below letter-place (omega arith));
+  loop-places = first loop-place (below loop-place (omega arith));
+  scatter-blocks = below scatter-block (omega arith);
+  scatter-sources = below scatter-source (omega arith);
+  scatter-targets = below scatter-target (omega arith);
+  gather-blocks = below gather-block (omega arith);
+  gather-sources = below gather-source (omega arith);
+  gather-targets = below gather-target (omega arith);
   propagate-blocks = J .block ∙ ap₂ (joinTables Either) (K .held leaving) (K .held entering);
   propagate-sources = J .source ∙ ap₂ (joinTables Only) (K .held leaving) (K .held entering);
   propagate-targets = J .target ∙ ap₂ (joinTables Only) (K .held entering) (K .held leaving);
-  back-sources = J .above 11 (omega arith) (omega arith) ∙ K .held back-source;
-  back-targets = J .above 12 (omega arith) (omega arith) ∙ K .held back-target;
+  back-sources = J .above (number back-source) (omega arith) (omega arith) ∙ K .held back-source;
+  back-targets = J .above (number back-target) (omega arith) (omega arith) ∙ K .held back-target;
 }
   where
+    below : (w : Which) → number w < blockPlane → tableIn ms′ (number w) ≡ tableOf t w
+    below w h = J .below (number w) h ∙ K .held w
+
     -- row 0 of a table
-    first : (i : ℕ) (w : Which) → tableIn ms′ i ≡ tableOf t w → rowIn ms′ i ≡ getD (tableOf t w) 0 []
-    first i w e = sym (table-row ms′ i 0 (omega arith) ∙ ap (rowIn ms′) (zero-add i)) ∙ ap (λ (a : Table). getD a 0 []) e
+    first : (w : Which) → tableIn ms′ (number w) ≡ tableOf t w → rowIn ms′ (rowNumber 0 (number w)) ≡ getD (tableOf t w) 0 []
+    first w e = sym (table-row ms′ (number w) 0 (omega arith)) ∙ ap (λ (a : Table). getD a 0 []) e
 
 pub masks-say : {t : Tape} {ms : List ℕ} → Laid t ms → MasksSay t ms
 masks-say {t} L = record {

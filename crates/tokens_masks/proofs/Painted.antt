@@ -22,12 +22,12 @@ use Rattle.model.proofs.Words.Holds.{Holds, set-holds}
 use Rattle.model.proofs.Words.Operations.{holds-and-l, holds-or, near-not}
 use Rattle.tokens_masks.specs.Joins.{Either, joinTables, joinWord, Only}
 use Rattle.tokens.specs.Scans.{Sane}
-use Rattle.tokens_masks.specs.Tables.{blank, paintAll, paintKind, Table}
+use Rattle.tokens_masks.specs.Tables.{blank, paintAll, paintPlane, Table}
 use Rattle.tokens_masks.specs.Tapes.{isTree, propagateBlockTable, propagateSourceTable, propagateTargetTable, tableOf, tokensOf}
 use Rattle.tokens_masks.specs.declared.Tape.{Tape}
 use Rattle.tokens_masks.proofs.Joins.{joined-at}
 use Rattle.tokens.proofs.Sane.{sane-begin, sane-step}
-use Rattle.tokens_masks.proofs.TableBits.{Adds, bitAt, blank-bit, blank-rows, kind-adds, Rows}
+use Rattle.tokens_masks.proofs.TableBits.{Adds, bitAt, blank-bit, blank-rows, plane-adds, Rows}
 use Rattle.tokens_masks.proofs.Tokens.{read-length}
 use Rattle.tokens_masks.proofs.Within.{strokes-within}
 
@@ -37,8 +37,8 @@ paint-all : (l : List Token) (q : Scan) (w : Which) (a : Table) → Rows a → S
 paint-all [] q w a R S h v = record { rows = R; bits = λ k x. sym (or-false (bitAt a k x)) }
 paint-all (y ∷ ys) q w a R S h v =
     let c = and-split (check y q) (valid ys (step y q)) v in
-    let A = kind-adds w (strokes y q) a R (strokes-within y q S (omega arith)) in
-    let B = paint-all ys (step y q) w (paintKind w (strokes y q) a) (A .rows) (sane-step y q S (c .0)) (omega (arith, position-step y q)) (c .1) in
+    let A = plane-adds w (strokes y q) a R (strokes-within y q S (omega arith)) in
+    let B = paint-all ys (step y q) w (paintPlane w (strokes y q) a) (A .rows) (sane-step y q S (c .0)) (omega (arith, position-step y q)) (c .1) in
     record {
       rows = B .rows;
       bits = λ k x. B .bits k x

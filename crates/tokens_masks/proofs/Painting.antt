@@ -7,7 +7,7 @@ use Rattle.model.specs.Models.LayOut.{begin, step, strokes, Which}
 use Rattle.model.specs.Models.LayOut as model
 use Rattle.model.specs.Models.Tokens as tokens
 use Rattle.tokens.specs.Scans.{Known, scanOf}
-use Rattle.tokens_masks.specs.Tables.{blank, paintAll, paintKind, Table}
+use Rattle.tokens_masks.specs.Tables.{blank, paintAll, paintPlane, Table}
 use Rattle.tokens_masks.specs.Tapes.{tokensOf}
 use Rattle.tokens.specs.Kinds.{readKind}
 use Rattle.tokens.specs.Tokens.{tokenOf}
@@ -23,7 +23,7 @@ painting-begin t q w a e b = sym (ap₂ (λ (z : model.Scan) (x : Table). paintA
 
 module _ (t : Tape) (q : Known) (i : ℕ) (A : Along t q i) (w : Which) (a : Table) (P : Painting t q i w a) where
   pub painting-step : (y : Token) → i < t .length → y ≡ readKind (getD (t .kinds) i 0) → (r : Known) → scanOf r ≡ step (tokenOf y) (scanOf q)
-      → (b : Table) → b ≡ paintKind w (strokes (tokenOf y) (scanOf q)) a → Painting t r (i + 1) w b
+      → (b : Table) → b ≡ paintPlane w (strokes (tokenOf y) (scanOf q)) a → Painting t r (i + 1) w b
   painting-step y h e r s b p =
       P ∙ ap (λ (l : List tokens.Token). paintAll l (scanOf q) w a) (from-cons t q i A y h e)
       ∙ sym (ap₂ (λ (z : model.Scan) (x : Table). paintAll (from t (i + 1)) z w x) s p)

@@ -1,5 +1,5 @@
 -- THE SCAN OVER A TAPE, as the loop goes: before token i the scan finds of what is still to come what the whole tape is and how deep it reaches, and in
--- the masks of every kind what is marked and what is still to come make the whole.
+-- every plane what is marked and what is still to come make the whole.
 use mathlib.Core.Path.{_≡_, refl, sym, ap, ap₂, _∙_, subst}
 use mathlib.Core.Bool.{Bool, true, false, cond}
 use mathlib.Core.List.{List}
@@ -11,11 +11,11 @@ use Rattle.model.specs.Models.LayOut.{begin, check, number, reach, strokes, Whi
 use Rattle.tokens_masks.specs.Masks.{Blank, paint, tableIn}
 use Rattle.tokens.specs.Scans.{Innermost, isEnded, noFrame, ReadyAt, scanOf, StepSays, withFrames}
 use Rattle.tokens_masks.specs.Tables.{blank, paintAll}
-use Rattle.tokens_masks.specs.Tapes.{deeperBy, isTree, Kinds, ScanLays, shapeOf, tokensOf}
+use Rattle.tokens_masks.specs.Tapes.{deeperBy, isTree, onTape, PlanesHold, ScanLays, tokensOf}
 use Rattle.tokens.specs.Kinds.{readKind}
 use Rattle.tokens.specs.Tokens.{tokenOf}
-use Rattle.tokens_masks.specs.declared.Shape.{Shape}
-use Rattle.tokens_masks.specs.declared.Shape.the-variants.{Other, Tree}
+use Rattle.tokens_masks.specs.declared.OnTape.{OnTape}
+use Rattle.tokens_masks.specs.declared.OnTape.the-variants.{Other, Tree}
 use Rattle.tokens_masks.specs.declared.Tape.{Tape}
 use Rattle.tokens.specs.declared.Frame.{Frame}
 use Rattle.tokens.specs.declared.Next.{Next}
@@ -54,14 +54,14 @@ module _ {t : Tape} {ms : List ℕ} {fs : List Frame} {q : Scan} {deepest i : �
   scanning-depth = along-depth t (withFrames q fs) i (S .along)
 
   -- a tape that is none, and one that is
-  not-tree : isTree t ≡ false → (Other ≡ shapeOf t) × ScanLays t ms
+  not-tree : isTree t ≡ false → (Other ≡ onTape t) × ScanLays t ms
   not-tree e = (sym (ap (λ (b : Bool). cond b (Tree (reach (tokensOf t) begin)) Other) e), record { long = S .long; held = λ z w. absurd (subst T e z) })
 
   module _ (h : t .length ≤ i) where
-    pub scanning-other : isEnded (withFrames q fs) ≡ false → (Other ≡ shapeOf t) × ScanLays t ms
+    pub scanning-other : isEnded (withFrames q fs) ≡ false → (Other ≡ onTape t) × ScanLays t ms
     scanning-other e = not-tree (along-end t (withFrames q fs) i (S .along) h ∙ e)
 
-    pub scanning-tree : isEnded (withFrames q fs) ≡ true → (Tree deepest ≡ shapeOf t) × ScanLays t ms
+    pub scanning-tree : isEnded (withFrames q fs) ≡ true → (Tree deepest ≡ onTape t) × ScanLays t ms
     scanning-tree e =
         let is = along-end t (withFrames q fs) i (S .along) h ∙ e in (
           sym (ap₂ (λ (b : Bool) (d : ℕ). cond b (Tree d) Other) is (reaching-end t (withFrames q fs) i (S .along) deepest (S .reaching) h)),
@@ -74,7 +74,7 @@ module _ {t : Tape} {ms : List ℕ} {fs : List Frame} {q : Scan} {deepest i : �
 
   -- at the token y, with the innermost frame
   module _ {y : Token} {top : Frame} (h : i < t .length) (e : y ≡ readKind (getD (t .kinds) i 0)) (I : Innermost q top fs) where
-    pub scanning-misfit : check (tokenOf y) (scanOf (withFrames q fs)) ≡ false → (Other ≡ shapeOf t) × ScanLays t ms
+    pub scanning-misfit : check (tokenOf y) (scanOf (withFrames q fs)) ≡ false → (Other ≡ onTape t) × ScanLays t ms
     scanning-misfit f = not-tree (along-misfit t (withFrames q fs) i (S .along) y h e f)
 
     module _ (f : check (tokenOf y) (scanOf (withFrames q fs)) ≡ true) where
@@ -108,12 +108,12 @@ other-told : (b : Bool) (x : ℕ) → cond b (Tree x) Other ≡ Other → b ≡ 
 other-told true x q = let z : _≡_ {A = ℕ} 0 1 = cc in absurd (omega arith)
 other-told false x q = refl
 
-module _ (t : Tape) {shape : Shape} (e : shape ≡ shapeOf t) where
-  pub kinds-tree : {d : ℕ} {ms : List ℕ} → shape ≡ Tree d → ScanLays t ms → Kinds t ms
-  kinds-tree {d} q L = record { long = L .long; held = L .held (tree-told (isTree t) (reach (tokensOf t) begin) d (sym e ∙ q)) }
+module _ (t : Tape) {told : OnTape} (e : told ≡ onTape t) where
+  pub planes-tree : {d : ℕ} {ms : List ℕ} → told ≡ Tree d → ScanLays t ms → PlanesHold t ms
+  planes-tree {d} q L = record { long = L .long; held = L .held (tree-told (isTree t) (reach (tokensOf t) begin) d (sym e ∙ q)) }
 
-  pub kinds-other : {ms : List ℕ} → shape ≡ Other → Blank ms → Kinds t ms
-  kinds-other q B = record {
+  pub planes-other : {ms : List ℕ} → told ≡ Other → Blank ms → PlanesHold t ms
+  planes-other q B = record {
     long = B .long;
     held = λ w. B .none w
         ∙ sym (ap (λ (b : Bool). cond b (paintAll (tokensOf t) begin w blank) blank) (other-told (isTree t) (reach (tokensOf t) begin) (sym e ∙ q)));

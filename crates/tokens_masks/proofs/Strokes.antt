@@ -5,7 +5,7 @@ use mathlib.Core.List.{List}
 use Prim.Native.Nat.{ℕ, suc, _-_, _<_}
 use Rattle.model.specs.Tree.{canLoop, canOmit, canReturn, canSkip, once, option, optional, plus, star, starred, unmarked}
 use Rattle.model.specs.Tree as tree
-use Rattle.model.specs.Models.LayOut.{barStrokes, barStrokesIn, closeStrokes, closeStrokesIn, endStrokes, letterStrokes, openStrokes, Stroke, strokes}
+use Rattle.model.specs.Models.LayOut.{back-source, barStrokes, barStrokesIn, closeStrokes, closeStrokesIn, endStrokes, leaving, letter-place, letterStrokes, loop-place, number, openStrokes, Stroke, strokes}
 use Rattle.model.specs.Models.LayOut as model
 use Rattle.tokens_masks.specs.Masks.{edgeIn, paint, runIn}
 use Rattle.tokens.specs.Scans.{frameOf, Innermost, scanOf, withFrames}
@@ -20,9 +20,9 @@ use Rattle.tokens.proofs.Scans.{length-stack, stack-is, top-is}
 
 -- ---- the strokes of which some are there only if a test passes
 pub letter-in : (k : tree.Repeat) (t d : ℕ) (ms : List ℕ) → paint (letterStrokes k t d) ms
-    ≡ (let l = runIn ms 0 0 (suc t) (suc (suc t)) in
-    let o = cond (canLoop k) (runIn l 1 0 (suc t) (suc (suc t))) l in
-    cond (canSkip k) (edgeIn o 9 d t (suc t)) o)
+    ≡ (let l = runIn ms (number letter-place) 0 (suc t) (suc (suc t)) in
+    let o = cond (canLoop k) (runIn l (number loop-place) 0 (suc t) (suc (suc t))) l in
+    cond (canSkip k) (edgeIn o (number leaving) d t (suc t)) o)
 letter-in once t d ms = refl
 letter-in option t d ms = refl
 letter-in star t d ms = refl
@@ -30,8 +30,8 @@ letter-in plus t d ms = refl
 
 pub close-in : (m : tree.Mark) (f : model.Frame) (z d : ℕ) (ms : List ℕ) → paint (closeStrokes m f z d) ms
     ≡ (let e = paint (endStrokes f z d) ms in
-    let o = cond (canOmit m) (edgeIn e 9 d (f .start) (suc z)) e in
-    cond (canReturn m) (edgeIn o 11 d z (suc (f .start))) o)
+    let o = cond (canOmit m) (edgeIn e (number leaving) d (f .start) (suc z)) e in
+    cond (canReturn m) (edgeIn o (number back-source) d z (suc (f .start))) o)
 close-in unmarked f z d ms = refl
 close-in optional f z d ms = refl
 close-in starred f z d ms = refl

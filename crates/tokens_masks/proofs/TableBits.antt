@@ -1,4 +1,4 @@
--- The bits of a table after strokes: those that it had, and those that a stroke of the table's kind covers.
+-- The bits of a table after strokes: those that it had, and those that a stroke of the table's plane covers.
 use mathlib.Core.Path.{_≡_, refl, sym, ap, _∙_, subst}
 use mathlib.Core.Logic.{_⊎_, inl, inr}
 use mathlib.Core.Bool.{Bool, true, false, _&&_, _||_, cond, and-false, and-true, and-or-distrib-right, or-assoc, or-false}
@@ -17,7 +17,7 @@ use Rattle.model.specs.Models.Words.{Fit, putBit, value}
 use Rattle.model.proofs.Laws.Bits.{bit-zero}
 use Rattle.model.proofs.Laws.Bool.{and-both, and-split, is-not, or-left, or-right, or-split, same-truth}
 use Rattle.model.proofs.Words.Put.{put-bit, put-fit}
-use Rattle.tokens_masks.specs.Tables.{blank, markRun, markState, paintKind, paintStroke, Table}
+use Rattle.tokens_masks.specs.Tables.{blank, markRun, markState, paintPlane, paintStroke, Table}
 use Rattle.tokens_masks.proofs.Within.{Within}
 
 -- nine rows of eight words; bit x of row k
@@ -122,12 +122,12 @@ stroke-adds a s R W =
         (λ t. let q = between-fact (s .from) z y t in fact-between (s .from) (s .to) y (q .0) (omega arith))
         (λ t. let q = between-fact (s .from) (s .to) y t in fact-between (s .from) z y (q .0) (omega arith))
 
--- ALL STROKES OF A KIND
-pub kind-adds : (w : Which) (ss : List Stroke) (a : Table) → Rows a → All Within ss → Adds a (paintKind w ss a) (λ k x. any (marks w k x) ss)
-kind-adds w [] a R W = record { rows = R; bits = λ k x. sym (or-false (bitAt a k x)) }
-kind-adds w (s ∷ ss) a R W =
+-- ALL STROKES OF A PLANE
+pub plane-adds : (w : Which) (ss : List Stroke) (a : Table) → Rows a → All Within ss → Adds a (paintPlane w ss a) (λ k x. any (marks w k x) ss)
+plane-adds w [] a R W = record { rows = R; bits = λ k x. sym (or-false (bitAt a k x)) }
+plane-adds w (s ∷ ss) a R W =
     let A = first (sameKind (s .which) w) in
-    let B = kind-adds w ss (cond (sameKind (s .which) w) (paintStroke a s) a) (A .rows) (W .1) in
+    let B = plane-adds w ss (cond (sameKind (s .which) w) (paintStroke a s) a) (A .rows) (W .1) in
     record {
       rows = B .rows;
       bits = λ k x. B .bits k x ∙ ap (λ (b : Bool). b || any (marks w k x) ss) (A .bits k x) ∙ or-assoc (bitAt a k x) (marks w k x s) (any (marks w k x) ss);

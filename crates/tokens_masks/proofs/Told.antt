@@ -17,17 +17,17 @@ use Rattle.model.proofs.Image.Valid.{TreeOf, valid-tree}
 use Rattle.model.proofs.Image.WellFormed as image
 use Rattle.model.proofs.Laws.Bool.{and-split}
 use Rattle.model.proofs.Reading.Written as reading
-use Rattle.tokens_masks.specs.Says.{ShapeSays, TreeOnTape}
+use Rattle.tokens_masks.specs.Says.{OnTapeSays, TreeOnTape}
 use Rattle.tokens.specs.Tokens.{bare, tokenOf}
-use Rattle.tokens_masks.specs.Tapes.{bares, isTree, readKinds, shapeOf, tokensOf}
+use Rattle.tokens_masks.specs.Tapes.{bares, isTree, onTape, readKinds, tokensOf}
 use Rattle.tokens.specs.Kinds.{readKind}
-use Rattle.tokens_masks.specs.declared.Shape.{Shape}
-use Rattle.tokens_masks.specs.declared.Shape.the-variants.{Other, Tree}
+use Rattle.tokens_masks.specs.declared.OnTape.{OnTape}
+use Rattle.tokens_masks.specs.declared.OnTape.the-variants.{Other, Tree}
 use Rattle.tokens_masks.specs.declared.Tape.{Tape}
 use Rattle.tokens.specs.declared.token.Token as code
 use Rattle.tokens.specs.declared.token.Token.the-variants.{Bar, Close, Letter, Open}
 use Rattle.tokens_masks.proofs.Bare.{bares-length, bares-valid}
-use Rattle.tokens_masks.proofs.OfTree.{shape-is}
+use Rattle.tokens_masks.proofs.OfTree.{on-tape-is}
 use Rattle.tokens_masks.proofs.Tokens.{read-length}
 
 -- ---- any class that holds a byte will do
@@ -101,7 +101,7 @@ module _ (t : Tape) (room : length (t .kinds) ≡ 512) (is : T (isTree t)) where
         },
       )
 
-abbrev isOther : Shape → Type 0
+abbrev isOther : OnTape → Type 0
 isOther Other = Unit
 isOther (Tree k) = ⊥
 
@@ -110,8 +110,8 @@ told true n d e = tt
 told false n d e = subst isOther e tt
 
 -- A TAPE IS TOLD TO BE A TREE'S EXACTLY IF IT IS ONE
-pub shape-says : (t : Tape) → length (t .kinds) ≡ 512 → ShapeSays t (shapeOf t)
-shape-says t room = record {
-  of-tree = λ s O. shape-is s t O;
+pub on-tape-says : (t : Tape) → length (t .kinds) ≡ 512 → OnTapeSays t (onTape t)
+on-tape-says t room = record {
+  of-tree = λ s O. on-tape-is s t O;
   some-tree = λ d e. tree-there t room (told (isTree t) (reach (tokensOf t) begin) d e);
 }

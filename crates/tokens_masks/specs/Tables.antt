@@ -1,4 +1,4 @@
--- TABLES: the masks of one kind, nine rows of eight words, and the tokens painted into them one after another.
+-- TABLES: a plane as nine rows of eight words, and the tokens painted into them one after another.
 use mathlib.Core.Bool.{cond}
 use mathlib.Core.List.{List, [], _∷_}
 use Prim.Native.Nat.{ℕ, zero, suc, _-_}
@@ -24,12 +24,12 @@ markRun (suc n) a k x = markRun n (markState a k x) k (suc x)
 abbrev pub paintStroke : Table → Stroke → Table
 paintStroke a s = markRun (s .to - s .from) a (s .row) (s .from)
 
--- of the strokes those of kind w
-abbrev pub paintKind : Which → List Stroke → Table → Table
-paintKind w [] a = a
-paintKind w (s ∷ ss) a = paintKind w ss (cond (sameKind (s .which) w) (paintStroke a s) a)
+-- of the strokes those of plane w
+abbrev pub paintPlane : Which → List Stroke → Table → Table
+paintPlane w [] a = a
+paintPlane w (s ∷ ss) a = paintPlane w ss (cond (sameKind (s .which) w) (paintStroke a s) a)
 
--- ALL TOKENS, from the scan q on, painted into the table of the masks of kind w
+-- ALL TOKENS, from the scan q on, painted into the table of plane w
 abbrev pub paintAll : List Token → Scan → Which → Table → Table
 paintAll [] q w a = a
-paintAll (y ∷ ys) q w a = paintAll ys (step y q) w (paintKind w (strokes y q) a)
+paintAll (y ∷ ys) q w a = paintAll ys (step y q) w (paintPlane w (strokes y q) a)

@@ -14,8 +14,8 @@ use Rattle.tokens_masks.specs.Masks.{tableIn}
 use Rattle.tokens_masks.specs.Tables.{blank, paintAll, Table}
 use Rattle.tokens.specs.Kinds.{readKind}
 use Rattle.tokens.specs.Tokens.{bare, tokenOf}
-use Rattle.tokens_masks.specs.declared.Shape.{Shape}
-use Rattle.tokens_masks.specs.declared.Shape.the-variants.{Other, Tree}
+use Rattle.tokens_masks.specs.declared.OnTape.{OnTape}
+use Rattle.tokens_masks.specs.declared.OnTape.the-variants.{Other, Tree}
 use Rattle.tokens_masks.specs.declared.Tape.{Tape}
 
 abbrev pub readKinds : List ℕ → List model.Token
@@ -39,9 +39,9 @@ pub record TapeOf (s : tree.Tree) (t : Tape) : Type 0 where
 abbrev pub isTree : Tape → Bool
 isTree t = leb (t .length) 511 && valid (tokensOf t) begin
 
--- WHAT A TAPE IS: a tree's tokens and their depth, or anything else
-abbrev pub shapeOf : Tape → Shape
-shapeOf t = cond (isTree t) (Tree (reach (tokensOf t) begin)) Other
+-- WHAT IS ON A TAPE: a tree's tokens and their depth, or anything else
+abbrev pub onTape : Tape → OnTape
+onTape t = cond (isTree t) (Tree (reach (tokensOf t) begin)) Other
 
 -- an open leads one deeper
 abbrev pub deeperBy : ℕ → ℕ → model.Token → ℕ
@@ -50,7 +50,7 @@ deeperBy deepest depth anOpen = max deepest (suc depth)
 deeperBy deepest depth aBar = deepest
 deeperBy deepest depth (aClose m) = deepest
 
--- LAY OUT: the masks of kind w; none has a state where the tape is not a tree's
+-- LAY OUT: plane w; no mask has a state where the tape is not a tree's
 abbrev pub tableOf : Tape → Which → Table
 tableOf t w = cond (isTree t) (paintAll (tokensOf t) begin w blank) blank
 
@@ -64,11 +64,12 @@ propagateSourceTable t = joinTables Only (tableOf t leaving) (tableOf t entering
 abbrev pub propagateTargetTable : Tape → Table
 propagateTargetTable t = joinTables Only (tableOf t entering) (tableOf t leaving)
 
--- the words hold what is laid out, before propagate's masks are joined; if the tape is a tree's, whatever else it is
-pub record Kinds (t : Tape) (ms : List ℕ) : Type 0 where
+-- the words hold, plane by plane, what is laid out, before propagate's masks are joined
+pub record PlanesHold (t : Tape) (ms : List ℕ) : Type 0 where
   pub long : length ms ≡ 936
   pub held : (w : Which) → tableIn ms (number w) ≡ tableOf t w
 
+-- they do if the tape is a tree's; of any other nothing is said
 pub record ScanLays (t : Tape) (ms : List ℕ) : Type 0 where
   pub long : length ms ≡ 936
   pub held : T (isTree t) → (w : Which) → tableIn ms (number w) ≡ tableOf t w

@@ -9,6 +9,7 @@ mod stroke;
 
 use crate::masks::blank;
 use crate::masks::join_propagate;
+use crate::plane::place_of;
 use crate::stroke::mark_token;
 use tokens::begin_scan;
 use tokens::fits;
@@ -21,9 +22,9 @@ use tokens::token::Token;
 ghost use mathlib.Core.Path.{_≡_};
 ghost use Prim.Native.Nat.{_<_, max};
 ghost use lib.ListN.{length};
-ghost use Rattle.tokens_masks.specs.Masks.{Blank, RowSays};
-ghost use Rattle.tokens_masks.specs.Says.{Laid, MasksSay, ShapeSays};
-ghost use Rattle.tokens_masks.specs.Tapes.{deeperBy, Kinds, ScanLays, shapeOf};
+ghost use Rattle.tokens_masks.specs.Masks.{Blank, planes, rowIn, rowNumber};
+ghost use Rattle.tokens_masks.specs.Says.{Laid, MasksSay, OnTapeSays};
+ghost use Rattle.tokens_masks.specs.Tapes.{deeperBy, onTape, PlanesHold, ScanLays};
 ghost use Rattle.tokens.specs.Tokens.{tokenOf};
 
 // The first `length` of the kinds are a tree's tokens (crate `tokens`, module `kind`).
@@ -32,8 +33,8 @@ pub struct Tape {
     pub length: usize,
 }
 
-// What a tape is: the tokens of a tree within 512 states and depth 8, and that tree's depth; or anything else.
-pub enum Shape {
+// What is on a tape: the tokens of a tree within 512 states and depth 8, and that tree's depth; or anything else.
+pub enum OnTape {
     Tree(usize),
     Other,
 }
@@ -58,15 +59,15 @@ fn deeper(deepest: usize, depth: usize, token: Token) -> usize
 }
 
 // The scan over the whole tape, which marks what each token marks.
-fn scan_tape(tape: Tape, masks: &mut [u64]) -> Shape
+fn scan_tape(tape: Tape, masks: &mut [u64]) -> OnTape
     requires { ⌜ Blank (now masks) ⌝ }
-    ensures shape { λ r. ⌜ r ≡ shapeOf tape ⌝ }
+    ensures told { λ r. ⌜ r ≡ onTape tape ⌝ }
     ensures masks { λ r. ⌜ ScanLays tape (now (masks .exit)) ⌝ }
 {
     let kinds = tape.kinds;
     let length = tape.length;
     if length > 511 {
-        return Shape::Other;
+        return OnTape::Other;
     }
     let none = no_frame();
     let mut frames = [none; 9];
@@ -78,7 +79,7 @@ fn scan_tape(tape: Tape, masks: &mut [u64]) -> Shape
         let top = innermost(scan.depth);
         let frame = frames[top];
         if !fits(scan, frame, token) {
-            return Shape::Other;
+            return OnTape::Other;
         }
         mark_token(masks, scan, frame, token);
         let d = deeper(deepest, scan.depth, token);
@@ -92,50 +93,48 @@ fn scan_tape(tape: Tape, masks: &mut [u64]) -> Shape
         i += 1;
     }
     if is_ended(scan) {
-        Shape::Tree(deepest)
+        OnTape::Tree(deepest)
     } else {
-        Shape::Other
+        OnTape::Other
     }
 }
 
 // What is marked for the tape. Where it is not a tree's, no mask has a state.
-fn lay_kinds(tape: Tape, masks: &mut [u64]) -> Shape
+fn lay_planes(tape: Tape, masks: &mut [u64]) -> OnTape
     requires { ⌜ length (now masks) ≡ 936 ⌝ }
-    ensures shape { λ r. ⌜ r ≡ shapeOf tape ⌝ }
-    ensures kinds { λ r. ⌜ Kinds tape (now (masks .exit)) ⌝ }
+    ensures told { λ r. ⌜ r ≡ onTape tape ⌝ }
+    ensures planes { λ r. ⌜ PlanesHold tape (now (masks .exit)) ⌝ }
 {
     blank(masks);
-    let shape = scan_tape(tape, masks);
-    if let Shape::Other = shape {
+    let on_tape = scan_tape(tape, masks);
+    if let OnTape::Other = on_tape {
         blank(masks);
     }
-    shape
+    on_tape
 }
 
 // Lay out: whether the tape is the tokens of a tree, and how deep that is; letter places and loop places; block, source and target of each depth; and
 // source and target of its back edges.
-pub fn lay_out(tape: Tape, masks: &mut [u64; 936]) -> Shape
-    ensures computed { λ r. ⌜ r ≡ shapeOf tape ⌝ }
-    ensures shape { λ r. ⌜ ShapeSays tape r ⌝ }
+pub fn lay_out(tape: Tape, masks: &mut [u64; 936]) -> OnTape
+    ensures computed { λ r. ⌜ r ≡ onTape tape ⌝ }
+    ensures told { λ r. ⌜ OnTapeSays tape r ⌝ }
     ensures laid { λ r. ⌜ Laid tape (now (masks .exit)) ⌝ }
     ensures masks { λ r. ⌜ MasksSay tape (now (masks .exit)) ⌝ }
 {
-    let shape = lay_kinds(tape, masks);
+    let on_tape = lay_planes(tape, masks);
     join_propagate(masks);
-    shape
+    on_tape
 }
 
-// One of the masks that lay out gives; past their end a mask without a state.
-pub fn row_of(masks: &[u64], row: usize) -> [u64; 8]
-    ensures { λ r. ⌜ RowSays (now (masks .entry)) row r ⌝ }
+// The mask of a depth and a plane, of those that lay out gives.
+pub fn row_of(masks: &[u64], depth: usize, plane: usize) -> [u64; 8]
+    requires { ⌜ (depth < 9) × (plane < planes) × (length (now masks) ≡ 936) ⌝ }
+    ensures { λ r. ⌜ r ≡ rowIn (now (masks .entry)) (rowNumber depth plane) ⌝ }
 {
     let mut words = [0u64; 8];
-    if row >= masks.len() / 8 {
-        return words;
-    }
     let mut j: usize = 0;
     while j < 8 {
-        words[j] = masks[8 * row + j];
+        words[j] = masks[place_of(depth, plane, j)];
         j += 1;
     }
     words

@@ -1,10 +1,11 @@
-// Masks in a row of words, eight for each: state i is bit i mod 64 of word i/64. For each of nine depths there are thirteen, by their kinds (`plane`).
+// Masks in a row of words, eight for each: state i is bit i mod 64 of word i/64. For each of nine depths there is one of each plane (`plane`).
 use crate::plane::PROPAGATE_BLOCK;
+use crate::plane::place_of;
 ghost use mathlib.Core.Path.{_≡_};
 ghost use mathlib.Core.Bool.{cond};
-ghost use Prim.Native.Nat.{suc, _≤_, _<_};
+ghost use Prim.Native.Nat.{suc, _+_, _≤_, _<_};
 ghost use lib.ListN.{length, replicate};
-ghost use Rattle.tokens_masks.specs.Masks.{edgeIn, Joined, runIn};
+ghost use Rattle.tokens_masks.specs.Masks.{edgeIn, Joined, planes, runIn};
 
 // No state in any mask.
 pub fn blank(masks: &mut [u64])
@@ -17,18 +18,18 @@ pub fn blank(masks: &mut [u64])
     }
 }
 
-// One more state in the mask of a kind and a depth.
+// One more state in the mask of a plane and a depth.
 pub fn mark(masks: &mut [u64], plane: usize, depth: usize, state: usize)
-    requires { ⌜ (state < 512) × (plane < 13) × (depth < 9) × (length (now masks) ≡ 936) ⌝ }
+    requires { ⌜ (state < 512) × (plane < planes) × (depth < 9) × (length (now masks) ≡ 936) ⌝ }
     ensures { λ r. ⌜ now (masks .exit) ≡ runIn (now (masks .entry)) plane depth state (suc state) ⌝ }
 {
-    let at = 8 * (13 * depth + plane) + state / 64;
+    let at = place_of(depth, plane, state / 64);
     masks[at] = masks[at] | (1u64 << (state % 64));
 }
 
 // The one state if the test passes, else none.
 pub fn mark_if(masks: &mut [u64], plane: usize, test: bool, depth: usize, state: usize)
-    requires { ⌜ (state < 512) × (plane < 13) × (depth < 9) × (length (now masks) ≡ 936) ⌝ }
+    requires { ⌜ (state < 512) × (plane < planes) × (depth < 9) × (length (now masks) ≡ 936) ⌝ }
     ensures { λ r. ⌜ now (masks .exit) ≡ cond test (runIn (now (masks .entry)) plane depth state (suc state)) (now (masks .entry)) ⌝ }
 {
     if test {
@@ -38,7 +39,7 @@ pub fn mark_if(masks: &mut [u64], plane: usize, test: bool, depth: usize, state:
 
 // The states from `from` up to `to` less 1.
 pub fn mark_run(masks: &mut [u64], plane: usize, depth: usize, from: usize, to: usize)
-    requires { ⌜ (to ≤ 512) × (plane < 13) × (depth < 9) × (length (now masks) ≡ 936) ⌝ }
+    requires { ⌜ (to ≤ 512) × (plane < planes) × (depth < 9) × (length (now masks) ≡ 936) ⌝ }
     ensures { λ r. ⌜ now (masks .exit) ≡ runIn (now (masks .entry)) plane depth from to ⌝ }
 {
     let mut state = from;
@@ -48,9 +49,9 @@ pub fn mark_run(masks: &mut [u64], plane: usize, depth: usize, from: usize, to: 
     }
 }
 
-// If the test passes, an edge: the state that it leaves, and in the masks of the next kind the one that it enters.
+// If the test passes, an edge: the state that it leaves, and in the next plane the one that it enters.
 pub fn mark_edge(masks: &mut [u64], plane: usize, test: bool, depth: usize, from: usize, to: usize)
-    requires { ⌜ (from < 512) × (to < 512) × (depth < 9) × (plane < 12) × (length (now masks) ≡ 936) ⌝ }
+    requires { ⌜ (from < 512) × (to < 512) × (depth < 9) × (plane + 1 < planes) × (length (now masks) ≡ 936) ⌝ }
     ensures { λ r. ⌜ now (masks .exit) ≡ cond test (edgeIn (now (masks .entry)) plane depth from to) (now (masks .entry)) ⌝ }
 {
     if test {
@@ -67,7 +68,7 @@ pub fn join_propagate(masks: &mut [u64])
 {
     let mut n: usize = 0;
     while n < 72 {
-        let at = 8 * (13 * (n / 8) + PROPAGATE_BLOCK) + n % 8;
+        let at = place_of(n / 8, PROPAGATE_BLOCK, n % 8);
         let leaving = masks[at + 8];
         let entering = masks[at + 16];
         masks[at] = leaving | entering;

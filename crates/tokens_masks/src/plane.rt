@@ -1,4 +1,7 @@
-// The masks of one depth, by the numbers of their kinds. Letter and loop places have depth 0 alone.
+// Planes: for each depth one mask of each, by these numbers, and where they lie in the words. Letter and loop places have depth 0 alone.
+ghost use mathlib.Core.Path.{_≡_};
+ghost use Prim.Native.Nat.{_<_};
+ghost use Rattle.tokens_masks.specs.Masks.{placeOf, planes};
 
 pub const LETTER_PLACE: usize = 0;
 
@@ -24,3 +27,14 @@ pub const LEAVING: usize = 9;
 pub const BACK_SOURCE: usize = 11;
 
 pub const BACK_TARGET: usize = 12;
+
+// How many there are.
+const PLANES: usize = 13;
+
+// The place of a word of the mask of a depth and a plane.
+pub fn place_of(depth: usize, plane: usize, word: usize) -> usize
+    requires { ⌜ (depth < 9) × (plane < planes) × (word < 8) ⌝ }
+    ensures { λ r. ⌜ r ≡ placeOf depth plane word ⌝ }
+{
+    8 * (PLANES * depth + plane) + word
+}

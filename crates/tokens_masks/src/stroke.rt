@@ -1,4 +1,4 @@
-// The strokes of one token: each a run of states in the mask of one kind and depth, most often a single state.
+// The strokes of one token: each a run of states in the mask of one plane and depth, most often a single state.
 use crate::masks::mark;
 use crate::masks::mark_edge;
 use crate::masks::mark_if;

@@ -15,9 +15,9 @@ use Rattle.model.proofs.Laws.Bool.{le-or-lt}
 use Rattle.model.proofs.Laws.Stores.{sets-fit}
 use Rattle.image_sections.specs.Sections.{sectionsOf}
 use Rattle.image_sections.specs.declared.Sections.{Sections}
-use Rattle.tokens_masks.specs.Says.{ShapeSays, TreeOnTape}
-use Rattle.tokens_masks.specs.declared.Shape.{Shape}
-use Rattle.tokens_masks.specs.declared.Shape.the-variants.{Other, Tree}
+use Rattle.tokens_masks.specs.Says.{OnTapeSays, TreeOnTape}
+use Rattle.tokens_masks.specs.declared.OnTape.{OnTape}
+use Rattle.tokens_masks.specs.declared.OnTape.the-variants.{Other, Tree}
 use Rattle.tokens_masks.specs.declared.Tape.{Tape}
 use Rattle.image.specs.Says.{no-room, stored, StoreSays, TokensOf, too-deep, TreeSays}
 use Rattle.image.specs.Work.{imageWords, KindsAre}
@@ -31,18 +31,18 @@ same-told : (d e : ℕ) → Tree d ≡ Tree e → d ≡ e
 same-told d e p = cc
 
 -- the tape of the first n tokens of a row, and what it was told to be
-pub record Taped (row : List ℕ) (n : ℕ) (tape : Tape) (shape : Shape) : Type 0 where
+pub record Taped (row : List ℕ) (n : ℕ) (tape : Tape) (laid : OnTape) : Type 0 where
   pub long : tape .length ≡ n
   pub kinds : KindsAre row (tape .kinds)
   pub room : length (tape .kinds) ≡ 512
-  pub says : ShapeSays tape shape
+  pub says : OnTapeSays tape laid
 
 -- f is how a kind lies in memory
-pub taped : (row : List ℕ) (tape : Tape) {n : ℕ} {shape : Shape} {A : Type 0} (f : ℕ → A) → tape .length ≡ n → KindsAre row (tape .kinds)
-    → length (map f (tape .kinds)) ≡ 512 → ShapeSays tape shape → Taped row n tape shape
+pub taped : (row : List ℕ) (tape : Tape) {n : ℕ} {laid : OnTape} {A : Type 0} (f : ℕ → A) → tape .length ≡ n → KindsAre row (tape .kinds)
+    → length (map f (tape .kinds)) ≡ 512 → OnTapeSays tape laid → Taped row n tape laid
 taped row tape f l k e S = record { long = l; kinds = k; room = sym (length-map (tape .kinds) f) ∙ e; says = S }
 
-module _ {row : List ℕ} {n : ℕ} {tape : Tape} {shape : Shape} (T : Taped row n tape shape) where
+module _ {row : List ℕ} {n : ℕ} {tape : Tape} {laid : OnTape} (T : Taped row n tape laid) where
   all-tokens : (t : tree.Tree) → TokensOf t row n → TokensOf t row (tape .length)
   all-tokens t R = subst (TokensOf t row) (sym (T .long)) R
 
@@ -50,7 +50,7 @@ module _ {row : List ℕ} {n : ℕ} {tape : Tape} {shape : Shape} (T : Taped row
   shallow-on-tape t R h = on-tape row tape (T .kinds) (T .room) t (all-tokens t R) h
 
   -- NO TREE
-  pub says-no-tree : (before : List ℕ) → shape ≡ Other → StoreSays row n before (refused 4 before)
+  pub says-no-tree : (before : List ℕ) → laid ≡ Other → StoreSays row n before (refused 4 before)
   says-no-tree before e t R = go (le-or-lt (depth t) 8)
     where
       go : (depth t ≤ 8) ⊎ (8 < depth t) → TreeSays t before (refused 4 before)
@@ -58,7 +58,7 @@ module _ {row : List ℕ} {n : ℕ} {tape : Tape} {shape : Shape} (T : Taped row
       go (inr h) = too-deep h refl
 
   -- ---- a tree's tape, of the depth told
-  module _ {d : ℕ} (told : shape ≡ Tree d) where
+  module _ {d : ℕ} (told : laid ≡ Tree d) where
     abbrev there : (s : tree.Tree) × TreeOnTape s tape
     there = T .says .some-tree d told
 

@@ -8,10 +8,10 @@ use lib.Bits.{bitAnd}
 use lib.Dec.{T}
 use lib.ListN.{getD, length, take, length-append}
 use lib.Seq.{length-take-le}
-use Rattle.model.specs.Models.LayOut.{begin, layOut, Which}
+use Rattle.model.specs.Models.LayOut.{back-source, back-target, begin, layOut, number, Which}
 use Rattle.model.proofs.Image.Rows.{length-set}
 use Rattle.model.proofs.Words.Operations.{each-length}
-use Rattle.tokens_masks.specs.Masks.{rowIn, tableIn}
+use Rattle.tokens_masks.specs.Masks.{planes, rowIn, rowNumber, tableIn}
 use Rattle.tokens_masks.specs.Tables.{blank, paintAll, Table}
 use Rattle.tokens_masks.specs.Tapes.{isTree, tableOf, tokensOf}
 use Rattle.tokens_masks.specs.declared.Tape.{Tape}
@@ -44,8 +44,8 @@ abbrev pub Eights : Table → Type 0
 Eights rows = (k : ℕ) → k < 9 → length (getD rows k []) ≡ 8
 
 -- the masks that lay out lends
-pub in-eights : (ms : List ℕ) (i : ℕ) → length ms ≡ 936 → i < 13 → Eights (tableIn ms i)
-in-eights ms i e hi k h = ap length (table-row ms i k h) ∙ row-long ms (13 * k + i) (omega arith)
+pub in-eights : (ms : List ℕ) (i : ℕ) → length ms ≡ 936 → i < planes → Eights (tableIn ms i)
+in-eights ms i e hi k h = ap length (table-row ms i k h) ∙ row-long ms (rowNumber k i) (omega arith)
 
 -- what lay out gives for any tape
 pub laid-eights : (t : Tape) (w : Which) → Eights (tableOf t w)
@@ -80,13 +80,12 @@ backs-long {W} source target narrow few s t k h =
     ∙ omega (arith, length-row (getD source k []) narrow (s k (omega arith)), length-row (getD target k []) narrow (t k (omega arith)))
 
 -- and of the masks that lay out lends, as they are read
-pub three-read : (W : ℕ) (ms : List ℕ) (first k : ℕ) {block source target : List ℕ} → k < 9 → block ≡ rowIn ms (13 * k + first) → source ≡ rowIn ms (13 * k + first + 1)
-    → target ≡ rowIn ms (13 * k + first + 2) → threeRows W block source target ≡ depthRows W (tableIn ms first) (tableIn ms (first + 1)) (tableIn ms (first + 2)) k
-three-read W ms first k h b s t = λ i. threeRows W ((b ∙ sym (table-row ms first k h)) i) ((s ∙ read 1) i) ((t ∙ read 2) i)
-  where
-    read : (j : ℕ) → rowIn ms (13 * k + first + j) ≡ getD (tableIn ms (first + j)) k []
-    read j = let e : 13 * k + first + j ≡ 13 * k + (first + j) = omega arith in ap (rowIn ms) e ∙ sym (table-row ms (first + j) k h)
+pub three-read : (W : ℕ) (ms : List ℕ) (first k : ℕ) {block source target : List ℕ} → k < 9 → block ≡ rowIn ms (rowNumber k first)
+    → source ≡ rowIn ms (rowNumber k (first + 1)) → target ≡ rowIn ms (rowNumber k (first + 2))
+    → threeRows W block source target ≡ depthRows W (tableIn ms first) (tableIn ms (first + 1)) (tableIn ms (first + 2)) k
+three-read W ms first k h b s t =
+    λ i. threeRows W ((b ∙ sym (table-row ms first k h)) i) ((s ∙ sym (table-row ms (first + 1) k h)) i) ((t ∙ sym (table-row ms (first + 2) k h)) i)
 
-pub two-read : (W : ℕ) (ms : List ℕ) (k : ℕ) {source target : List ℕ} → k < 9 → source ≡ rowIn ms (13 * k + 11) → target ≡ rowIn ms (13 * k + 12)
-    → twoRows W source target ≡ backRows W (tableIn ms 11) (tableIn ms 12) k
-two-read W ms k h s t = λ i. twoRows W ((s ∙ sym (table-row ms 11 k h)) i) ((t ∙ sym (table-row ms 12 k h)) i)
+pub two-read : (W : ℕ) (ms : List ℕ) (k : ℕ) {source target : List ℕ} → k < 9 → source ≡ rowIn ms (rowNumber k (number back-source))
+    → target ≡ rowIn ms (rowNumber k (number back-target)) → twoRows W source target ≡ backRows W (tableIn ms (number back-source)) (tableIn ms (number back-target)) k
+two-read W ms k h s t = λ i. twoRows W ((s ∙ sym (table-row ms (number back-source) k h)) i) ((t ∙ sym (table-row ms (number back-target) k h)) i)

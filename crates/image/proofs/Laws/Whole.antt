@@ -6,12 +6,12 @@ use native.Mathlib.Numerals.{add-one}
 use native.Mathlib.Omega.{arith}
 use lib.ListN.{getD, length, take}
 use lib.Seq.{length-sets, sets}
-use Rattle.model.specs.Models.LayOut.{back-source, back-target, gather-block, gather-source, gather-target, loop-place, scatter-block, scatter-source, scatter-target, Which}
+use Rattle.model.specs.Models.LayOut.{back-source, back-target, entering, gather-block, gather-source, gather-target, leaving, loop-place, number, scatter-block, scatter-source, scatter-target, Which}
 use Rattle.model.specs.Models.Sections.{lettersAt}
 use Rattle.image_sections.specs.Sections.{Within}
 use Rattle.image_sections.specs.declared.Sections.{Sections}
 use Rattle.image_sections.proofs.Laws.Within.{scatters-in}
-use Rattle.tokens_masks.specs.Masks.{rowIn, tableIn}
+use Rattle.tokens_masks.specs.Masks.{blockPlane, rowIn, rowNumber, tableIn}
 use Rattle.tokens_masks.specs.Says.{Laid}
 use Rattle.tokens_masks.specs.Tables.{Table}
 use Rattle.tokens_masks.specs.Tapes.{propagateBlockTable, propagateSourceTable, propagateTargetTable, tableOf}
@@ -72,19 +72,19 @@ module _ (p : Sections) (row : List ℕ) (t : Tape) (I : Within p (p .length)) w
   length-propagate {ms = ms} L long =
       length-section (3 * W) (suc d) (depthRows W (propagateBlockTable t) (propagateSourceTable t) (propagateTargetTable t))
       (depths-long (propagateBlockTable t) (propagateSourceTable t) (propagateTargetTable t) (I .narrow) (omega (arith, I .deep))
-      (subst Eights (L .propagate-blocks) (in-eights ms 8 long (omega arith))) (subst Eights (L .propagate-sources) (in-eights ms 9 long (omega arith)))
-      (subst Eights (L .propagate-targets) (in-eights ms 10 long (omega arith)))) ∙ omega arith
+      (subst Eights (L .propagate-blocks) (in-eights ms blockPlane long (omega arith))) (subst Eights (L .propagate-sources) (in-eights ms (number leaving) long (omega arith)))
+      (subst Eights (L .propagate-targets) (in-eights ms (number entering) long (omega arith)))) ∙ omega arith
 
   -- the words after each section
   pub whole : {ms : List ℕ} → Laid t ms → length ms ≡ 936 → p .letters ≡ lettersAt → (l : List ℕ) → p .length ≤ length l
-      → {places shaped lettered repeated scattered gathered propagated after : List ℕ} → places ≡ rowIn ms 1
+      → {places shaped lettered repeated scattered gathered propagated after : List ℕ} → places ≡ rowIn ms (rowNumber 0 (number loop-place))
       → shaped ≡ sets l 0 (shapePart p)
       → lettered ≡ sets shaped (p .letters - 1) letterPart
       → repeated ≡ sets lettered (p .repeats - 1) (bothPart W lettered (p .letters) places)
-      → scattered ≡ sets repeated (p .scatter - 1) (tablesPart W d (tableIn ms 2) (tableIn ms 3) (tableIn ms 4))
-      → gathered ≡ sets scattered (p .gather - 1) (tablesPart W d (tableIn ms 5) (tableIn ms 6) (tableIn ms 7))
-      → propagated ≡ sets gathered (p .propagate - 1) (tablesPart W (d + 1) (tableIn ms 8) (tableIn ms 9) (tableIn ms 10))
-      → after ≡ sets propagated (p .back - 1) (backPart W d (tableIn ms 11) (tableIn ms 12)) → after ≡ sets l 0 (imageWords p row t)
+      → scattered ≡ sets repeated (p .scatter - 1) (tablesPart W d (tableIn ms (number scatter-block)) (tableIn ms (number scatter-source)) (tableIn ms (number scatter-target)))
+      → gathered ≡ sets scattered (p .gather - 1) (tablesPart W d (tableIn ms (number gather-block)) (tableIn ms (number gather-source)) (tableIn ms (number gather-target)))
+      → propagated ≡ sets gathered (p .propagate - 1) (tablesPart W (d + 1) (tableIn ms blockPlane) (tableIn ms (number leaving)) (tableIn ms (number entering)))
+      → after ≡ sets propagated (p .back - 1) (backPart W d (tableIn ms (number back-source)) (tableIn ms (number back-target))) → after ≡ sets l 0 (imageWords p row t)
   whole {ms = ms} L long first l fits {places} {shaped} {lettered} {repeated} {scattered} {gathered} {propagated} are-loops by-shape by-letters
       by-repeats by-scatter by-gather by-propagate by-back =
       let scatterPart = laidPart scatter-block scatter-source scatter-target in
@@ -111,5 +111,5 @@ module _ (p : Sections) (row : List ℕ) (t : Tape) (I : Within p (p .length)) w
       (tables-as (L .gather-blocks) (L .gather-sources) (L .gather-targets) W d scattered (p .gather - 1) by-gather)
       (both gathered (p .propagate) propagatePart backsPart (omega (arith, I .gathers)) (omega (arith, length-propagate L long, I .propagates))
       (tables-as (L .propagate-blocks) (L .propagate-sources) (L .propagate-targets) W (suc d) gathered (p .propagate - 1)
-      (by-propagate ∙ ap (λ (n : ℕ). sets gathered (p .propagate - 1) (tablesPart W n (tableIn ms 8) (tableIn ms 9) (tableIn ms 10))) (add-one d)))
+      (by-propagate ∙ ap (λ (n : ℕ). sets gathered (p .propagate - 1) (tablesPart W n (tableIn ms blockPlane) (tableIn ms (number leaving)) (tableIn ms (number entering)))) (add-one d)))
       (by-back ∙ (λ j. sets propagated (p .back - 1) (backPart W d (L .back-sources j) (L .back-targets j)))))))))

@@ -17,15 +17,15 @@ use Rattle.image_sections.specs.declared.Sections.{Sections}
 use Rattle.image_sections.proofs.Laws.Header.{headed-placed, own-words}
 use Rattle.image_sections.proofs.Laws.OfTree.{image-placed}
 use Rattle.image_sections.proofs.Laws.Within.{within}
-use Rattle.tokens_masks.specs.Tapes.{shapeOf}
-use Rattle.tokens_masks.specs.declared.Shape.the-variants as shape
+use Rattle.tokens_masks.specs.Tapes.{onTape}
+use Rattle.tokens_masks.specs.declared.OnTape.the-variants as told
 use Rattle.tokens_masks.specs.declared.Tape.{Tape}
 use Rattle.image_apart.specs.Says.{ApartSays, LettersOf, no-header, ShownTape, taken}
 use Rattle.image_apart.specs.declared.Apart.{Apart}
 use Rattle.image_check.specs.Says.{CheckSays, is-image}
 use Rattle.image_check.specs.Work.{sameAll}
 use Rattle.image_check.specs.declared.Verdict.the-variants.{Image}
-use Rattle.image_check.proofs.Laws.Verdict.{image-deep, image-headed, image-same, image-tree, shape-tree, tree-shape, yes}
+use Rattle.image_check.proofs.Laws.Verdict.{image-deep, image-headed, image-same, image-tree, on-tape-tree, tree-on-tape, yes}
 
 two-answers : {header : Header} {p : Sections} → header ≡ Other → header ≡ Sound p → ⊥
 two-answers e f = let z : _≡_ {A = ℕ} 0 1 = cc in omega arith
@@ -59,14 +59,14 @@ module _ {ws : List ℕ} {p : Sections} {letters : List ℕ} {t : Tape} (K : Tak
   depth-is = ap (λ (q : Sections). q .depth) (K .own)
 
   -- ---- NO
-  pub no-tree : shapeOf t ≡ shape.Other → NoImage ws
-  no-tree e s I = let z : _≡_ {A = ℕ} 0 1 = other (sym e ∙ tree-shape t (image-tree ws (K .fit) s I (K .letters-of) (K .shown))) in omega arith
+  pub no-tree : onTape t ≡ told.Other → NoImage ws
+  no-tree e s I = let z : _≡_ {A = ℕ} 0 1 = other (sym e ∙ tree-on-tape t (image-tree ws (K .fit) s I (K .letters-of) (K .shown))) in omega arith
     where
-      other : {k : ℕ} → shape.Other ≡ shape.Tree k → _≡_ {A = ℕ} 0 1
+      other : {k : ℕ} → told.Other ≡ told.Tree k → _≡_ {A = ℕ} 0 1
       other q = cc
 
-  pub other-depth : (k : ℕ) → shapeOf t ≡ shape.Tree k → (k ≡ p .depth → ⊥) → NoImage ws
-  other-depth k e n s I = n (sym (shape-tree t k e .1) ∙ image-deep ws (K .fit) s I (K .letters-of) (K .shown) ∙ sym depth-is)
+  pub other-depth : (k : ℕ) → onTape t ≡ told.Tree k → (k ≡ p .depth → ⊥) → NoImage ws
+  other-depth k e n s I = n (sym (on-tape-tree t k e .1) ∙ image-deep ws (K .fit) s I (K .letters-of) (K .shown) ∙ sym depth-is)
 
   own-places : p ≡ sectionsFor (stateWord ws) (widthWord ws) (depthWord ws)
   own-places = K .own ∙ own-words (K .headed)
@@ -76,10 +76,10 @@ module _ {ws : List ℕ} {p : Sections} {letters : List ℕ} {t : Tape} (K : Tak
       subst T (sym (ap (λ (q : Sections). sameAll ws q letters t) own-places) ∙ e) (image-same ws (K .fit) s I (K .letters-of) (K .shown))
 
   -- ---- YES
-  pub image-found : (k : ℕ) → shapeOf t ≡ shape.Tree k → k ≡ p .depth → sameAll ws p letters t ≡ true
+  pub image-found : (k : ℕ) → onTape t ≡ told.Tree k → k ≡ p .depth → sameAll ws p letters t ≡ true
       → CheckSays ws (record { verdict = Image p; tape = t })
   image-found k e n a =
-      let q = shape-tree t k e in
+      let q = on-tape-tree t k e in
       let y = yes ws (K .fit) (K .headed) (K .letters-of) (K .shown) (q .0) (q .1 ∙ n ∙ depth-is)
       (subst T (sym (sym (ap (λ (r : Sections). sameAll ws r letters t) own-places) ∙ a)) tt) in
       is-image (y .0) (y .1) (ap Image (K .own ∙ sym (image-placed ws (y .0) (y .1) .own))) (y .2)

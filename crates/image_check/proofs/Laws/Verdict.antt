@@ -22,8 +22,8 @@ use Rattle.model.proofs.Image.Verdict.{image-complete, image-sound, is-image, I
 use Rattle.model.proofs.Image.WellFormed.{well-fine}
 use Rattle.model.proofs.Laws.Bool.{and-both, and-split, is-true}
 use Rattle.model.proofs.Reading.WellFormed.{rule-well}
-use Rattle.tokens_masks.specs.Tapes.{bares, isTree, shapeOf, tableOf, TapeOf, tokensOf}
-use Rattle.tokens_masks.specs.declared.Shape.the-variants.{Other, Tree}
+use Rattle.tokens_masks.specs.Tapes.{bares, isTree, onTape, tableOf, TapeOf, tokensOf}
+use Rattle.tokens_masks.specs.declared.OnTape.the-variants.{Other, Tree}
 use Rattle.tokens_masks.specs.declared.Tape.{Tape}
 use Rattle.tokens_masks.proofs.Bare.{bares-reach, bares-valid}
 use Rattle.image_sections.specs.Header.{Headed}
@@ -33,15 +33,15 @@ use Rattle.image_check.specs.Work.{sameAll, sameBack, sameGather, samePr
 use Rattle.image_check.proofs.Laws.Agree.{back-is, gather-is, letters-is, propagate-is, repeats-is, scatter-is}
 
 -- ---- what well_formed says
-pub shape-tree : (t : Tape) (k : ℕ) → shapeOf t ≡ Tree k → T (isTree t) × (reach (tokensOf t) begin ≡ k)
-shape-tree t k e = go (isTree t) e
+pub on-tape-tree : (t : Tape) (k : ℕ) → onTape t ≡ Tree k → T (isTree t) × (reach (tokensOf t) begin ≡ k)
+on-tape-tree t k e = go (isTree t) e
   where
     go : (b : Bool) → cond b (Tree (reach (tokensOf t) begin)) Other ≡ Tree k → T b × (reach (tokensOf t) begin ≡ k)
     go true e = (tt, cc)
     go false e = let z : _≡_ {A = ℕ} 0 1 = cc in absurd (omega arith)
 
-pub tree-shape : (t : Tape) → T (isTree t) → shapeOf t ≡ Tree (reach (tokensOf t) begin)
-tree-shape t h = ap (λ (b : Bool). cond b (Tree (reach (tokensOf t) begin)) Other) (is-true (isTree t) h)
+pub tree-on-tape : (t : Tape) → T (isTree t) → onTape t ≡ Tree (reach (tokensOf t) begin)
+tree-on-tape t h = ap (λ (b : Bool). cond b (Tree (reach (tokensOf t) begin)) Other) (is-true (isTree t) h)
 
 -- ---- words with a header, and what was taken from them
 module _ (ws : List ℕ) (fit : Fit ws) (H : Headed ws) {letters : List ℕ} (L : LettersOf ws letters) {t : Tape} (S : ShownTape ws t) where

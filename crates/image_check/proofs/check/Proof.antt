@@ -1,8 +1,8 @@
 -- Each way out is one of the laws of Laws/Answers, for what was taken from the words so far.
 use mathlib.Core.Path.{_≡_, sym, _∙_}
 use Rattle.mask.proofs.Laws.Bits.{fit-row}
-use Rattle.tokens_masks.specs.Tapes.{shapeOf}
-use Rattle.tokens_masks.specs.declared.Shape.the-variants.{Tree}
+use Rattle.tokens_masks.specs.Tapes.{onTape}
+use Rattle.tokens_masks.specs.declared.OnTape.the-variants.{Tree}
 use Rattle.image_check.specs.Says.{is-other}
 use Rattle.image_check.proofs.Laws.Answers.{image-found, no-tree, not-false, not-headed, not-true, other-depth, room-taken, Taken, taken-of, words-differ}
 use borrow.Author.Needs.{needs}
@@ -21,18 +21,18 @@ parts c =
 abbrev header-of : tie.After-lay-out → tie.After-header
 header-of c = c .before .before .before .before
 
-abbrev laid-of : tie.After-shape → tie.After-lay-out
+abbrev laid-of : tie.After-on-tape → tie.After-lay-out
 laid-of c = c .before .before
 
-abbrev shape-of : tie.Else1 → tie.After-shape
-shape-of c = c .before .before .before
+abbrev tree-of : tie.Else1 → tie.After-on-tape
+tree-of c = c .before .before .before
 
 abbrev told-of : tie.After-agrees → tie.Else1
 told-of c = c .before .before .before
 
 -- the tape is a tree's
-grown : (c : tie.After-shape) → shapeOf (header-of (laid-of c) .before .before .take-apart .result .tape) ≡ Tree (c .shape .given .0 .0)
-grown c = sym (laid-of c .lay-out .ensures .0) ∙ c .shape .given .1
+grown : (c : tie.After-on-tape) → onTape (header-of (laid-of c) .before .before .take-apart .result .tape) ≡ Tree (c .on-tape .given .0 .0)
+grown c = sym (laid-of c .lay-out .ensures .0) ∙ c .on-tape .given .1
 
 take-apart-requires : tie.Need-take-apart-requires
 take-apart-requires c κs = search needs
@@ -54,8 +54,8 @@ returns c =
 lay-out-requires : tie.Need-lay-out-requires
 lay-out-requires c κs = search needs
 
-enum-known-shape : tie.Need-enum-known-shape
-enum-known-shape c = search needs
+enum-known-on-tape : tie.Need-enum-known-on-tape
+enum-known-on-tape c = search needs
 
 enum-told-2 : tie.Need-enum-told-2
 enum-told-2 c = search needs
@@ -74,11 +74,11 @@ refuse-requires-3 c κs = search needs
 returns-3 : tie.Need-returns-3
 returns-3 c =
     let g = c .before .before .before .before in
-    is-other (other-depth (parts (header-of (laid-of g))) (g .shape .given .0 .0) (grown g) (c .before .if1 .taken)) (c .refuse3 .ensures)
+    is-other (other-depth (parts (header-of (laid-of g))) (g .on-tape .given .0 .0) (grown g) (c .before .if1 .taken)) (c .refuse3 .ensures)
 
 agrees-requires : tie.Need-agrees-requires
 agrees-requires c κs =
-    let l = laid-of (shape-of (c .before .before)) in
+    let l = laid-of (tree-of (c .before .before)) in
     (room-taken (parts (header-of l)), l .lay-out .ensures .1 .1 .0)
 
 refuse-requires-4 : tie.Need-refuse-requires-4
@@ -88,14 +88,14 @@ returns-4 : tie.Need-returns-4
 returns-4 c =
     let a = c .before .before in
     is-other
-    (words-differ (parts (header-of (laid-of (shape-of (told-of a))))) (sym (a .agrees .ensures) ∙ not-true (a .agrees .result) (c .before .if2 .taken)))
+    (words-differ (parts (header-of (laid-of (tree-of (told-of a))))) (sym (a .agrees .ensures) ∙ not-true (a .agrees .result) (c .before .if2 .taken)))
     (c .refuse4 .ensures)
 
 returns-5 : tie.Need-returns-5
 returns-5 c =
     let a = c .before in
-    let g = shape-of (told-of a) in
-    image-found (parts (header-of (laid-of g))) (g .shape .given .0 .0) (grown g) (told-of a .if1 .left)
+    let g = tree-of (told-of a) in
+    image-found (parts (header-of (laid-of g))) (g .on-tape .given .0 .0) (grown g) (told-of a .if1 .left)
     (sym (a .agrees .ensures) ∙ not-false (a .agrees .result) (c .if2 .left))
 
 pub check-spec : {M : Type 1} → statement M
@@ -108,7 +108,7 @@ check-spec =
     refuse-requires
     returns
     lay-out-requires
-    enum-known-shape
+    enum-known-on-tape
     enum-told-2
     refuse-requires-2
     returns-2

@@ -11,7 +11,7 @@ use Rattle.tokens.specs.Scans.{noFrame, ReadyAt}
 use Rattle.tokens_masks.proofs.Along.{tapeOf, too-long}
 use Rattle.tokens_masks.proofs.Scanning.{Scanning, scanning-begin, scanning-depth, scanning-misfit, scanning-other, scanning-ready, scanning-step, scanning-tree, top-here}
 use Rattle.tokens_masks.specs.Tapes.{tokensOf}
-use Rattle.tokens_masks.specs.declared.Shape.the-variants.{Other, Tree}
+use Rattle.tokens_masks.specs.declared.OnTape.the-variants.{Other, Tree}
 use borrow.Author.Needs.{needs}
 use Rattle.tokens_masks.proofs.scan_tape.Statement.{statement}
 use Rattle.tokens_masks.proofs.scan_tape.Tie as tie

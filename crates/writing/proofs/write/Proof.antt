@@ -6,6 +6,10 @@ use Rattle.writing.proofs.Laws.Whole.{no-room, nothing-lent, room}
 use Rattle.writing.proofs.write.Statement.{statement}
 use Rattle.writing.proofs.write.Tie as tie
 
+-- from the size found, where the function began
+abbrev start : tie.After-write-range → tie.Start
+start c = c .before .before .before .before .before .before
+
 sub-write-range : tie.Need-sub-write-range
 sub-write-range c = search needs
 
@@ -23,14 +27,15 @@ same-length c = c .before .before .bytes .given .1
 
 returns : tie.Need-returns
 returns c =
-    let w = c .before .before .before .write-range in
-    let a = c .before .before .before .before .before .before .before .before .before .args in
+    let f = c .before .before .before in
+    let w = f .write-range in
+    let a = start f .args in
     let same = nothing-lent (w .last .1 .1 .1 .0) (a .bytes .now) (c .before .before .bytes .given .0) in
     no-room (a .words .now) (a .sections .width) (a .tape .kinds) (a .tape .length) (a .bytes .now) _ same (w .result) (w .ensures .0) (c .if1 .taken)
 
 write-range-requires-2 : tie.Need-write-range-requires-2
 write-range-requires-2 c κs =
-    let p = c .before .before .before .before .before .before .before .before .before .before .before .pre in
+    let p = start (c .before .before .before .before .before) .pre in
     (p .0, omega arith, p .1, omega arith)
 
 same-length-2 : tie.Need-same-length-2
@@ -40,8 +45,9 @@ returns-2 : tie.Need-returns-2
 returns-2 c =
     let v = c .before .before .write-range2 in
     let o = c .before .before .before .before .before in
-    let w = o .before .before .before .write-range in
-    let a = o .before .before .before .before .before .before .before .before .before .args in
+    let f = o .before .before .before in
+    let w = f .write-range in
+    let a = start f .args in
     let same = nothing-lent (w .last .1 .1 .1 .0) (a .bytes .now) (o .before .before .bytes .given .0) in
     room (a .words .now) (a .sections .width) (a .tape .kinds) (a .tape .length) (a .bytes .now) _ same (w .result) (v .last .1 .1 .1 .0) (w .ensures .0)
     (o .if1 .left) (v .ensures .1 .0)

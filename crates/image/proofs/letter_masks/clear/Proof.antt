@@ -1,4 +1,4 @@
--- `letters::clear`: the words written so far are the first of the zeros.
+-- `letter_masks::clear`: the words written so far are the first of the zeros.
 use mathlib.Core.Path.{_≡_, refl, sym, ap, _∙_}
 use mathlib.Core.List.{List}
 use Prim.Native.Nat.{ℕ, _+_, _-_, _≤_}

@@ -1,4 +1,4 @@
--- `letters::put_both`: the words written so far are the first of the row with the loops; those read stand before them, and are as they were.
+-- `letter_masks::put_both`: the words written so far are the first of the row with the loops; those read stand before them, and are as they were.
 use mathlib.Core.Path.{_≡_, refl, ap, _∙_}
 use mathlib.Core.List.{List}
 use Prim.Native.Nat.{ℕ, _+_, _-_, _≤_}

@@ -1,4 +1,4 @@
--- `letters::put_quarter`: after i turns the rows are those of the first i tokens; a class's word without a bit would change none of them.
+-- `letter_masks::put_quarter`: after i turns the rows are those of the first i tokens; a class's word without a bit would change none of them.
 use mathlib.Core.Path.{_≡_, refl, sym, ap, _∙_}
 use mathlib.Core.Logic.{⊎-elim}
 use mathlib.Core.List.{List}
@@ -21,6 +21,13 @@ Inv-loop words₀ at width tokens length′ q i₀ words i =
 abbrev μ-loop : tie.MeasureT-loop
 μ-loop words₀ at width tokens length′ q i₀ words i = length′ - i
 
+-- from the loop, the rows emptied; from those, where the function began
+abbrev emptied : tie.At-loop Inv-loop μ-loop → tie.After-words Inv-loop μ-loop
+emptied c = c .before .before
+
+abbrev start : tie.After-words Inv-loop μ-loop → tie.Start Inv-loop μ-loop
+start c = c .before .before .before .before
+
 mul-clear : tie.Need-mul-clear Inv-loop μ-loop
 mul-clear c = search needs
 
@@ -29,14 +36,15 @@ clear-requires c κs = search needs
 
 loop-holds : tie.Need-loop-holds Inv-loop μ-loop
 loop-holds c =
-    let s = c .before .before .before .before .before in
+    let r = c .before in
+    let s = start r in
     let a = s .args in
     let zeros : List ℕ = replicate (64 * a .width) 0 in
     let long = length-replicate {A = ℕ} (64 * a .width) 0 in
-    let e = c .before .before .clear .ensures in (
+    let e = r .before .clear .ensures in (
       omega arith,
       e ∙ sym (sets-over (a .words .now) (a .at) zeros zeros refl (omega (arith, long, s .pre .1))) ∙ ap (λ (ws : List ℕ). sets ws (a .at) zeros) (sym e)
-          ∙ ap (sets (c .before .before .clear .last .0) (a .at)) (no-token (a .width) (a .tokens .now) (s .pre .0) (a .q)),
+          ∙ ap (sets (r .before .clear .last .0) (a .at)) (no-token (a .width) (a .tokens .now) (s .pre .0) (a .q)),
       refl,
     )
 
@@ -60,11 +68,12 @@ add-put-state c = search needs
 
 put-state-requires : tie.Need-put-state-requires Inv-loop μ-loop
 put-state-requires c κs =
-    let s = c .before .before .before .before .before .before .before .before .before .before in
-    let l = c .before .before .before .before .loop in (
+    let m = c .before .before .before in
+    let r = emptied (m .before) in
+    let s = start r in (
       s .pre .0,
-      omega (arith, s .pre .3, c .before .before .before .loop-test .taken),
-      omega (arith, s .pre .1, l .inv .2, c .before .before .before .before .before .before .words .given),
+      omega (arith, s .pre .3, m .loop-test .taken),
+      omega (arith, s .pre .1, m .before .loop .inv .2, r .words .given),
     )
 
 add-i : tie.Need-add-i Inv-loop μ-loop
@@ -75,14 +84,16 @@ loop-less c = search needs
 
 loop-again : tie.Need-loop-again Inv-loop μ-loop
 loop-again c =
-    let s = c .before .before .before .before .before .before .before .before .before in
+    let m = c .before .before in
+    let r = emptied (m .before) in
+    let s = start r in
     let a = s .args in
-    let l = c .before .before .before .loop in
-    let cleared = c .before .before .before .before .before .before .clear .last .0 in
+    let l = m .before .loop in
+    let cleared = r .before .clear .last .0 in
     let class = getD (a .tokens .now) (5 * l .i + 1 + a .q) 0 in
     let n = add-one (l .i) in
-    let fits : a .at + 64 * a .width ≤ length cleared = omega (arith, s .pre .1, c .before .before .before .before .before .words .given) in
-    let h : suc (l .i) < 64 * a .width = omega (arith, s .pre .3, c .before .before .loop-test .taken) in
+    let fits : a .at + 64 * a .width ≤ length cleared = omega (arith, s .pre .1, r .words .given) in
+    let h : suc (l .i) < 64 * a .width = omega (arith, s .pre .3, m .loop-test .taken) in
     let e : c .if1 .words ≡ withState 64 (a .width) class (suc (l .i)) (a .at) (l .words) =
     ⊎-elim (λ w. w .5 ∙ w .2 .ensures ∙ ap (λ (k : ℕ). withState 64 (a .width) class k (a .at) (l .words)) n)
     (λ w. w .1 ∙ sym (no-state 64 (a .width) (suc (l .i)) (a .at) (l .words))
@@ -95,19 +106,20 @@ loop-again c =
     )
 
 same-length : tie.Need-same-length Inv-loop μ-loop
-same-length c = c .before .loop .inv .2 ∙ c .before .before .before .words .given
+same-length c = c .before .loop .inv .2 ∙ emptied (c .before) .words .given
 
 returns : tie.Need-returns Inv-loop μ-loop
 returns c =
-    let s = c .before .before .before .before .before .before .before in
+    let r = emptied (c .before) in
+    let s = start r in
     let a = s .args in
     let l = c .before .loop in
     let e : l .i ≡ a .length = omega arith in
     let zeros : List ℕ = replicate (64 * a .width) 0 in
     let part = quarterPart (a .width) (a .tokens .now) (a .length) (a .q) in
     let long = length-replicate {A = ℕ} (64 * a .width) 0 in
-    l .inv .1 ∙ ap (λ (k : ℕ). sets (c .before .before .before .before .clear .last .0) (a .at) (quarterPart (a .width) (a .tokens .now) k (a .q))) e
-    ∙ ap (λ (ws : List ℕ). sets ws (a .at) part) (c .before .before .before .before .clear .ensures)
+    l .inv .1 ∙ ap (λ (k : ℕ). sets (r .before .clear .last .0) (a .at) (quarterPart (a .width) (a .tokens .now) k (a .q))) e
+    ∙ ap (λ (ws : List ℕ). sets ws (a .at) part) (r .before .clear .ensures)
     ∙ sets-over (a .words .now) (a .at) zeros part (long ∙ sym (quarter-long (a .width) (a .tokens .now) (a .length) (s .pre .0) (a .q)))
     (omega (arith, long, s .pre .1))
 

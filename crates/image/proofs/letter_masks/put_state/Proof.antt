@@ -1,4 +1,4 @@
--- `letters::put_state`: after b turns the rows of the first b bits have the state's bit where the class has them.
+-- `letter_masks::put_state`: after b turns the rows of the first b bits have the state's bit where the class has them.
 use mathlib.Core.Path.{_≡_, refl, sym, ap, _∙_}
 use mathlib.Core.Bool.{Bool}
 use mathlib.Core.Logic.{⊎-elim}

@@ -4,6 +4,7 @@ use mathlib.Core.Path.{refl, ap, _∙_}
 use Prim.Native.Nat.{ℕ, _+_, _*_, _-_}
 use native.Mathlib.Omega.{arith}
 use lib.Seq.{sets}
+use Rattle.model.specs.Models.LayOut.{back-source, back-target, number}
 use Rattle.model.proofs.Image.Address.{part-fits}
 use Rattle.tokens_masks.specs.Masks.{tableIn}
 use Rattle.image.proofs.Laws.Lengths.{backRows, backs-long, in-eights, two-read}
@@ -14,10 +15,17 @@ use Rattle.image.proofs.sections.put_back.Tie as tie
 
 abbrev Inv-loop : tie.InvT-loop
 Inv-loop words₀ at width depths masks k₀ words k =
-    Parts (2 * width) depths (backRows width (tableIn masks 11) (tableIn masks 12)) words₀ at words k
+    Parts (2 * width) depths (backRows width (tableIn masks (number back-source)) (tableIn masks (number back-target))) words₀ at words k
 
 abbrev μ-loop : tie.MeasureT-loop
 μ-loop words₀ at width depths masks k₀ words k = depths - k
+
+-- from the two masks read, the turn of the loop; from that, where the function began
+abbrev turn : tie.After-put-two-arg Inv-loop μ-loop → tie.In-loop Inv-loop μ-loop
+turn c = c .before .before .before
+
+abbrev start : tie.In-loop Inv-loop μ-loop → tie.Start Inv-loop μ-loop
+start c = c .before .before .before .before
 
 mul-words : tie.Need-mul-words Inv-loop μ-loop
 mul-words c = search needs
@@ -39,22 +47,11 @@ loop-holds c =
     let s = c .before .before in
     let ms = s .args .masks .now in
     parts-none
-    (backs-long (tableIn ms 11) (tableIn ms 12) (s .pre .0) (s .pre .1) (in-eights ms 11 (s .pre .4) (omega arith)) (in-eights ms 12 (s .pre .4) (omega arith)))
-
-mul-row-of : tie.Need-mul-row-of Inv-loop μ-loop
-mul-row-of c = search needs
-
-add-row-of : tie.Need-add-row-of Inv-loop μ-loop
-add-row-of c = search needs
+    (backs-long (tableIn ms (number back-source)) (tableIn ms (number back-target)) (s .pre .0) (s .pre .1)
+    (in-eights ms (number back-source) (s .pre .4) (omega arith)) (in-eights ms (number back-target) (s .pre .4) (omega arith)))
 
 row-of-requires : tie.Need-row-of-requires Inv-loop μ-loop
 row-of-requires c κs = search needs
-
-mul-row-of-2 : tie.Need-mul-row-of-2 Inv-loop μ-loop
-mul-row-of-2 c = search needs
-
-add-row-of-2 : tie.Need-add-row-of-2 Inv-loop μ-loop
-add-row-of-2 c = search needs
 
 row-of-requires-2 : tie.Need-row-of-requires-2 Inv-loop μ-loop
 row-of-requires-2 c κs = search needs
@@ -63,20 +60,21 @@ mul-put-two : tie.Need-mul-put-two Inv-loop μ-loop
 mul-put-two c = search needs
 
 mul-put-two-2 : tie.Need-mul-put-two-2 Inv-loop μ-loop
-mul-put-two-2 c = omega (arith, part-fits (2 * c .before .before .before .before .before .before .before .args .width) (c .before .before .before .loop-test .taken))
+mul-put-two-2 c = let m = turn c in omega (arith, part-fits (2 * start m .args .width) (m .loop-test .taken))
 
 add-put-two : tie.Need-add-put-two Inv-loop μ-loop
-add-put-two c = omega (arith, part-fits (2 * c .before .before .before .before .before .before .before .args .width) (c .before .before .before .loop-test .taken))
+add-put-two c = let m = turn c in omega (arith, part-fits (2 * start m .args .width) (m .loop-test .taken))
 
 put-two-requires : tie.Need-put-two-requires Inv-loop μ-loop
 put-two-requires c κs =
-    let s = c .before .before .before .before .before .before .before in
+    let m = turn c in
+    let s = start m in
     let a = s .args in (
       s .pre .0,
       omega (
         arith,
-        part-fits (2 * a .width) (c .before .before .before .loop-test .taken),
-        parts-long (a .words .now) (a .at) (2 * a .width * a .depths) (c .before .before .before .before .loop .inv),
+        part-fits (2 * a .width) (m .loop-test .taken),
+        parts-long (a .words .now) (a .at) (2 * a .width * a .depths) (m .before .loop .inv),
         s .pre .3,
       ),
     )
@@ -89,12 +87,15 @@ loop-less c = search needs
 
 loop-again : tie.Need-loop-again Inv-loop μ-loop
 loop-again c =
-    let l = c .before .before .before .before .before .before .before .loop in
-    let s = c .before .before .before .before .before .before .before .before .before .before in
-    parts-more (l .inv) (c .before .before .before .before .before .before .loop-test .taken)
-    (c .before .before .put-two .ensures
+    let p = c .before .before in
+    let r = p .before .before in
+    let m = turn (p .before) in
+    let l = m .before .loop in
+    let s = start m in
+    parts-more (l .inv) (m .loop-test .taken)
+    (p .put-two .ensures
     ∙ ap (λ (rows : List ℕ). sets (l .words) (s .args .at + 2 * s .args .width * l .k) rows)
-    (two-read (s .args .width) (s .args .masks .now) (l .k) (omega (arith, s .pre .1)) (c .before .before .before .before .before .row-of .ensures .inside (omega (arith, s .pre .1, s .pre .4))) (c .before .before .before .before .row-of2 .ensures .inside (omega (arith, s .pre .1, s .pre .4)))))
+    (two-read (s .args .width) (s .args .masks .now) (l .k) (omega (arith, s .pre .1)) (r .before .row-of .ensures) (r .row-of2 .ensures)))
 
 same-length : tie.Need-same-length Inv-loop μ-loop
 same-length c =
@@ -119,11 +120,7 @@ put-back-spec =
     mul-words-3
     slice-write-words
     loop-holds
-    mul-row-of
-    add-row-of
     row-of-requires
-    mul-row-of-2
-    add-row-of-2
     row-of-requires-2
     mul-put-two
     mul-put-two-2

@@ -104,8 +104,7 @@ returns c =
     let a = s .args in
     whole (a .sections) (a .t2) (a .tape) (s .pre .0 .0) (s .pre .1) (w6 .before .before .put-tables-arg6 .given .0) (s .pre .0 .1)
     (a .words .now) (s .pre .0 .2)
-    (w1 .before .before .before .row-of .ensures .inside (omega (arith, w1 .before .before .before .before .row-of-arg .given .0)))
-    (w1 .before .put-shape .ensures) (w2 .before .put-letters .ensures) (w3 .before .put-repeats .ensures) (w4 .before .put-tables .ensures)
+    (w1 .before .before .before .row-of .ensures) (w1 .before .put-shape .ensures) (w2 .before .put-letters .ensures) (w3 .before .put-repeats .ensures) (w4 .before .put-tables .ensures)
     (w5 .before .put-tables2 .ensures) (w6 .before .put-tables3 .ensures) (w7 .before .put-back .ensures)
 
 pub put-image-spec : {M : Type 1} → statement M

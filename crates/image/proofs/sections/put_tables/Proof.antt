@@ -19,6 +19,13 @@ Inv-loop words₀ at width depths first masks k₀ words k =
 abbrev μ-loop : tie.MeasureT-loop
 μ-loop words₀ at width depths first masks k₀ words k = depths - k
 
+-- from the three masks read, the turn of the loop; from that, where the function began
+abbrev turn : tie.After-put-three-arg Inv-loop μ-loop → tie.In-loop Inv-loop μ-loop
+turn c = c .before .before .before .before
+
+abbrev start : tie.In-loop Inv-loop μ-loop → tie.Start Inv-loop μ-loop
+start c = c .before .before .before .before
+
 mul-words : tie.Need-mul-words Inv-loop μ-loop
 mul-words c = search needs
 
@@ -42,35 +49,17 @@ loop-holds c =
     parts-none
     (depths-long (tableIn ms i) (tableIn ms (i + 1)) (tableIn ms (i + 2)) (s .pre .0) (s .pre .1) (in-eights ms i (s .pre .5) (omega (arith, s .pre .4))) (in-eights ms (i + 1) (s .pre .5) (omega (arith, s .pre .4))) (in-eights ms (i + 2) (s .pre .5) (omega (arith, s .pre .4))))
 
-mul-row-of : tie.Need-mul-row-of Inv-loop μ-loop
-mul-row-of c = search needs
+row-of-requires : tie.Need-row-of-requires Inv-loop μ-loop
+row-of-requires c κs = search needs
 
 add-row-of : tie.Need-add-row-of Inv-loop μ-loop
 add-row-of c = search needs
 
-row-of-requires : tie.Need-row-of-requires Inv-loop μ-loop
-row-of-requires c κs = search needs
-
-mul-row-of-2 : tie.Need-mul-row-of-2 Inv-loop μ-loop
-mul-row-of-2 c = search needs
-
-add-row-of-2 : tie.Need-add-row-of-2 Inv-loop μ-loop
-add-row-of-2 c = search needs
-
-add-row-of-3 : tie.Need-add-row-of-3 Inv-loop μ-loop
-add-row-of-3 c = search needs
-
 row-of-requires-2 : tie.Need-row-of-requires-2 Inv-loop μ-loop
 row-of-requires-2 c κs = search needs
 
-mul-row-of-3 : tie.Need-mul-row-of-3 Inv-loop μ-loop
-mul-row-of-3 c = search needs
-
-add-row-of-4 : tie.Need-add-row-of-4 Inv-loop μ-loop
-add-row-of-4 c = search needs
-
-add-row-of-5 : tie.Need-add-row-of-5 Inv-loop μ-loop
-add-row-of-5 c = search needs
+add-row-of-2 : tie.Need-add-row-of-2 Inv-loop μ-loop
+add-row-of-2 c = search needs
 
 row-of-requires-3 : tie.Need-row-of-requires-3 Inv-loop μ-loop
 row-of-requires-3 c κs = search needs
@@ -79,16 +68,16 @@ mul-put-three : tie.Need-mul-put-three Inv-loop μ-loop
 mul-put-three c = search needs
 
 mul-put-three-2 : tie.Need-mul-put-three-2 Inv-loop μ-loop
-mul-put-three-2 c = omega (arith, part-fits (3 * c .before .before .before .before .before .before .before .before .args .width) (c .before .before .before .before .loop-test .taken))
+mul-put-three-2 c = let m = turn c in omega (arith, part-fits (3 * start m .args .width) (m .loop-test .taken))
 
 add-put-three : tie.Need-add-put-three Inv-loop μ-loop
-add-put-three c = omega (arith, part-fits (3 * c .before .before .before .before .before .before .before .before .args .width) (c .before .before .before .before .loop-test .taken))
+add-put-three c = let m = turn c in omega (arith, part-fits (3 * start m .args .width) (m .loop-test .taken))
 
 put-three-requires : tie.Need-put-three-requires Inv-loop μ-loop
 put-three-requires c κs =
-    let s = c .before .before .before .before .before .before .before .before in
-    let a = s .args in
-    let m = c .before .before .before .before in (
+    let m = turn c in
+    let s = start m in
+    let a = s .args in (
       s .pre .0,
       omega (
         arith,
@@ -106,12 +95,16 @@ loop-less c = search needs
 
 loop-again : tie.Need-loop-again Inv-loop μ-loop
 loop-again c =
-    let l = c .before .before .before .before .before .before .before .before .loop in
-    let s = c .before .before .before .before .before .before .before .before .before .before .before in
-    let h = c .before .before .before .before .before .before .before .loop-test .taken in
-    parts-more (l .inv) h
-    (c .before .before .put-three .ensures
-    ∙ ap (λ (rows : List ℕ). sets (l .words) (s .args .at + 3 * s .args .width * l .k) rows) (three-read (s .args .width) (s .args .masks .now) (s .args .first) (l .k) (omega (arith, s .pre .1)) (c .before .before .before .before .before .before .row-of .ensures .inside (omega (arith, s .pre .1, s .pre .4, s .pre .5))) (c .before .before .before .before .before .row-of2 .ensures .inside (omega (arith, s .pre .1, s .pre .4, s .pre .5))) (c .before .before .before .before .row-of3 .ensures .inside (omega (arith, s .pre .1, s .pre .4, s .pre .5)))))
+    let p = c .before .before in
+    let r = p .before .before in
+    let m = turn (p .before) in
+    let l = m .before .loop in
+    let s = start m in
+    parts-more (l .inv) (m .loop-test .taken)
+    (p .put-three .ensures
+    ∙ ap (λ (rows : List ℕ). sets (l .words) (s .args .at + 3 * s .args .width * l .k) rows)
+    (three-read (s .args .width) (s .args .masks .now) (s .args .first) (l .k) (omega (arith, s .pre .1)) (r .before .before .row-of .ensures)
+    (r .before .row-of2 .ensures) (r .row-of3 .ensures)))
 
 same-length : tie.Need-same-length Inv-loop μ-loop
 same-length c =
@@ -136,16 +129,10 @@ put-tables-spec =
     mul-words-3
     slice-write-words
     loop-holds
-    mul-row-of
-    add-row-of
     row-of-requires
-    mul-row-of-2
-    add-row-of-2
-    add-row-of-3
+    add-row-of
     row-of-requires-2
-    mul-row-of-3
-    add-row-of-4
-    add-row-of-5
+    add-row-of-2
     row-of-requires-3
     mul-put-three
     mul-put-three-2

@@ -48,6 +48,10 @@ module _ (marks : Marks) (i : ℕ) where
   is-neither : letter (i + 1) ≡ false → close (i + 1) ≡ false → ifNeither ≡ kindAt marks i
   is-neither e f = ap (λ (b : Bool). cond b (ifClose (i + 1)) ifNeither) (sym f) ∙ no-letter e
 
+-- from the test for a letter, where the function began
+abbrev start : tie.After-row-has-bit → tie.Start
+start c = c .before .before .before .before .before .before .before
+
 add-row-has-bit : tie.Need-add-row-has-bit
 add-row-has-bit c = search needs
 
@@ -71,10 +75,12 @@ letter-kind-requires c κs = search needs
 
 returns : tie.Need-returns
 returns c =
-    let a = c .before .before .before .before .before .before .before .before .before .before .before .args in
+    let h = c .before .before .before in
+    let t = h .before in
+    let a = start t .args in
     c .letter-kind .ensures
     ∙ ap₂ (λ (s p : Bool). repeatKind (repeatOf s p)) (c .before .before .row-has-bit2 .ensures) (c .before .row-has-bit3 .ensures)
-    ∙ is-letter (a .marks) (a .i) (sym (c .before .before .before .before .row-has-bit .ensures) ∙ c .before .before .before .if1 .taken)
+    ∙ is-letter (a .marks) (a .i) (sym (t .row-has-bit .ensures) ∙ h .if1 .taken)
 
 add-row-has-bit-4 : tie.Need-add-row-has-bit-4
 add-row-has-bit-4 c = search needs
@@ -96,30 +102,34 @@ close-kind-requires c κs = search needs
 
 returns-2 : tie.Need-returns-2
 returns-2 c =
-    let a = c .before .before .before .before .before .before .before .before .before .before .before .before .before .args in
+    let h = c .before .before .before in
+    let e = h .before .before in
+    let t = e .before in
+    let a = start t .args in
     c .close-kind .ensures
     ∙ ap₂ (λ (s b : Bool). markKind (markOf s b)) (c .before .before .row-has-bit5 .ensures) (c .before .row-has-bit6 .ensures)
-    ∙ is-close (a .marks) (a .i) (sym (c .before .before .before .before .before .before .row-has-bit .ensures) ∙ c .before .before .before .before .before .if1 .left)
-    (sym (c .before .before .before .before .row-has-bit4 .ensures) ∙ c .before .before .before .if2 .taken)
+    ∙ is-close (a .marks) (a .i) (sym (t .row-has-bit .ensures) ∙ e .if1 .left) (sym (h .before .row-has-bit4 .ensures) ∙ h .if2 .taken)
 
 row-has-bit-requires-7 : tie.Need-row-has-bit-requires-7
 row-has-bit-requires-7 c κs = search needs
 
 returns-3 : tie.Need-returns-3
 returns-3 c =
-    let a = c .before .before .before .before .before .before .before .before .before .before .before .before .args in
+    let h = c .before .before in
+    let e = h .before .before in
+    let t = e .before in
+    let a = start t .args in
     ap (λ (b : Bool). cond b openKind barKind) (sym (c .if3 .taken) ∙ c .before .row-has-bit7 .ensures)
-    ∙ is-neither (a .marks) (a .i)
-    (sym (c .before .before .before .before .before .row-has-bit .ensures) ∙ c .before .before .before .before .if1 .left)
-    (sym (c .before .before .before .row-has-bit4 .ensures) ∙ c .before .before .if2 .left)
+    ∙ is-neither (a .marks) (a .i) (sym (t .row-has-bit .ensures) ∙ e .if1 .left) (sym (h .before .row-has-bit4 .ensures) ∙ h .if2 .left)
 
 returns-4 : tie.Need-returns-4
 returns-4 c =
-    let a = c .before .before .before .before .before .before .before .before .before .before .before .before .args in
+    let h = c .before .before in
+    let e = h .before .before in
+    let t = e .before in
+    let a = start t .args in
     ap (λ (b : Bool). cond b openKind barKind) (sym (c .if3 .left) ∙ c .before .row-has-bit7 .ensures)
-    ∙ is-neither (a .marks) (a .i)
-    (sym (c .before .before .before .before .before .row-has-bit .ensures) ∙ c .before .before .before .before .if1 .left)
-    (sym (c .before .before .before .row-has-bit4 .ensures) ∙ c .before .before .if2 .left)
+    ∙ is-neither (a .marks) (a .i) (sym (t .row-has-bit .ensures) ∙ e .if1 .left) (sym (h .before .row-has-bit4 .ensures) ∙ h .if2 .left)
 
 pub kind-at-spec : {M : Type 1} → statement M
 kind-at-spec =

@@ -8,8 +8,9 @@ use native.Mathlib.Omega.{arith}
 use lib.Dec.{T}
 use lib.ListN.{getD}
 use Rattle.model.specs.Image.{join}
-use Rattle.model.specs.Models.LayOut.{letter-place, loop-place}
+use Rattle.model.specs.Models.LayOut.{back-source, gather-block, letter-place, loop-place, number, scatter-block}
 use Rattle.model.specs.Models.Verdict.{sameWords}
+use Rattle.tokens_masks.specs.Masks.{blockPlane}
 use Rattle.tokens_masks.specs.Tapes.{tableOf}
 use Rattle.image_sections.proofs.Laws.Within.{back-fits, gather-fits, propagate-fits, scatter-fits}
 use Rattle.image_apart.specs.Work.{wordsAt}
@@ -74,38 +75,38 @@ fromLetters s = lettersAre s && fromRepeats s
 -- the masks are those that are laid out for the tape
 scatter-same : (s : tie.Start)
     → let p = s .args .sections in
-    sameMasks (s .args .words .now) (p .scatter) (p .width) (p .depth) 2 3 (s .args .masks .now) ≡ scatterIs s
+    sameMasks (s .args .words .now) (p .scatter) (p .width) (p .depth) (number scatter-block) 3 (s .args .masks .now) ≡ scatterIs s
 scatter-same s =
     let p = s .args .sections in
     let L = s .pre .1 in
-    three-masks (s .args .words .now) (p .scatter) (p .width) (p .depth) 2 (s .args .masks .now) (omega (arith, s .pre .0 .deep))
+    three-masks (s .args .words .now) (p .scatter) (p .width) (p .depth) (number scatter-block) (s .args .masks .now) (omega (arith, s .pre .0 .deep))
     ∙ (λ i. sameTables (s .args .words .now) (p .scatter) (p .width) (p .depth) (L .scatter-blocks i) (L .scatter-sources i) (L .scatter-targets i))
 
 gather-same : (s : tie.Start)
     → let p = s .args .sections in
-    sameMasks (s .args .words .now) (p .gather) (p .width) (p .depth) 5 3 (s .args .masks .now) ≡ gatherIs s
+    sameMasks (s .args .words .now) (p .gather) (p .width) (p .depth) (number gather-block) 3 (s .args .masks .now) ≡ gatherIs s
 gather-same s =
     let p = s .args .sections in
     let L = s .pre .1 in
-    three-masks (s .args .words .now) (p .gather) (p .width) (p .depth) 5 (s .args .masks .now) (omega (arith, s .pre .0 .deep))
+    three-masks (s .args .words .now) (p .gather) (p .width) (p .depth) (number gather-block) (s .args .masks .now) (omega (arith, s .pre .0 .deep))
     ∙ (λ i. sameTables (s .args .words .now) (p .gather) (p .width) (p .depth) (L .gather-blocks i) (L .gather-sources i) (L .gather-targets i))
 
 propagate-same : (s : tie.Start)
     → let p = s .args .sections in
-    sameMasks (s .args .words .now) (p .propagate) (p .width) (p .depth + 1) 8 3 (s .args .masks .now) ≡ propagateIs s
+    sameMasks (s .args .words .now) (p .propagate) (p .width) (p .depth + 1) blockPlane 3 (s .args .masks .now) ≡ propagateIs s
 propagate-same s =
     let p = s .args .sections in
     let L = s .pre .1 in
-    three-masks (s .args .words .now) (p .propagate) (p .width) (p .depth + 1) 8 (s .args .masks .now) (omega (arith, s .pre .0 .deep))
+    three-masks (s .args .words .now) (p .propagate) (p .width) (p .depth + 1) blockPlane (s .args .masks .now) (omega (arith, s .pre .0 .deep))
     ∙ (λ i. sameTables (s .args .words .now) (p .propagate) (p .width) (add-one (p .depth) i) (L .propagate-blocks i) (L .propagate-sources i) (L .propagate-targets i))
 
 back-same : (s : tie.Start)
     → let p = s .args .sections in
-    sameMasks (s .args .words .now) (p .back) (p .width) (p .depth) 11 2 (s .args .masks .now) ≡ backIs s
+    sameMasks (s .args .words .now) (p .back) (p .width) (p .depth) (number back-source) 2 (s .args .masks .now) ≡ backIs s
 back-same s =
     let p = s .args .sections in
     let L = s .pre .1 in
-    two-masks (s .args .words .now) (p .back) (p .width) (p .depth) 11 (s .args .masks .now) (omega (arith, s .pre .0 .deep))
+    two-masks (s .args .words .now) (p .back) (p .width) (p .depth) (number back-source) (s .args .masks .now) (omega (arith, s .pre .0 .deep))
     ∙ (λ i. sameWords (wordsAt (s .args .words .now) (p .back) (2 * p .width * p .depth)) (join (p .depth) 0 (backRows (p .width) (L .back-sources i) (L .back-targets i))))
 
 -- where the function began, from each test that was passed
@@ -129,7 +130,7 @@ letters-told : (c : tie.After-same-rows) → not (c .same-rows .result) ≡ not 
 letters-told c =
     let s = c .before .before .before .before in
     ap not (c .same-rows .ensures
-    ∙ ap (sameWords (s .args .letters)) (c .before .row-of .ensures .inside (omega (arith, c .before .before .row-of-arg .given .0)) ∙ s .pre .1 .letter-places))
+    ∙ ap (sameWords (s .args .letters)) (c .before .row-of .ensures ∙ s .pre .1 .letter-places))
 
 repeats-told : (c : tie.After-repeats-differ) → c .repeats-differ .result ≡ not (repeatsAre (start1 (c .before .before .before)))
 repeats-told c =
@@ -137,7 +138,7 @@ repeats-told c =
     let p = s .args .sections in
     c .repeats-differ .ensures
     ∙ ap (λ (row : List ℕ). not (sameRepeats (s .args .words .now) (p .letters) (p .repeats) (p .width) row))
-    (c .before .row-of2 .ensures .inside (omega (arith, c .before .before .row-of-arg2 .given .0)) ∙ s .pre .1 .loop-places)
+    (c .before .row-of2 .ensures ∙ s .pre .1 .loop-places)
 
 -- where a test is passed, those after it decide
 letters-passed : (c : tie.Else1) {answer : Bool} → answer ≡ fromRepeats (start1 c) → answer ≡ fromLetters (start1 c)

@@ -15,19 +15,10 @@ abbrev μ-loop : tie.MeasureT-loop
 μ-loop masks₀ n₀ masks n = 72 - n
 
 loop-holds : tie.Need-loop-holds Inv-loop μ-loop
-loop-holds c = joining-begin (c .args .masks .now) (c .pre)
+loop-holds c = joining-begin (c .before .args .masks .now) (c .before .pre)
 
-mul-at : tie.Need-mul-at Inv-loop μ-loop
-mul-at c = search needs
-
-add-at : tie.Need-add-at Inv-loop μ-loop
-add-at c = search needs
-
-mul-at-2 : tie.Need-mul-at-2 Inv-loop μ-loop
-mul-at-2 c = search needs
-
-add-at-2 : tie.Need-add-at-2 Inv-loop μ-loop
-add-at-2 c = search needs
+place-of-requires : tie.Need-place-of-requires Inv-loop μ-loop
+place-of-requires c κs = search needs
 
 add-leaving : tie.Need-add-leaving Inv-loop μ-loop
 add-leaving c = search needs
@@ -36,7 +27,7 @@ mul-leaving : tie.Need-mul-leaving Inv-loop μ-loop
 mul-leaving c = search needs
 
 slice-read-leaving : tie.Need-slice-read-leaving Inv-loop μ-loop
-slice-read-leaving c = omega (arith, c .before .before .loop .inv .long)
+slice-read-leaving c = omega (arith, c .before .before .before .loop .inv .long)
 
 add-entering : tie.Need-add-entering Inv-loop μ-loop
 add-entering c = search needs
@@ -45,13 +36,13 @@ mul-entering : tie.Need-mul-entering Inv-loop μ-loop
 mul-entering c = search needs
 
 slice-read-entering : tie.Need-slice-read-entering Inv-loop μ-loop
-slice-read-entering c = omega (arith, c .before .before .before .loop .inv .long)
+slice-read-entering c = omega (arith, c .before .before .before .before .loop .inv .long)
 
 mul-masks : tie.Need-mul-masks Inv-loop μ-loop
 mul-masks c = search needs
 
 slice-write-masks : tie.Need-slice-write-masks Inv-loop μ-loop
-slice-write-masks c = omega (arith, c .before .before .before .loop .inv .long)
+slice-write-masks c = omega (arith, c .before .before .before .before .loop .inv .long)
 
 add-masks : tie.Need-add-masks Inv-loop μ-loop
 add-masks c = search needs
@@ -60,7 +51,7 @@ mul-masks-2 : tie.Need-mul-masks-2 Inv-loop μ-loop
 mul-masks-2 c = search needs
 
 slice-write-masks-2 : tie.Need-slice-write-masks-2 Inv-loop μ-loop
-slice-write-masks-2 c = simp length-set (omega (arith, c .before .before .before .loop .inv .long))
+slice-write-masks-2 c = simp length-set (omega (arith, c .before .before .before .before .loop .inv .long))
 
 add-masks-2 : tie.Need-add-masks-2 Inv-loop μ-loop
 add-masks-2 c = search needs
@@ -69,7 +60,7 @@ mul-masks-3 : tie.Need-mul-masks-3 Inv-loop μ-loop
 mul-masks-3 c = search needs
 
 slice-write-masks-3 : tie.Need-slice-write-masks-3 Inv-loop μ-loop
-slice-write-masks-3 c = simp length-set (omega (arith, c .before .before .before .loop .inv .long))
+slice-write-masks-3 c = simp length-set (omega (arith, c .before .before .before .before .loop .inv .long))
 
 add-n : tie.Need-add-n Inv-loop μ-loop
 add-n c = search needs
@@ -78,13 +69,15 @@ loop-less : tie.Need-loop-less Inv-loop μ-loop
 loop-less c = search needs
 
 loop-again : tie.Need-loop-again Inv-loop μ-loop
-loop-again c = joining-step (c .before .before .before .loop .inv) (c .before .before .loop-test .taken)
+loop-again c =
+    let p = c .before .before in
+    joining-step (p .before .before .loop .inv) (p .before .loop-test .taken) (p .place-of .result) (p .place-of .ensures)
 
 same-length : tie.Need-same-length Inv-loop μ-loop
-same-length c = c .before .loop .inv .long ∙ sym (c .before .before .pre)
+same-length c = c .before .loop .inv .long ∙ sym (c .before .before .before .pre)
 
 returns : tie.Need-returns Inv-loop μ-loop
-returns c = joining-end (c .before .before .pre) (c .before .loop .inv) (c .loop-test .left)
+returns c = joining-end (c .before .before .before .pre) (c .before .loop .inv) (c .loop-test .left)
 
 pub join-propagate-spec : {M : Type 1} → statement M
 join-propagate-spec =
@@ -93,10 +86,7 @@ join-propagate-spec =
     Inv-loop
     μ-loop
     loop-holds
-    mul-at
-    add-at
-    mul-at-2
-    add-at-2
+    place-of-requires
     add-leaving
     mul-leaving
     slice-read-leaving

@@ -9,6 +9,13 @@ use borrow.Author.Needs.{needs}
 use Rattle.tokens_masks.proofs.masks.mark_edge.Statement.{statement}
 use Rattle.tokens_masks.proofs.masks.mark_edge.Tie as tie
 
+-- from the state that the edge enters, the one that it leaves; from that, the test that passed
+abbrev left : tie.After-mark2 → tie.After-mark
+left c = c .before .before .before .before
+
+abbrev passed : tie.After-mark → tie.Then1
+passed c = c .before .before
+
 mark-requires : tie.Need-mark-requires
 mark-requires c κs = search needs
 
@@ -23,11 +30,14 @@ same-length c = search needs
 
 returns : tie.Need-returns
 returns c =
-    let a = c .before .before .before .before .before .before .before .before .before .before .args in
+    let e = c .before .before in
+    let l = left e in
+    let p = passed l in
+    let a = p .before .before .args in
     let ms = a .masks .now in
-    c .before .before .mark2 .ensures
-    ∙ ap₂ (λ (l : List ℕ) (i : ℕ). runIn l i (a .depth) (a .to) (suc (a .to))) (c .before .before .before .before .before .before .mark .ensures) (add-one (a .plane))
-    ∙ sym (ap (λ (b : Bool). cond b (edgeIn ms (a .plane) (a .depth) (a .from) (a .to)) ms) (c .before .before .before .before .before .before .before .before .if1 .taken))
+    e .mark2 .ensures
+    ∙ ap₂ (λ (l : List ℕ) (i : ℕ). runIn l i (a .depth) (a .to) (suc (a .to))) (l .mark .ensures) (add-one (a .plane))
+    ∙ sym (ap (λ (b : Bool). cond b (edgeIn ms (a .plane) (a .depth) (a .from) (a .to)) ms) (p .if1 .taken))
 
 returns-2 : tie.Need-returns-2
 returns-2 c =

@@ -5,6 +5,7 @@ use mathlib.Core.Path.{sym, ap, ap₂, _∙_}
 use Prim.Native.Nat.{ℕ, suc, _+_}
 use native.Mathlib.Numerals.{add-one}
 use native.Mathlib.Omega.{arith}
+use Rattle.model.specs.Models.LayOut.{back-source, gather-block, gather-source, gather-target, leaving, number, scatter-block}
 use Rattle.model.specs.Tree.{canOmit, canReturn}
 use Rattle.tokens.specs.Scans.{frameOf}
 use Rattle.tokens.specs.Tokens.{markOf}
@@ -13,6 +14,25 @@ use Rattle.tokens_masks.specs.Masks.{edgeIn, runIn}
 use borrow.Author.Needs.{needs}
 use Rattle.tokens_masks.proofs.stroke.mark_close.Statement.{statement}
 use Rattle.tokens_masks.proofs.stroke.mark_close.Tie as tie
+
+-- each stroke from the one after it, back from the edge over the union: gather's target, source and block, scatter's block; and where the function began
+abbrev over : tie.After-can-return → tie.After-mark-edge
+over c = c .before .before .before .before
+
+abbrev target : tie.After-mark-edge → tie.After-mark3
+target c = c .before .before .before .before .before
+
+abbrev source : tie.After-mark3 → tie.After-mark2
+source c = c .before .before .before .before
+
+abbrev block : tie.After-mark2 → tie.After-mark-run
+block c = c .before .before .before .before
+
+abbrev first : tie.After-mark-run → tie.After-mark
+first c = c .before .before .before .before .before
+
+abbrev start : tie.After-mark → tie.Start
+start c = c .before .before .before .before
 
 add-mark : tie.Need-add-mark
 add-mark c = search needs
@@ -51,41 +71,53 @@ can-return-requires : tie.Need-can-return-requires
 can-return-requires c κs = search needs
 
 add-mark-edge-2 : tie.Need-add-mark-edge-2
-add-mark-edge-2 c = omega (arith, c .before .before .before .before .before .before .before .before .before .before .before .before .before .before .before .before .before .before .before .before .before .before .before .before .before .before .before .pre .3)
+add-mark-edge-2 c = omega (arith, start (first (block (source (target (over (c .before)))))) .pre .3)
 
 mark-edge-requires-2 : tie.Need-mark-edge-requires-2
 mark-edge-requires-2 c κs =
-    let p = c .before .before .before .before .before .before .before .before .before .before .before .before .before .before .before .before .before .before .before .before .before .before .before .before .before .before .before .pre in
-    (omega (arith, p .0), omega (arith, p .3), p .1, omega arith, c .before .before .before .before .masks5 .given ∙ c .before .before .before .before .before .before .before .before .before .masks4 .given ∙ c .before .before .before .before .before .before .before .before .before .before .before .before .before .masks3 .given ∙ c .before .before .before .before .before .before .before .before .before .before .before .before .before .before .before .before .before .masks2 .given ∙ c .before .before .before .before .before .before .before .before .before .before .before .before .before .before .before .before .before .before .before .before .before .before .masks .given ∙ p .4)
+    let e = over (c .before) in
+    let t = target e in
+    let o = source t in
+    let b = block o in
+    let m = first b in
+    let p = start m .pre in
+    (omega (arith, p .0), omega (arith, p .3), p .1, omega arith, e .mark-edge .kept .0 ∙ t .mark3 .kept .0 ∙ o .mark2 .kept .0 ∙ b .mark-run .kept .0 ∙ m .mark .kept .0 ∙ p .4)
 
 same-length : tie.Need-same-length
 same-length c = search needs
 
 returns : tie.Need-returns
 returns c =
-    let a = c .before .before .before .before .before .before .before .before .before .before .before .before .before .before .before .before .before .before .before .before .before .before .before .before .before .before .before .before .before .before .args in
+    let r = c .before .before in
+    let k = r .before .before in
+    let v = over k in
+    let t = target v in
+    let o = source t in
+    let g = block o in
+    let s = first g in
+    let a = start s .args in
     let ms = a .masks .now in
     let d = a .depth in
     let z = a .position in
     let f = frameOf (a .frame) in
     let m = markOf (a .shown) in
-    let ended : List ℕ → ℕ → ℕ → ℕ → List ℕ = λ l b n x. runIn (runIn (runIn (runIn l 2 d b (suc b)) 5 d n x) 6 d z (suc z)) 7 d x (suc x) in
-    c .before .before .mark-edge2 .ensures
-    ∙ ap₂ (λ (l : List ℕ) (b : Bool). cond b (edgeIn l 11 d z (a .frame .start + 1)) l)
-    (c .before .before .before .before .before .before .before .before .mark-edge .ensures
-    ∙ ap₂ (λ (l : List ℕ) (b : Bool). cond b (edgeIn l 9 d (f .start) (z + 1)) l)
-    (c .before .before .before .before .before .before .before .before .before .before .before .before .before .mark3 .ensures
-    ∙ ap (λ (l : List ℕ). runIn l 7 d (z + 1) (suc (z + 1)))
-    (c .before .before .before .before .before .before .before .before .before .before .before .before .before .before .before .before .before .mark2 .ensures
-    ∙ ap (λ (l : List ℕ). runIn l 6 d z (suc z))
-    (c .before .before .before .before .before .before .before .before .before .before .before .before .before .before .before .before .before .before .before .before .before .mark-run .ensures
-    ∙ ap₂ (λ (l : List ℕ) (n : ℕ). runIn l 5 d n (z + 1)) (c .before .before .before .before .before .before .before .before .before .before .before .before .before .before .before .before .before .before .before .before .before .before .before .before .before .before .mark .ensures) (c .before .before .before .before .before .before .before .before .before .before .before .before .before .before .before .before .before .before .before .before .before .before .before .first-end-of .ensures))))
-    (c .before .before .before .before .before .before .before .before .before .can-omit .ensures))
-    (c .before .before .before .before .can-return .ensures)
+    let ended : List ℕ → ℕ → ℕ → ℕ → List ℕ = λ l b n x. runIn (runIn (runIn (runIn l (number scatter-block) d b (suc b)) (number gather-block) d n x) (number gather-source) d z (suc z)) (number gather-target) d x (suc x) in
+    r .mark-edge2 .ensures
+    ∙ ap₂ (λ (l : List ℕ) (b : Bool). cond b (edgeIn l (number back-source) d z (a .frame .start + 1)) l)
+    (v .mark-edge .ensures
+    ∙ ap₂ (λ (l : List ℕ) (b : Bool). cond b (edgeIn l (number leaving) d (f .start) (z + 1)) l)
+    (t .mark3 .ensures
+    ∙ ap (λ (l : List ℕ). runIn l (number gather-target) d (z + 1) (suc (z + 1)))
+    (o .mark2 .ensures
+    ∙ ap (λ (l : List ℕ). runIn l (number gather-source) d z (suc z))
+    (g .mark-run .ensures
+    ∙ ap₂ (λ (l : List ℕ) (n : ℕ). runIn l (number gather-block) d n (z + 1)) (s .mark .ensures) (g .before .before .first-end-of .ensures))))
+    (v .before .can-omit .ensures))
+    (k .can-return .ensures)
     ∙ (λ i. let x = add-one z i in
     let e = ended ms (add-one (f .alternative) i) (cond (f .barred) (f .firstEnd) z) x in
-    let o = cond (canOmit m) (edgeIn e 9 d (f .start) x) e in
-    cond (canReturn m) (edgeIn o 11 d z (add-one (f .start) i)) o)
+    let o = cond (canOmit m) (edgeIn e (number leaving) d (f .start) x) e in
+    cond (canReturn m) (edgeIn o (number back-source) d z (add-one (f .start) i)) o)
     ∙ sym (close-in m f z d ms)
 
 pub mark-close-spec : {M : Type 1} → statement M

@@ -17,6 +17,16 @@ Inv-loop shown length kinds₀ frames₀ scan₀ i₀ kinds frames scan i = Owni
 abbrev μ-loop : tie.MeasureT-loop
 μ-loop shown length kinds₀ frames₀ scan₀ i₀ kinds frames scan i = length - i
 
+-- from the token read, the innermost frame; from that, the turn of the loop; and from the turn, where the function began
+abbrev top-of : tie.After-read-kind Inv-loop μ-loop → tie.After-innermost Inv-loop μ-loop
+top-of c = c .before .before .before .before .before
+
+abbrev turn-of : tie.After-innermost Inv-loop μ-loop → tie.In-loop Inv-loop μ-loop
+turn-of c = c .before
+
+abbrev start : tie.In-loop Inv-loop μ-loop → tie.Start Inv-loop μ-loop
+start c = c .before .before .before .before .before
+
 no-frame-requires : tie.Need-no-frame-requires Inv-loop μ-loop
 no-frame-requires c κs = search needs
 
@@ -51,14 +61,14 @@ read-kind-requires c κs = search needs
 
 -- the token that was read may be passed
 ready : (c : tie.After-read-kind Inv-loop μ-loop)
-    → ReadyAt (c .before .before .before .before .before .before .before .loop .scan)
-    (getD (c .before .before .before .before .before .before .before .loop .frames) (c .before .before .before .before .before .innermost .result) noFrame)
-    (c .read-kind .result)
+    → let top = top-of c in
+    let l = turn-of top .before .loop in
+    ReadyAt (l .scan) (getD (l .frames) (top .innermost .result) noFrame) (c .read-kind .result)
 ready c =
-    let turn = c .before .before .before .before .before .before in
+    let top = top-of c in
+    let turn = turn-of top in
     let l = turn .before .loop in
-    owning-ready (turn .before .before .before .before .before .pre) (l .inv) (turn .loop-test .taken) (c .read-kind .ensures)
-    (top-here (l .scan) (l .frames) (c .before .before .before .before .before .innermost .ensures))
+    owning-ready (start turn .pre) (l .inv) (turn .loop-test .taken) (c .read-kind .ensures) (top-here (l .scan) (l .frames) (top .innermost .ensures))
 
 step-over-requires : tie.Need-step-over-requires Inv-loop μ-loop
 step-over-requires c κs = ready c
@@ -70,18 +80,19 @@ array-set-from-frames : tie.Need-array-set-from-frames Inv-loop μ-loop
 array-set-from-frames c = c .before .step-over .ensures .inside
 
 add-i : tie.Need-add-i Inv-loop μ-loop
-add-i c = omega (arith, c .before .before .before .before .before .before .before .before .before .before .loop .inv .along .short)
+add-i c = omega (arith, turn-of (top-of (c .before .before .before)) .before .loop .inv .along .short)
 
 loop-less : tie.Need-loop-less Inv-loop μ-loop
-loop-less c = omega (arith, c .before .before .before .before .before .before .before .before .before .loop-test .taken)
+loop-less c = omega (arith, turn-of (top-of (c .before .before .before)) .loop-test .taken)
 
 loop-again : tie.Need-loop-again Inv-loop μ-loop
 loop-again c =
     let read = c .before .before .before in
-    let turn = read .before .before .before .before .before .before in
+    let top = top-of read in
+    let turn = turn-of top in
     let l = turn .before .loop in
-    owning-step (turn .before .before .before .before .before .pre) (l .inv) (turn .loop-test .taken) (read .read-kind .ensures)
-    (top-here (l .scan) (l .frames) (read .before .before .before .before .before .innermost .ensures)) _ (c .before .before .step-over .ensures) (read .before .own-kind .ensures)
+    owning-step (start turn .pre) (l .inv) (turn .loop-test .taken) (read .read-kind .ensures)
+    (top-here (l .scan) (l .frames) (top .innermost .ensures)) _ (c .before .before .step-over .ensures) (read .before .own-kind .ensures)
 
 returns : tie.Need-returns Inv-loop μ-loop
 returns c = owning-end (c .before .before .before .before .before .pre) (c .before .loop .inv) (c .loop-test .left)

@@ -49,11 +49,21 @@ Inv-loop words sections kinds out₀ at from to p₀ i₀ out p i = (i ≤ to) �
 abbrev μ-loop : lts.MeasureT-loop
 μ-loop words sections kinds out₀ at from to p₀ i₀ out p i = to - i
 
+-- from a union's close, the token written before it; from that, the turn of the loop; and from the turn, where the function began
+abbrev written : (t : ℕ) → lts.After-close-of (callees t) (this t) reads.Post Inv-loop μ-loop → lts.After-write-token (callees t) (this t) reads.Post Inv-loop μ-loop
+written t c = c .before .before .before .before .before
+
+abbrev turn-of : (t : ℕ) → lts.After-write-token (callees t) (this t) reads.Post Inv-loop μ-loop → lts.In-loop (callees t) (this t) reads.Post Inv-loop μ-loop
+turn-of t c = c .before .before .before .before
+
+abbrev start : (t : ℕ) → lts.In-loop (callees t) (this t) reads.Post Inv-loop μ-loop → lts.Start (callees t) (this t) reads.Post Inv-loop μ-loop
+start t c = c .before .before .before .before
+
 -- in a turn, numbers are small
 small : (t : ℕ) (c : lts.In-loop (callees t) (this t) reads.Post Inv-loop μ-loop)
     → (c .before .loop .i < 511) × (c .before .loop .p ≤ 4096 * 511)
 small t c =
-    let q = c .before .before .before .before .pre .1 in
+    let q = start t c .pre .1 in
     let I = within (q .0) in
     omega (arith, c .loop-test .taken, q .2, I .room, I .narrow, c .before .loop .inv .1 .bound)
 
@@ -75,48 +85,52 @@ add-write-token t c = omega (arith, small t (c .before .before))
 write-token-requires : (t : ℕ) → lts.Need-write-token-requires (callees t) (this t) reads.Post Inv-loop μ-loop
 write-token-requires t c κs =
     let turn = c .before .before .before in
-    let q = turn .before .before .before .before .pre .1 in
+    let q = start t turn .pre .1 in
     (q .0, omega (arith, turn .loop-test .taken, q .2), omega (arith, small t turn))
 
 enum-told : (t : ℕ) → lts.Need-enum-told (callees t) (this t) reads.Post Inv-loop μ-loop
 enum-told t c = search needs
 
 add-close-of : (t : ℕ) → lts.Need-add-close-of (callees t) (this t) reads.Post Inv-loop μ-loop
-add-close-of t c = omega (arith, small t (c .before .before .before .before .before .before .before .before))
+add-close-of t c = omega (arith, small t (turn-of t (c .before .before .before .before)))
 
 close-of-requires : (t : ℕ) → lts.Need-close-of-requires (callees t) (this t) reads.Post Inv-loop μ-loop
 close-of-requires t c κs =
-    let turn = c .before .before .before .before .before .before .before .before in
-    let q = turn .before .before .before .before .pre .1 in
+    let turn = turn-of t (c .before .before .before .before) in
+    let q = start t turn .pre .1 in
     let I = within (q .0) in
     omega (arith, turn .loop-test .taken, q .2, I .room, I .narrow)
 
 add-write-range : (t : ℕ) → lts.Need-add-write-range (callees t) (this t) reads.Post Inv-loop μ-loop
-add-write-range t c = omega (arith, small t (c .before .before .before .before .before .before .before .before .before .before))
+add-write-range t c = omega (arith, small t (turn-of t (written t (c .before))))
 
 write-range-requires : (t : ℕ) → lts.Need-write-range-requires (callees t) (this t) reads.Post Inv-loop μ-loop
 write-range-requires t c κs =
     let close = c .before .close-of .ensures in
-    let write = c .before .before .before .before .before .before in
+    let write = written t (c .before) in
     let read = write .before .before .read-kind in
-    let turn = write .before .before .before .before in
-    let a = turn .before .before .before .before .args in
-    let q = turn .before .before .before .before .pre in
+    let turn = turn-of t write in
+    let s = start t turn in
+    let a = s .args in
+    let q = s .pre in
     let w = wrote-token (a .words .now) (a .sections .width) (a .kinds .now) (a .out .now) (a .at) (a .from) (turn .before .loop .inv .1) (read .result) (read .ensures) (write .write-token .ensures) in (
       omega (arith, q .0, close .0, close .1, turn .before .loop .inv .1 .since, turn .loop-test .taken),
       (q .1 .0, close .0, omega (arith, close .1, q .1 .2), w .bound),
     )
 
 loop-less : (t : ℕ) → lts.Need-loop-less (callees t) (this t) reads.Post Inv-loop μ-loop
-loop-less t c = omega (arith, c .before .before .before .before .close-of .ensures .0, c .before .before .before .before .before .before .before .before .before .before .before .before .before .loop-test .taken)
+loop-less t c =
+    let close = c .before .before .before .before in
+    omega (arith, close .close-of .ensures .0, turn-of t (written t close) .loop-test .taken)
 
 loop-again : (t : ℕ) → lts.Need-loop-again (callees t) (this t) reads.Post Inv-loop μ-loop
 loop-again t c =
-    let close = c .before .before .before .before .close-of .ensures in
-    let write = c .before .before .before .before .before .before .before .before .before in
+    let closed = c .before .before .before .before in
+    let close = closed .close-of .ensures in
+    let write = written t closed in
     let read = write .before .before .read-kind in
-    let turn = write .before .before .before .before in
-    let a = turn .before .before .before .before .args in
+    let turn = turn-of t write in
+    let a = start t turn .args in
     let w = wrote-token (a .words .now) (a .sections .width) (a .kinds .now) (a .out .now) (a .at) (a .from) (turn .before .loop .inv .1) (read .result) (read .ensures) (write .write-token .ensures) in
     let r = c .before .before .write-range .ensures in (
       close .1,
@@ -125,17 +139,17 @@ loop-again t c =
     )
 
 add-i : (t : ℕ) → lts.Need-add-i (callees t) (this t) reads.Post Inv-loop μ-loop
-add-i t c = omega (arith, small t (c .before .before .before .before .before .before .before))
+add-i t c = omega (arith, small t (turn-of t (c .before .before .before)))
 
 loop-less-2 : (t : ℕ) → lts.Need-loop-less-2 (callees t) (this t) reads.Post Inv-loop μ-loop
-loop-less-2 t c = omega (arith, c .before .before .before .before .before .before .before .loop-test .taken)
+loop-less-2 t c = omega (arith, turn-of t (c .before .before .before) .loop-test .taken)
 
 loop-again-2 : (t : ℕ) → lts.Need-loop-again-2 (callees t) (this t) reads.Post Inv-loop μ-loop
 loop-again-2 t c =
     let write = c .before .before .before in
     let read = write .before .before .read-kind in
-    let turn = write .before .before .before .before in
-    let a = turn .before .before .before .before .args in
+    let turn = turn-of t write in
+    let a = start t turn .args in
     (omega (arith, turn .loop-test .taken), wrote-token (a .words .now) (a .sections .width) (a .kinds .now) (a .out .now) (a .at) (a .from) (turn .before .loop .inv .1) (read .result) (read .ensures) (write .write-token .ensures))
 
 same-length : (t : ℕ) → lts.Need-same-length (callees t) (this t) reads.Post Inv-loop μ-loop

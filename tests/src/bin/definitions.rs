@@ -49,43 +49,43 @@ expand (r ∷ rs) = replicate (r .0) (r .1) ++ expand rs
 
 const ANSWERS: [&str; 2] = [
     "\
-use Rattle.model.specs.Answers.{Answer}
+use Rattle.model.specs.Answers.{Counted}
 use Rattle.model.proofs.Answers.Build.{buildAnswer}
 use Rattle.model.proofs.Answers.ReadBack.{readBackAnswer}
 use Rattle.model.proofs.Answers.Match.{matchAnswer}
 ",
     "
-abbrev is : Answer → ℕ → ℕ → List (ℕ × ℕ) → Bool
-is a number count lent = eqb (a .number) number && (eqb (a .count) count && sameWords (a .lent) (expand lent))
+abbrev is : Counted → ℕ → ℕ → List (ℕ × ℕ) → Bool
+is a number count lent = eqb (a .number) number && (eqb (a .given) count && sameWords (a .lent) (expand lent))
 ",
 ];
 
 const WATCHES: [&str; 2] = [
     "\
-use Rattle.model.specs.Watch.{Watch}
+use Rattle.model.specs.Watch.{Watched}
 use Rattle.model.proofs.Watch.Answers.{beginAnswer, stepAnswer}
 ",
     "
-abbrev counts : Watch → ℕ → ℕ → Bool
-counts a number count = eqb (a .number) number && eqb (a .count) count
+abbrev counts : Watched → ℕ → ℕ → Bool
+counts a number count = eqb (a .number) number && eqb (a .given) count
 
-abbrev is : Watch → ℕ → ℕ → List (ℕ × ℕ) → ℕ → List (ℕ × ℕ) → Bool
-is a number count mask place ends = counts a number count && (sameWords (a .mask) (expand mask) && (eqb (a .place) place && sameWords (a .ends) (expand ends)))
+abbrev is : Watched → ℕ → ℕ → List (ℕ × ℕ) → ℕ → List (ℕ × ℕ) → Bool
+is a number count mask place ends = counts a number count && (sameWords (a .lent .mask) (expand mask) && (eqb (a .lent .place) place && sameWords (a .lent .ends) (expand ends)))
 ",
 ];
 
 const SPELLINGS: [&str; 2] = [
     "\
 use mathlib.Core.Bool.{cond}
-use Rattle.model.specs.Spelling.{Proposal}
+use Rattle.model.specs.Spelling.{Judgement, Proposal}
 use Rattle.model.proofs.Spelling.Answers.{checkAnswer, proposeAnswer}
 ",
     "
-abbrev check : ℕ × Bool → ℕ × ℕ
-check a = (a .0, cond (a .1) 1 0)
+abbrev check : Judgement → ℕ × ℕ
+check a = (a .number, cond (a .given) 1 0)
 
 abbrev propose : Proposal → ℕ × ℕ
-propose a = (a .number, a .count)
+propose a = (a .number, a .given .count)
 
 abbrev is : ℕ × ℕ → ℕ → ℕ → Bool
 is a number count = eqb (a .0) number && eqb (a .1) count

@@ -12,7 +12,7 @@ use lib.Seq.{drop-at}
 use Rattle.model.specs.Answers.{ImageOf, refusal}
 use Rattle.model.specs.Models.Spelling.{isSpelled, latest}
 use Rattle.model.specs.Models.Verdict.{verdict}
-use Rattle.model.specs.Spelling.{CheckSays, Judgement, Latest, no-end, no-room, not-an-image, Proposal, proposed, proposes, proposes-none, ProposeSays, right, says, Spelled, Stretch, text-too-long, wrong}
+use Rattle.model.specs.Spelling.{CheckSays, Judgement, Latest, no-end, no-room, not-an-image, Proposal, proposed, proposes, proposes-none, ProposeSays, right, says, Spelled, text-too-long, wrong}
 use Rattle.model.specs.Tree.{Tree}
 use Rattle.model.proofs.Answers.One.{one, one-answer}
 use Rattle.model.proofs.Image.Decided.{by-verdict, on-image, on-other, rule-full}

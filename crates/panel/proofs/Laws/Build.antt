@@ -1,7 +1,7 @@
 -- BUILD'S COUNT FITS: an image within 512 states and depth 8 is at most 4,834 words long.
 use mathlib.Core.Path.{_≡_, refl, ap}
-use mathlib.Core.List.{List, []}
-use Prim.Native.Nat.{ℕ, _/_, _%_, _^_, _≤_, _<_}
+use mathlib.Core.List.{List}
+use Prim.Native.Nat.{ℕ, _≤_}
 use native.Mathlib.Omega.{arith}
 use lib.ListN.{length}
 use Rattle.model.specs.Answers.{Counted, BuildSays, built, no-room, not-a-rule, rule-too-long, too-deep, too-many-states}

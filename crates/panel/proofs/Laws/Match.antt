@@ -1,7 +1,7 @@
 -- MATCH'S COUNT FITS: a text of at most 65,535 bytes has at most 65,536 ends.
-use mathlib.Core.Path.{_≡_, refl, ap}
-use mathlib.Core.List.{List, []}
-use Prim.Native.Nat.{ℕ, _/_, _%_, _^_, _≤_, _<_}
+use mathlib.Core.Path.{_≡_, ap}
+use mathlib.Core.List.{List}
+use Prim.Native.Nat.{ℕ, _≤_}
 use native.Mathlib.Omega.{arith}
 use Rattle.model.specs.Answers.{Counted, matched, MatchSays, not-an-image, text-too-long}
 use Rattle.model.proofs.Answers.Match.{match-one}

@@ -1,7 +1,7 @@
 -- READ BACK'S COUNT FITS: a tree within 512 states has at most 511 tokens, and each is written with at most 2,307 bytes.
-use mathlib.Core.Path.{_≡_, refl, ap}
+use mathlib.Core.Path.{_≡_, ap}
 use mathlib.Core.List.{List, [], _∷_}
-use Prim.Native.Nat.{ℕ, _*_, _/_, _%_, _^_, _≤_, _<_}
+use Prim.Native.Nat.{ℕ, _*_, _≤_}
 use native.Mathlib.Omega.{arith}
 use lib.ListN.{length, length-append}
 use Rattle.model.specs.Answers.{Counted, ImageOf, no-room, not-an-image, ReadBackSays, written}

@@ -1,10 +1,9 @@
 -- THE WATCH'S COUNTS FIT: place 0 is at most one end, and a stretch of at most 65,535 bytes has at most as many. So the number given to C tells number and
 -- count, and where the table has one answer, so has the call.
-use mathlib.Core.Path.{_≡_, refl, sym, ap, _∙_}
+use mathlib.Core.Path.{_≡_, ap}
 use mathlib.Core.List.{List, []}
-use Prim.Native.Nat.{ℕ, _+_, _*_, _/_, _%_, _^_, _≤_, _<_}
+use Prim.Native.Nat.{ℕ, _≤_}
 use native.Mathlib.Omega.{arith}
-use lib.Arith.{digits-div, digits-mod}
 use Rattle.model.specs.Models.Words.{Fit}
 use Rattle.model.specs.Watch.{BeginSays, begun, not-a-mask, not-an-image, stepped, StepSays, stretch-too-long, text-too-long, Watch, Watched}
 use Rattle.model.proofs.Watch.Answers.{begin-one, step-one}

@@ -31,13 +31,13 @@ split {x} {p} h = eq-or-lt-of-le (let l : x ≤ p = omega arith in l)
 
 -- ---- ONE STATE into the rows of what it reaches
 module _ (before : List (List ℕ)) (q : ℕ) (reached : List ℕ) where
-  abbrev Noted : (old new : List ℕ) (p : ℕ) → Type 0
-  Noted old new p = (x : ℕ) → Has new x ↔ (Has old x ⊎ ((x ≡ q) × Has reached p))
+  abbrev Gains : (old new : List ℕ) (p : ℕ) → Type 0
+  Gains old new p = (x : ℕ) → Has new x ↔ (Has old x ⊎ ((x ≡ q) × Has reached p))
 
   -- the rows below p have it, the others are as they were
   pub record Noting (p : ℕ) (rows : List (List ℕ)) : Type 0 where
     pub long : length rows ≡ length before
-    pub below : (x : ℕ) → x < p → Noted (getD before x []) (getD rows x []) x
+    pub below : (x : ℕ) → x < p → Gains (getD before x []) (getD rows x []) x
     pub above : (x : ℕ) → p ≤ x → getD rows x [] ≡ getD before x []
 
   pub noting-none : Noting 0 before
@@ -51,7 +51,7 @@ module _ (before : List (List ℕ)) (q : ℕ) (reached : List ℕ) where
       above = λ x h. getD-set-other rows p x row [] (λ e. omega arith) ∙ N .above x (omega arith);
     }
       where
-        here : Noted (getD before p []) row p
+        here : Gains (getD before p []) row p
         here x = (
           λ h. elim (W x .0 h) [
             | inl k ↦ inl (subst (λ (w : List ℕ). Has w x) (N .above p (omega arith)) k)
@@ -63,16 +63,16 @@ module _ (before : List (List ℕ)) (q : ℕ) (reached : List ℕ) where
           ],
         )
 
-        go : (x : ℕ) → (x ≡ p) ⊎ (x < p) → Noted (getD before x []) (getD (set rows p row) x []) x
+        go : (x : ℕ) → (x ≡ p) ⊎ (x < p) → Gains (getD before x []) (getD (set rows p row) x []) x
         go x (inl e) =
-            subst (λ (y : ℕ). Noted (getD before y []) (getD (set rows p row) y []) y) (sym e)
-            (subst (λ (w : List ℕ). Noted (getD before p []) w p) (sym (getD-set-same rows p row [] (omega (arith, N .long)))) here)
-        go x (inr k) = subst (λ (w : List ℕ). Noted (getD before x []) w x) (sym (getD-set-other rows p x row [] (λ e. omega arith))) (N .below x k)
+            subst (λ (y : ℕ). Gains (getD before y []) (getD (set rows p row) y []) y) (sym e)
+            (subst (λ (w : List ℕ). Gains (getD before p []) w p) (sym (getD-set-same rows p row [] (omega (arith, N .long)))) here)
+        go x (inr k) = subst (λ (w : List ℕ). Gains (getD before x []) w x) (sym (getD-set-other rows p x row [] (λ e. omega arith))) (N .below x k)
 
     pub noting-same : bit (value reached) p ≡ false → Noting (p + 1) rows
     noting-same r = record { long = N .long; below = λ x h. go x (split h); above = λ x h. N .above x (omega arith) }
       where
-        here : Noted (getD before p []) (getD rows p []) p
+        here : Gains (getD before p []) (getD rows p []) p
         here x = (
           λ h. inl (subst (λ (w : List ℕ). Has w x) (N .above p (omega arith)) h),
           λ h. elim h [
@@ -81,8 +81,8 @@ module _ (before : List (List ℕ)) (q : ℕ) (reached : List ℕ) where
           ],
         )
 
-        go : (x : ℕ) → (x ≡ p) ⊎ (x < p) → Noted (getD before x []) (getD rows x []) x
-        go x (inl e) = subst (λ (y : ℕ). Noted (getD before y []) (getD rows y []) y) (sym e) here
+        go : (x : ℕ) → (x ≡ p) ⊎ (x < p) → Gains (getD before x []) (getD rows x []) x
+        go x (inl e) = subst (λ (y : ℕ). Gains (getD before y []) (getD rows y []) y) (sym e) here
         go x (inr k) = N .below x k
 
     pub noting-all : {count : ℕ} → count ≤ p → NoteSays before q reached count rows

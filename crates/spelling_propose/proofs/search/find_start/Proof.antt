@@ -65,7 +65,7 @@ shared-slice-read-back c =
     omega (arith, l .before .before .before .before .pre .1 .inside, l .loop .inv .within, e .if2 .left)
 
 back-requires : tie.Need-back-requires Inv-loop μ-loop
-back-requires c κs = c .before .before .before .before .before .before .before .before .before .before .pre .0
+back-requires c κs = let l = c .before .before .before .before .before .before in l .before .before .before .before .pre .0
 
 mul-set : tie.Need-mul-set Inv-loop μ-loop
 mul-set c =

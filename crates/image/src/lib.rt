@@ -22,8 +22,8 @@ pub fn store(tokens: [u64; 2555], length: usize, words: &mut [u64]) -> Answer
 {
     let tape = tape_of(tokens, length);
     let mut masks = [0u64; 936];
-    let laid = lay_out(tape, &mut masks);
-    let OnTape::Tree(depth) = laid else {
+    let on_tape = lay_out(tape, &mut masks);
+    let OnTape::Tree(depth) = on_tape else {
         return Answer::Refused(Refusal::TooDeep);
     };
     let sections = sections_of(length + 1, depth);

@@ -4,7 +4,7 @@ use mathlib.Core.Bool.{Bool, _&&_, _||_}
 use mathlib.Core.List.{List, [], _∷_}
 use Prim.Native.Nat.{ℕ, suc, max}
 use lib.ListN.{length}
-use Rattle.model.specs.Models.LayOut.{check, emptyIn, layOut, mark, own, owns, reach, Scan, step, valid, Which}
+use Rattle.model.specs.Models.LayOut.{check, emptyIn, layOut, mark, own, owns, reach, Scan, step, valid, Plane}
 use Rattle.model.specs.Models.Tokens.{aBar, aClose, aLetter, anOpen, Token}
 use Rattle.tokens.specs.Tokens.{bare}
 use Rattle.tokens_masks.specs.Tapes.{bares}
@@ -15,7 +15,7 @@ bare-step anOpen q = refl
 bare-step aBar q = refl
 bare-step (aClose m) q = refl
 
-bare-mark : (y : Token) (q : Scan) (w : Which) (k x : ℕ) → mark (bare y) q w k x ≡ mark y q w k x
+bare-mark : (y : Token) (q : Scan) (w : Plane) (k x : ℕ) → mark (bare y) q w k x ≡ mark y q w k x
 bare-mark (aLetter c r) q w k x = refl
 bare-mark anOpen q w k x = refl
 bare-mark aBar q w k x = refl
@@ -42,7 +42,7 @@ pub bares-valid : (l : List Token) (q : Scan) → valid (bares l) q ≡ valid l 
 bares-valid [] q = refl
 bares-valid (y ∷ ys) q = ap₂ _&&_ (bare-check y q) (ap (valid (bares ys)) (bare-step y q) ∙ bares-valid ys (step y q))
 
-pub bares-lay : (l : List Token) (q : Scan) (w : Which) (k x : ℕ) → layOut (bares l) q w k x ≡ layOut l q w k x
+pub bares-lay : (l : List Token) (q : Scan) (w : Plane) (k x : ℕ) → layOut (bares l) q w k x ≡ layOut l q w k x
 bares-lay [] q w k x = refl
 bares-lay (y ∷ ys) q w k x =
     ap₂ _||_ (bare-mark y q w k x) (ap (λ (z : Scan). layOut (bares ys) z w k x) (bare-step y q) ∙ bares-lay ys (step y q) w k x)

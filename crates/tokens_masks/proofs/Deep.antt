@@ -8,7 +8,7 @@ use native.Mathlib.Omega.{arith}
 use lib.Dec.{T, eqb, eqb→eq, leb, ltb}
 use lib.ListN.{length}
 use Rattle.model.specs.Lists.{All}
-use Rattle.model.specs.Models.LayOut.{afterBar, afterClose, back-source, back-target, barStrokesIn, closeStrokesIn, covers, entering, Frame, gather-source, gather-target, layOut, leaving, mark, marks, number, oneState, reach, sameKind, Scan, scatter-block, scatter-source, scatter-target, step, Stroke, strokes, Which}
+use Rattle.model.specs.Models.LayOut.{afterBar, afterClose, back-source, back-target, barStrokesIn, closeStrokesIn, covers, entering, Frame, gather-source, gather-target, layOut, leaving, mark, marks, number, oneState, reach, samePlane, Scan, scatter-block, scatter-source, scatter-target, step, Stroke, strokes, Plane}
 use Rattle.model.specs.Models.Tokens.{aBar, aClose, aLetter, anOpen, Token}
 use Rattle.model.proofs.Laws.Bool.{and-split, or-split}
 use Rattle.model.proofs.Laws.Lists.{all-in, any-out}
@@ -19,19 +19,19 @@ use Rattle.tokens_masks.proofs.Within.{close-all, letter-all}
 abbrev ofUnionAt : ℕ → Bool
 ofUnionAt n = (leb (number scatter-block) n && ltb n blockPlane) || leb (number back-source) n
 
-abbrev pub ofUnion : Which → Bool
+abbrev pub ofUnion : Plane → Bool
 ofUnion w = ofUnionAt (number w)
 
 -- a stroke of depth n at most, and less for a mask of unions
 abbrev Deep : ℕ → Stroke → Type 0
-Deep n s = (s .row ≤ n) × (T (ofUnion (s .which)) → s .row < n)
+Deep n s = (s .row ≤ n) × (T (ofUnion (s .plane)) → s .row < n)
 
 -- where the tokens and the scan before them reach
 abbrev reached : List Token → Scan → ℕ
 reached l q = max (length (q .stack)) (reach l q)
 
 -- the strokes of unions
-two-deep : (u w : Which) (d x y n : ℕ) → d < n → All (Deep n) (oneState u d x ∷ oneState w d y ∷ [])
+two-deep : (u w : Plane) (d x y n : ℕ) → d < n → All (Deep n) (oneState u d x ∷ oneState w d y ∷ [])
 two-deep u w d x y n h = ((omega arith, λ t. h), ((omega arith, λ t. h), tt))
 
 strokes-deep : (y : Token) (ys : List Token) (q : Scan) → All (Deep (reached (y ∷ ys) q)) (strokes y q)
@@ -73,17 +73,17 @@ step-reached (aClose m) ys q = omega (arith, go (q .stack))
     go (f ∷ st) = omega arith
 
 module _ (k x : ℕ) where
-  abbrev Below : Which → ℕ → Type 0
+  abbrev Below : Plane → ℕ → Type 0
   Below w n = (k ≤ n) × (T (ofUnion w) → k < n)
 
-  stroke-below : (w : Which) (n : ℕ) (s : Stroke) → Deep n s → T (marks w k x s) → Below w n
+  stroke-below : (w : Plane) (n : ℕ) (s : Stroke) → Deep n s → T (marks w k x s) → Below w n
   stroke-below w n s D t =
-      let c = and-split (sameKind (s .which) w) (covers s k x) t in
+      let c = and-split (samePlane (s .plane) w) (covers s k x) t in
       let e = eqb→eq (s .row) k (and-split (leb (s .from) x && ltb x (s .to)) (eqb (s .row) k) (c .1) .1) in
-      let v = eqb→eq (number (s .which)) (number w) (c .0) in
+      let v = eqb→eq (number (s .plane)) (number w) (c .0) in
       (omega (arith, D .0), λ u. omega (arith, D .1 (subst (λ (i : ℕ). T (ofUnionAt i)) (sym v) u)))
 
-  pub deep : (l : List Token) (q : Scan) (w : Which) → T (layOut l q w k x) → Below w (reached l q)
+  pub deep : (l : List Token) (q : Scan) (w : Plane) → T (layOut l q w k x) → Below w (reached l q)
   deep [] q w t = absurd t
   deep (y ∷ ys) q w t = go (or-split (mark y q w k x) (layOut ys (step y q) w k x) t) (λ m. deep ys (step y q) w m)
     where

@@ -11,7 +11,7 @@ use lib.Bits.{bitOr}
 use lib.Dec.{eqb}
 use lib.ListN.{drop, getD, getD-replicate, length, length-drop, length-replicate, length-set, replicate}
 use lib.Seq.{ext-getD, getD-drop, getD-set-other, getD-set-same, getD-take, length-take-le}
-use Rattle.model.specs.Models.LayOut.{back-source, back-target, entering, gather-block, gather-source, gather-target, leaving, letter-place, loop-place, number, sameKind, scatter-block, scatter-source, scatter-target, Stroke, Which}
+use Rattle.model.specs.Models.LayOut.{back-source, back-target, entering, gather-block, gather-source, gather-target, leaving, letter-place, loop-place, number, samePlane, scatter-block, scatter-source, scatter-target, Stroke, Plane}
 use Rattle.model.specs.Lists.{All}
 use Rattle.model.specs.Models.Words.{putBit}
 use Rattle.tokens_masks.specs.Masks.{Blank, markRow, paint, planes, rowIn, rowNumber, rowsFrom, runIn, runRow, tableIn}
@@ -149,7 +149,7 @@ module _ (i k : ℕ) (hi : i < planes) (hk : k < 9) where
       ∙ mark-other ms l i k x hi hk (h x (omega arith) (omega arith)) v hv d
 
 -- ---- strokes
-pub number-small : (w : Which) → number w < planes
+pub number-small : (w : Plane) → number w < planes
 number-small letter-place = omega arith
 number-small loop-place = omega arith
 number-small scatter-block = omega arith
@@ -165,15 +165,15 @@ number-small back-target = omega arith
 
 pub paint-long : (ss : List Stroke) (ms : List ℕ) → length (paint ss ms) ≡ length ms
 paint-long [] ms = refl
-paint-long (s ∷ ss) ms = paint-long ss _ ∙ run-long (s .to - s .from) ms (rowNumber (s .row) (number (s .which))) (s .from)
+paint-long (s ∷ ss) ms = paint-long ss _ ∙ run-long (s .to - s .from) ms (rowNumber (s .row) (number (s .plane))) (s .from)
 
-module _ (w : Which) where
+module _ (w : Plane) where
   one-held : (s : Stroke) (ms : List ℕ) → length ms ≡ 936 → Within s
-      → tableIn (runIn ms (number (s .which)) (s .row) (s .from) (s .to)) (number w) ≡ cond (sameKind (s .which) w) (paintStroke (tableIn ms (number w)) s) (tableIn ms (number w))
-  one-held s ms l W = go (sameKind v w) (eqb-true (number v) (number w)) (eqb-false (number v) (number w))
+      → tableIn (runIn ms (number (s .plane)) (s .row) (s .from) (s .to)) (number w) ≡ cond (samePlane (s .plane) w) (paintStroke (tableIn ms (number w)) s) (tableIn ms (number w))
+  one-held s ms l W = go (samePlane v w) (eqb-true (number v) (number w)) (eqb-false (number v) (number w))
     where
-      v : Which
-      v = s .which
+      v : Plane
+      v = s .plane
 
       states : States (s .to - s .from) (s .from)
       states y a b = omega (arith, W .1)
@@ -202,7 +202,7 @@ blank-held {n} {ms} l p = let e = p ∙ ap (λ (k : ℕ). replicate k 0) l in re
         ext-getD 0 (rowIn zeros r) (replicate 8 0) (long ∙ sym (length-replicate {A = ℕ} 8 0))
         (λ j l. let m : j < 8 = omega (arith, long) in row-word zeros r j m ∙ getD-replicate {A = ℕ} 936 (8 * r + j) 0 0 (omega arith) ∙ sym (getD-replicate {A = ℕ} 8 j 0 0 m))
 
-    none : (w : Which) → tableIn zeros (number w) ≡ blank
+    none : (w : Plane) → tableIn zeros (number w) ≡ blank
     none w =
         ext-getD [] (tableIn zeros (number w)) blank (table-long zeros (number w) ∙ sym (length-replicate 9 (replicate {A = ℕ} 8 0)))
         (λ k l. let h : k < 9 = omega (arith, table-long zeros (number w)) in

@@ -11,7 +11,7 @@ use Rattle.model.specs.Bits.{bit, digit, mask}
 use Rattle.model.specs.Edges.{depth, states}
 use Rattle.model.specs.Image.{backSource, backTarget, gatherBlock, gatherSource, gatherTarget, letters, propagateBlock, propagateSource, propagateTarget, repeats, scatterBlock, scatterSource, scatterTarget, words}
 use Rattle.model.specs.Models.Apart.{anyBelow}
-use Rattle.model.specs.Models.LayOut.{back-source, back-target, begin, blockOf, entering, gather-block, gather-source, gather-target, layOut, leaving, letter-place, loop-place, number, reach, scatter-block, scatter-source, scatter-target, set, sourceOf, targetOf, tokenLetters, valid, Which}
+use Rattle.model.specs.Models.LayOut.{back-source, back-target, begin, blockOf, entering, gather-block, gather-source, gather-target, layOut, leaving, letter-place, loop-place, number, reach, scatter-block, scatter-source, scatter-target, set, sourceOf, targetOf, tokenLetters, valid, Plane}
 use Rattle.model.specs.Models.Tokens.{Token, tokens}
 use Rattle.model.specs.Models.Words.{value}
 use Rattle.model.specs.Tree as tree
@@ -73,23 +73,23 @@ module _ (s : tree.Tree) (t : Tape) (O : TreeOnTape s t) where
       (ap (λ (l : List Token). reach l begin) tokens-are ∙ bares-reach (tokens s []) begin ∙ reach-is s)
 
   -- ---- what is laid out for the tree's own tokens
-  abbrev laid : Which → ℕ → ℕ → Bool
+  abbrev laid : Plane → ℕ → ℕ → Bool
   laid = layOut (tokens s []) begin
 
-  laid-is : (w : Which) (k x : ℕ) → layOut (tokensOf t) begin w k x ≡ laid w k x
+  laid-is : (w : Plane) (k x : ℕ) → layOut (tokensOf t) begin w k x ≡ laid w k x
   laid-is w k x = ap (λ (l : List Token). layOut l begin w k x) tokens-are ∙ bares-lay (tokens s []) begin w k x
 
   as-states : (f g : ℕ → Bool) → ((x : ℕ) → x < states s → f x ≡ g x) → set (suc (length (tokensOf t))) 8 f ≡ set (states s) 8 g
   as-states f g h = ap (λ (m : ℕ). set m 8 f) states-are ∙ set-same (states s) 8 f g h
 
   -- row k of the table of any plane; letter and loop places have row 0
-  pub laid-row : (w : Which) (k : ℕ) → k < 9 → getD (tableOf t w) k [] ≡ words 8 (mask (states s) (laid w k))
+  pub laid-row : (w : Plane) (k : ℕ) → k < 9 → getD (tableOf t w) k [] ≡ words 8 (mask (states s) (laid w k))
   laid-row w k h = row-is t is-tree w k h ∙ as-states (layOut (tokensOf t) begin w k) (laid w k) (λ x l. laid-is w k x)
 
-  is-set : (w : Which) (k x : ℕ) → laid w k x ≡ edgeSet s w k x
+  is-set : (w : Plane) (k x : ℕ) → laid w k x ≡ edgeSet s w k x
   is-set w k x = tree-sets s w k x ∙ sym (edge-sets s w k x)
 
-  row-as : (w : Which) (k : ℕ) (f : ℕ → Bool) → k < 9 → ((x : ℕ) → x < states s → laid w k x ≡ f x) → getD (tableOf t w) k [] ≡ words 8 (mask (states s) f)
+  row-as : (w : Plane) (k : ℕ) (f : ℕ → Bool) → k < 9 → ((x : ℕ) → x < states s → laid w k x ≡ f x) → getD (tableOf t w) k [] ≡ words 8 (mask (states s) f)
   row-as w k f h e = laid-row w k h ∙ set-same (states s) 8 (laid w k) f e
 
   -- ---- SCATTER AND GATHER, AND BACK EDGES
@@ -146,13 +146,13 @@ module _ (s : tree.Tree) (t : Tape) (O : TreeOnTape s t) where
 
   -- ---- ROWS PAST THE DEPTH ARE 0
   module _ (k : ℕ) (h : k < 9) where
-    pub union-row-past : (w : Which) → T (ofUnion w) → depth s ≤ k → getD (tableOf t w) k [] ≡ replicate 8 0
+    pub union-row-past : (w : Plane) → T (ofUnion w) → depth s ≤ k → getD (tableOf t w) k [] ≡ replicate 8 0
     union-row-past w u p =
         laid-row w k h
         ∙ none-words (states s) (laid w k) (λ x. is-not (laid w k x) (λ m. omega (arith, deep k x (tokens s []) begin w m .1 u, reach-is s)))
 
     module _ (p : depth s < k) where
-      nothing : (w : Which) (x : ℕ) → layOut (tokensOf t) begin w k x ≡ false
+      nothing : (w : Plane) (x : ℕ) → layOut (tokensOf t) begin w k x ≡ false
       nothing w x = laid-is w k x ∙ is-not (laid w k x) (λ m. omega (arith, deep k x (tokens s []) begin w m .0, reach-is s))
 
       pub propagate-block-past : getD (propagateBlockTable t) k [] ≡ replicate 8 0
@@ -253,11 +253,11 @@ laid-of {t} {ms} {ms′} K J = record {
   back-targets = J .above (number back-target) (omega arith) (omega arith) ∙ K .held back-target;
 }
   where
-    below : (w : Which) → number w < blockPlane → tableIn ms′ (number w) ≡ tableOf t w
+    below : (w : Plane) → number w < blockPlane → tableIn ms′ (number w) ≡ tableOf t w
     below w h = J .below (number w) h ∙ K .held w
 
     -- row 0 of a table
-    first : (w : Which) → tableIn ms′ (number w) ≡ tableOf t w → rowIn ms′ (rowNumber 0 (number w)) ≡ getD (tableOf t w) 0 []
+    first : (w : Plane) → tableIn ms′ (number w) ≡ tableOf t w → rowIn ms′ (rowNumber 0 (number w)) ≡ getD (tableOf t w) 0 []
     first w e = sym (table-row ms′ (number w) 0 (omega arith)) ∙ ap (λ (a : Table). getD a 0 []) e
 
 pub masks-say : {t : Tape} {ms : List ℕ} → Laid t ms → MasksSay t ms

@@ -7,7 +7,7 @@ use native.Mathlib.Omega.{arith}
 use lib.Bits.{bitAnd}
 use lib.Dec.{T, leb, leb→le}
 use lib.ListN.{getD, length, length-take, take}
-use Rattle.model.specs.Models.LayOut.{begin, blockOf, check, entering, layOut, leaving, mark, Scan, set, sourceOf, step, strokes, targetOf, valid, Which}
+use Rattle.model.specs.Models.LayOut.{begin, blockOf, check, entering, layOut, leaving, mark, Scan, set, sourceOf, step, strokes, targetOf, valid, Plane}
 use Rattle.model.specs.Models.Tokens.{Token}
 use Rattle.model.specs.Models.Words.{andWords, eachWord, notWords}
 use Rattle.model.proofs.Image.LetterPlaces.{position-step}
@@ -32,7 +32,7 @@ use Rattle.tokens_masks.proofs.Tokens.{read-length}
 use Rattle.tokens_masks.proofs.Within.{strokes-within}
 
 -- ---- all tokens
-paint-all : (l : List Token) (q : Scan) (w : Which) (a : Table) → Rows a → Sane q → q .position + length l ≤ 511 → T (valid l q)
+paint-all : (l : List Token) (q : Scan) (w : Plane) (a : Table) → Rows a → Sane q → q .position + length l ≤ 511 → T (valid l q)
     → Adds a (paintAll l q w a) (layOut l q w)
 paint-all [] q w a R S h v = record { rows = R; bits = λ k x. sym (or-false (bitAt a k x)) }
 paint-all (y ∷ ys) q w a R S h v =
@@ -47,11 +47,11 @@ paint-all (y ∷ ys) q w a R S h v =
     }
 
 module _ (l : List Token) (short : length l ≤ 511) (v : T (valid l begin)) where
-  painted : (w : Which) → Adds blank (paintAll l begin w blank) (layOut l begin w)
+  painted : (w : Plane) → Adds blank (paintAll l begin w blank) (layOut l begin w)
   painted w = paint-all l begin w blank blank-rows sane-begin (omega arith) v
 
   -- no state past the last
-  low : (w : Which) (k x : ℕ) → T (layOut l begin w k x) → x ≤ length l
+  low : (w : Plane) (k x : ℕ) → T (layOut l begin w k x) → x ≤ length l
   low w k x t =
       let s = valid-tree l v in
       omega (
@@ -61,7 +61,7 @@ module _ (l : List Token) (short : length l ≤ 511) (v : T (valid l begin)) whe
         ap length (s .of-tokens),
       )
 
-  row-holds : (w : Which) (k : ℕ) → k < 9 → Holds (suc (length l)) 8 (getD (paintAll l begin w blank) k []) (layOut l begin w k)
+  row-holds : (w : Plane) (k : ℕ) → k < 9 → Holds (suc (length l)) 8 (getD (paintAll l begin w blank) k []) (layOut l begin w k)
   row-holds w k h = record {
     near = record { len = painted w .rows .row k h .0; fit = painted w .rows .row k h .1; bits = λ x g. same x };
     none = λ x g. same x ∙ is-not (layOut l begin w k x) (λ t. past x g (low w k x t));
@@ -99,21 +99,21 @@ module _ (t : Tape) (i : T (isTree t)) where
         length-take (t .length) (t .kinds),
       )
 
-  table-is : (w : Which) → tableOf t w ≡ paintAll l begin w blank
+  table-is : (w : Plane) → tableOf t w ≡ paintAll l begin w blank
   table-is w = ap (λ (b : Bool). cond b (paintAll l begin w blank) blank) (is-true (isTree t) i)
 
-  table-holds : (w : Which) (k : ℕ) → k < 9 → Holds (suc (length l)) 8 (getD (tableOf t w) k []) (layOut l begin w k)
+  table-holds : (w : Plane) (k : ℕ) → k < 9 → Holds (suc (length l)) 8 (getD (tableOf t w) k []) (layOut l begin w k)
   table-holds w k h =
       subst (λ (a : Table). Holds (suc (length l)) 8 (getD a k []) (layOut l begin w k)) (sym (table-is w)) (row-holds l few-tokens valid-tokens w k h)
 
-  table-long : (w : Which) → length (tableOf t w) ≡ 9
+  table-long : (w : Plane) → length (tableOf t w) ≡ 9
   table-long w = ap length (table-is w) ∙ painted l few-tokens valid-tokens w .rows .nine
 
   -- ROW k OF A TABLE
-  pub row-is : (w : Which) (k : ℕ) → k < 9 → getD (tableOf t w) k [] ≡ set (suc (length l)) 8 (layOut l begin w k)
+  pub row-is : (w : Plane) (k : ℕ) → k < 9 → getD (tableOf t w) k [] ≡ set (suc (length l)) 8 (layOut l begin w k)
   row-is w k h = holds-set (suc (length l)) (getD (tableOf t w) k []) (layOut l begin w k) (omega (arith, few-tokens)) (table-holds w k h)
 
-  both-long : (u w : Which) → length (tableOf t u) ≡ length (tableOf t w)
+  both-long : (u w : Plane) → length (tableOf t u) ≡ length (tableOf t w)
   both-long u w = table-long u ∙ sym (table-long w)
 
   -- ROW k OF PROPAGATE'S TABLES
@@ -122,7 +122,7 @@ module _ (t : Tape) (i : T (isTree t)) where
       sym (joined-at Either (tableOf t leaving) (tableOf t entering) k (both-long leaving entering) (omega (arith, table-long leaving)))
       ∙ holds-set (suc (length l)) _ (blockOf (layOut l begin) k) (omega (arith, few-tokens)) (holds-or (table-holds leaving k h) (table-holds entering k h))
 
-  only-row : (u w : Which) (k : ℕ) → k < 9
+  only-row : (u w : Plane) (k : ℕ) → k < 9
       → getD (joinTables Only (tableOf t u) (tableOf t w)) k [] ≡ andWords (getD (tableOf t u) k []) (notWords (getD (tableOf t w) k []))
   only-row u w k h =
       sym (joined-at Only (tableOf t u) (tableOf t w) k (both-long u w) (omega (arith, table-long u)))

@@ -3,7 +3,7 @@ use mathlib.Core.Path.{_≡_, sym, ap, ap₂, _∙_}
 use mathlib.Core.List.{List}
 use Prim.Native.Nat.{ℕ, _+_, _≤_, _<_}
 use lib.ListN.{getD}
-use Rattle.model.specs.Models.LayOut.{begin, step, strokes, Which}
+use Rattle.model.specs.Models.LayOut.{begin, step, strokes, Plane}
 use Rattle.model.specs.Models.LayOut as model
 use Rattle.model.specs.Models.Tokens as tokens
 use Rattle.tokens.specs.Scans.{Known, scanOf}
@@ -15,13 +15,13 @@ use Rattle.tokens_masks.specs.declared.Tape.{Tape}
 use Rattle.tokens.specs.declared.token.Token.{Token}
 use Rattle.tokens_masks.proofs.Along.{Along, from, from-cons, from-end}
 
-abbrev pub Painting : Tape → Known → ℕ → Which → Table → Type 0
+abbrev pub Painting : Tape → Known → ℕ → Plane → Table → Type 0
 Painting t q i w a = paintAll (tokensOf t) begin w blank ≡ paintAll (from t i) (scanOf q) w a
 
-pub painting-begin : (t : Tape) (q : Known) (w : Which) (a : Table) → scanOf q ≡ begin → a ≡ blank → Painting t q 0 w a
+pub painting-begin : (t : Tape) (q : Known) (w : Plane) (a : Table) → scanOf q ≡ begin → a ≡ blank → Painting t q 0 w a
 painting-begin t q w a e b = sym (ap₂ (λ (z : model.Scan) (x : Table). paintAll (tokensOf t) z w x) e b)
 
-module _ (t : Tape) (q : Known) (i : ℕ) (A : Along t q i) (w : Which) (a : Table) (P : Painting t q i w a) where
+module _ (t : Tape) (q : Known) (i : ℕ) (A : Along t q i) (w : Plane) (a : Table) (P : Painting t q i w a) where
   pub painting-step : (y : Token) → i < t .length → y ≡ readKind (getD (t .kinds) i 0) → (r : Known) → scanOf r ≡ step (tokenOf y) (scanOf q)
       → (b : Table) → b ≡ paintPlane w (strokes (tokenOf y) (scanOf q)) a → Painting t r (i + 1) w b
   painting-step y h e r s b p =

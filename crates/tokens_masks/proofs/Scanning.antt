@@ -7,7 +7,7 @@ use Prim.Native.Nat.{ℕ, _+_, _-_, _≤_, _<_}
 use native.Mathlib.Omega.{arith}
 use lib.Dec.{T}
 use lib.ListN.{getD, length, length-set, set}
-use Rattle.model.specs.Models.LayOut.{begin, check, number, reach, strokes, Which}
+use Rattle.model.specs.Models.LayOut.{begin, check, number, reach, strokes, Plane}
 use Rattle.tokens_masks.specs.Masks.{Blank, paint, tableIn}
 use Rattle.tokens.specs.Scans.{Innermost, isEnded, noFrame, ReadyAt, scanOf, StepSays, withFrames}
 use Rattle.tokens_masks.specs.Tables.{blank, paintAll}
@@ -33,7 +33,7 @@ pub record Scanning (t : Tape) (ms : List ℕ) (fs : List Frame) (q : Scan) (dee
   pub long : length ms ≡ 936
   pub along : Along t (withFrames q fs) i
   pub reaching : Reaching t (withFrames q fs) i deepest
-  pub painting : (w : Which) → Painting t (withFrames q fs) i w (tableIn ms (number w))
+  pub painting : (w : Plane) → Painting t (withFrames q fs) i w (tableIn ms (number w))
 
 -- the frame that is read
 pub top-here : (q : Scan) (fs : List Frame) {k : ℕ} → k ≡ q .depth - 1 → Innermost q (getD fs k noFrame) fs

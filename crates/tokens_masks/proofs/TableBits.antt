@@ -12,7 +12,7 @@ use lib.ListN.{getD, getD-replicate, length, length-set, replicate}
 use lib.Seq.{getD-set-other, getD-set-same}
 use Rattle.model.specs.Bits.{bit}
 use Rattle.model.specs.Lists.{All, any}
-use Rattle.model.specs.Models.LayOut.{covers, marks, sameKind, Stroke, Which}
+use Rattle.model.specs.Models.LayOut.{covers, marks, samePlane, Stroke, Plane}
 use Rattle.model.specs.Models.Words.{Fit, putBit, value}
 use Rattle.model.proofs.Laws.Bits.{bit-zero}
 use Rattle.model.proofs.Laws.Bool.{and-both, and-split, is-not, or-left, or-right, or-split, same-truth}
@@ -123,11 +123,11 @@ stroke-adds a s R W =
         (λ t. let q = between-fact (s .from) (s .to) y t in fact-between (s .from) z y (q .0) (omega arith))
 
 -- ALL STROKES OF A PLANE
-pub plane-adds : (w : Which) (ss : List Stroke) (a : Table) → Rows a → All Within ss → Adds a (paintPlane w ss a) (λ k x. any (marks w k x) ss)
+pub plane-adds : (w : Plane) (ss : List Stroke) (a : Table) → Rows a → All Within ss → Adds a (paintPlane w ss a) (λ k x. any (marks w k x) ss)
 plane-adds w [] a R W = record { rows = R; bits = λ k x. sym (or-false (bitAt a k x)) }
 plane-adds w (s ∷ ss) a R W =
-    let A = first (sameKind (s .which) w) in
-    let B = plane-adds w ss (cond (sameKind (s .which) w) (paintStroke a s) a) (A .rows) (W .1) in
+    let A = first (samePlane (s .plane) w) in
+    let B = plane-adds w ss (cond (samePlane (s .plane) w) (paintStroke a s) a) (A .rows) (W .1) in
     record {
       rows = B .rows;
       bits = λ k x. B .bits k x ∙ ap (λ (b : Bool). b || any (marks w k x) ss) (A .bits k x) ∙ or-assoc (bitAt a k x) (marks w k x s) (any (marks w k x) ss);

@@ -6,7 +6,7 @@ use native.Mathlib.Omega.{arith}
 use lib.ListN.{length}
 use Rattle.model.specs.Lists.{All}
 use Rattle.model.specs.Tree.{canLoop, canOmit, canReturn, canSkip, Mark, Repeat}
-use Rattle.model.specs.Models.LayOut.{back-source, back-target, backStrokes, barStrokesIn, closeStrokes, closeStrokesIn, endStrokes, entering, Frame, gather-source, gather-target, leaving, letter-place, letterStrokes, loop-place, oneState, propagateStrokes, Scan, scatter-source, scatter-target, Stroke, strokes, Which}
+use Rattle.model.specs.Models.LayOut.{back-source, back-target, backStrokes, barStrokesIn, closeStrokes, closeStrokesIn, endStrokes, entering, Frame, gather-source, gather-target, leaving, letter-place, letterStrokes, loop-place, oneState, propagateStrokes, Scan, scatter-source, scatter-target, Stroke, strokes, Plane}
 use Rattle.model.specs.Models.Tokens.{aBar, aClose, aLetter, anOpen, Token}
 use Rattle.model.proofs.Laws.Lists.{all-app}
 use Rattle.tokens.specs.Scans.{Behind, Sane}
@@ -36,7 +36,7 @@ abbrev pub Within : Stroke → Type 0
 Within s = (s .row < 9) × (s .to ≤ 512)
 
 -- two states of one depth
-two-within : (u w : Which) (d x y : ℕ) → d < 9 → x < 512 → y < 512 → All Within (oneState u d x ∷ oneState w d y ∷ [])
+two-within : (u w : Plane) (d x y : ℕ) → d < 9 → x < 512 → y < 512 → All Within (oneState u d x ∷ oneState w d y ∷ [])
 two-within u w d x y hd hx hy = ((hd, hx), ((hd, hy), tt))
 
 -- EVERY TOKEN'S STROKES LIE WITHIN

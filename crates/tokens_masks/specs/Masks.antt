@@ -4,7 +4,7 @@ use mathlib.Core.List.{List, [], _∷_}
 use Prim.Native.Nat.{ℕ, zero, suc, _+_, _-_, _*_, _/_, _%_, _^_, _<_}
 use lib.Bits.{bitOr}
 use lib.ListN.{drop, getD, length, set, take}
-use Rattle.model.specs.Models.LayOut.{entering, leaving, number, Stroke, strokes, Which}
+use Rattle.model.specs.Models.LayOut.{entering, leaving, number, Stroke, strokes, Plane}
 use Rattle.tokens_masks.specs.Joins.{Either, joinTables, Only}
 use Rattle.tokens.specs.Scans.{Innermost, scanOf, withFrames}
 use Rattle.tokens_masks.specs.Tables.{blank, Table}
@@ -58,12 +58,12 @@ edgeIn ms i k from to = runIn (runIn ms i k from (suc from)) (suc i) k to (suc t
 -- strokes, one after another
 abbrev pub paint : List Stroke → List ℕ → List ℕ
 paint [] ms = ms
-paint (s ∷ ss) ms = paint ss (runIn ms (number (s .which)) (s .row) (s .from) (s .to))
+paint (s ∷ ss) ms = paint ss (runIn ms (number (s .plane)) (s .row) (s .from) (s .to))
 
 -- no mask has a state
 pub record Blank (ms : List ℕ) : Type 0 where
   pub long : length ms ≡ 936
-  pub none : (w : Which) → tableIn ms (number w) ≡ blank
+  pub none : (w : Plane) → tableIn ms (number w) ≡ blank
 
 -- what a token marks
 abbrev pub MarkSays : Scan → Frame → Token → (ms ms′ : List ℕ) → Type 0

@@ -3,7 +3,7 @@ use mathlib.Core.Bool.{cond}
 use mathlib.Core.List.{List, [], _∷_}
 use Prim.Native.Nat.{ℕ, zero, suc, _-_}
 use lib.ListN.{getD, replicate, set}
-use Rattle.model.specs.Models.LayOut.{sameKind, Scan, step, Stroke, strokes, Which}
+use Rattle.model.specs.Models.LayOut.{samePlane, Scan, step, Stroke, strokes, Plane}
 use Rattle.model.specs.Models.Tokens.{Token}
 use Rattle.model.specs.Models.Words.{putBit}
 
@@ -25,11 +25,11 @@ abbrev pub paintStroke : Table → Stroke → Table
 paintStroke a s = markRun (s .to - s .from) a (s .row) (s .from)
 
 -- of the strokes those of plane w
-abbrev pub paintPlane : Which → List Stroke → Table → Table
+abbrev pub paintPlane : Plane → List Stroke → Table → Table
 paintPlane w [] a = a
-paintPlane w (s ∷ ss) a = paintPlane w ss (cond (sameKind (s .which) w) (paintStroke a s) a)
+paintPlane w (s ∷ ss) a = paintPlane w ss (cond (samePlane (s .plane) w) (paintStroke a s) a)
 
 -- ALL TOKENS, from the scan q on, painted into the table of plane w
-abbrev pub paintAll : List Token → Scan → Which → Table → Table
+abbrev pub paintAll : List Token → Scan → Plane → Table → Table
 paintAll [] q w a = a
 paintAll (y ∷ ys) q w a = paintAll ys (step y q) w (paintPlane w (strokes y q) a)

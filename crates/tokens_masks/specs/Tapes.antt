@@ -6,7 +6,7 @@ use Prim.Native.Nat.{ℕ, suc, max}
 use lib.Dec.{leb, T}
 use lib.ListN.{length, take}
 use Rattle.model.specs.Tree as tree
-use Rattle.model.specs.Models.LayOut.{begin, entering, leaving, number, reach, valid, Which}
+use Rattle.model.specs.Models.LayOut.{begin, entering, leaving, number, reach, valid, Plane}
 use Rattle.model.specs.Models.Tokens.{aBar, aClose, aLetter, anOpen}
 use Rattle.model.specs.Models.Tokens as model
 use Rattle.tokens_masks.specs.Joins.{Either, joinTables, Only}
@@ -51,7 +51,7 @@ deeperBy deepest depth aBar = deepest
 deeperBy deepest depth (aClose m) = deepest
 
 -- LAY OUT: plane w; no mask has a state where the tape is not a tree's
-abbrev pub tableOf : Tape → Which → Table
+abbrev pub tableOf : Tape → Plane → Table
 tableOf t w = cond (isTree t) (paintAll (tokensOf t) begin w blank) blank
 
 -- propagate's masks from the states that its edges leave and those that they enter
@@ -67,9 +67,9 @@ propagateTargetTable t = joinTables Only (tableOf t entering) (tableOf t leaving
 -- the words hold, plane by plane, what is laid out, before propagate's masks are joined
 pub record PlanesHold (t : Tape) (ms : List ℕ) : Type 0 where
   pub long : length ms ≡ 936
-  pub held : (w : Which) → tableIn ms (number w) ≡ tableOf t w
+  pub held : (w : Plane) → tableIn ms (number w) ≡ tableOf t w
 
 -- they do if the tape is a tree's; of any other nothing is said
 pub record ScanLays (t : Tape) (ms : List ℕ) : Type 0 where
   pub long : length ms ≡ 936
-  pub held : T (isTree t) → (w : Which) → tableIn ms (number w) ≡ tableOf t w
+  pub held : T (isTree t) → (w : Plane) → tableIn ms (number w) ≡ tableOf t w

@@ -8,7 +8,7 @@ use lib.Bits.{bitAnd}
 use lib.Dec.{T}
 use lib.ListN.{getD, length, take, length-append}
 use lib.Seq.{length-take-le}
-use Rattle.model.specs.Models.LayOut.{back-source, back-target, begin, layOut, number, Which}
+use Rattle.model.specs.Models.LayOut.{back-source, back-target, begin, layOut, number, Plane}
 use Rattle.model.proofs.Image.Rows.{length-set}
 use Rattle.model.proofs.Words.Operations.{each-length}
 use Rattle.tokens_masks.specs.Masks.{planes, rowIn, rowNumber, tableIn}
@@ -48,7 +48,7 @@ pub in-eights : (ms : List ℕ) (i : ℕ) → length ms ≡ 936 → i < planes �
 in-eights ms i e hi k h = ap length (table-row ms i k h) ∙ row-long ms (rowNumber k i) (omega arith)
 
 -- what lay out gives for any tape
-pub laid-eights : (t : Tape) (w : Which) → Eights (tableOf t w)
+pub laid-eights : (t : Tape) (w : Plane) → Eights (tableOf t w)
 laid-eights t w k h = go (isTree t) refl
   where
     go : (b : Bool) → isTree t ≡ b → length (getD (tableOf t w) k []) ≡ 8

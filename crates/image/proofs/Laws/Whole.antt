@@ -6,7 +6,7 @@ use native.Mathlib.Numerals.{add-one}
 use native.Mathlib.Omega.{arith}
 use lib.ListN.{getD, length, take}
 use lib.Seq.{length-sets, sets}
-use Rattle.model.specs.Models.LayOut.{back-source, back-target, entering, gather-block, gather-source, gather-target, leaving, loop-place, number, scatter-block, scatter-source, scatter-target, Which}
+use Rattle.model.specs.Models.LayOut.{back-source, back-target, entering, gather-block, gather-source, gather-target, leaving, loop-place, number, scatter-block, scatter-source, scatter-target, Plane}
 use Rattle.model.specs.Models.Sections.{lettersAt}
 use Rattle.image_sections.specs.Sections.{Within}
 use Rattle.image_sections.specs.declared.Sections.{Sections}
@@ -56,10 +56,10 @@ module _ (p : Sections) (row : List ℕ) (t : Tape) (I : Within p (p .length)) w
       length-section W 256 (λ b. take W (repeatRow row (t .length) loops b))
       (repeats-long row (t .length) (I .narrow) loops (laid-eights t loop-place 0 (omega arith)))
 
-  abbrev laidPart : Which → Which → Which → List ℕ
+  abbrev laidPart : Plane → Plane → Plane → List ℕ
   laidPart block source target = tablesPart W d (tableOf t block) (tableOf t source) (tableOf t target)
 
-  length-laid : (block source target : Which) → length (laidPart block source target) ≡ 1 + W * (3 * d)
+  length-laid : (block source target : Plane) → length (laidPart block source target) ≡ 1 + W * (3 * d)
   length-laid block source target =
       length-section (3 * W) d (depthRows W (tableOf t block) (tableOf t source) (tableOf t target))
       (depths-long (tableOf t block) (tableOf t source) (tableOf t target) (I .narrow) (omega (arith, I .deep)) (laid-eights t block) (laid-eights t source)

@@ -30,8 +30,8 @@ tape-of-requires c κs = search needs
 lay-out-requires : tie.Need-lay-out-requires
 lay-out-requires c κs = search needs
 
-enum-known-laid : tie.Need-enum-known-laid
-enum-known-laid c = search needs
+enum-known-on-tape : tie.Need-enum-known-on-tape
+enum-known-on-tape c = search needs
 
 enum-told : tie.Need-enum-told
 enum-told c = search needs
@@ -40,19 +40,19 @@ returns : tie.Need-returns
 returns c = let l = c .before .before in says-no-tree (told l) (start l .args .words .now) (c .enum-told .given .1)
 
 add-sections-of : tie.Need-add-sections-of
-add-sections-of c = omega (arith, few (told (c .before .before .before)) (c .before .laid .given .1))
+add-sections-of c = omega (arith, few (told (c .before .before .before)) (c .before .on-tape .given .1))
 
 sections-of-requires : tie.Need-sections-of-requires
 sections-of-requires c κs =
     let T = told (c .before .before .before) in
-    let d = c .before .laid .given .1 in
+    let d = c .before .on-tape .given .1 in
     (few T d, shallow T d)
 
 returns-2 : tie.Need-returns-2
 returns-2 c =
     let m = c .before .before in
     let l = laidOut m in
-    says-no-room (told l) (m .before .before .laid .given .1) (start l .args .words .now) (m .sections-of .ensures) (c .if1 .taken)
+    says-no-room (told l) (m .before .before .on-tape .given .1) (start l .args .words .now) (m .sections-of .ensures) (c .if1 .taken)
 
 put-image-requires : tie.Need-put-image-requires
 put-image-requires c κs =
@@ -60,7 +60,7 @@ put-image-requires c κs =
     let m = roomy .before .before in
     let l = laidOut m in
     let T = told l in
-    let d = m .before .before .laid .given .1 in
+    let d = m .before .before .on-tape .given .1 in
     let places = m .sections-of .ensures in (
       (
         within-limits places (few T d) (shallow T d),
@@ -81,7 +81,7 @@ returns-3 c =
     let m = roomy .before .before in
     let l = laidOut m in
     let T = told l in
-    let d = m .before .before .laid .given .1 in
+    let d = m .before .before .on-tape .given .1 in
     let before = start l .args .words .now in
     let places = m .sections-of .ensures in
     says-stored T d before places (roomy .if1 .left) (put .put-image .ensures)
@@ -92,7 +92,7 @@ store-spec =
     (tie.spec
     tape-of-requires
     lay-out-requires
-    enum-known-laid
+    enum-known-on-tape
     enum-told
     returns
     add-sections-of

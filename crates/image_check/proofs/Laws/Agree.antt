@@ -16,7 +16,7 @@ use Rattle.model.specs.Bits.{bit, mask}
 use Rattle.model.specs.Image.{join}
 use Rattle.model.specs.Models.Apart.{anyBelow, tape}
 use Rattle.model.specs.Models.Sections.{backAt, backIn, bitOf, chunk, depthWord, gatherAt, gatherIn, letterPlace, lettersAt, lettersIn, propagateAt, propagateIn, repeatsAt, repeatsIn, scatterAt, scatterIn, stateWord, widthWord}
-use Rattle.model.specs.Models.LayOut.{back-source, back-target, begin, blockOf, gather-block, gather-source, gather-target, layOut, letter-place, loop-place, scatter-block, scatter-source, scatter-target, set, sourceOf, targetOf, three, tokenLetters, two, Which}
+use Rattle.model.specs.Models.LayOut.{back-source, back-target, begin, blockOf, gather-block, gather-source, gather-target, layOut, letter-place, loop-place, scatter-block, scatter-source, scatter-target, set, sourceOf, targetOf, three, tokenLetters, two, Plane}
 use Rattle.model.specs.Models.Tokens.{Token}
 use Rattle.model.specs.Models.Verdict.{sameWords}
 use Rattle.model.specs.Models.Words.{andWords, Fit, value}
@@ -92,7 +92,7 @@ module _ (ws : List ℕ) (t : Tape) (taken : tokensOf t ≡ bares (tape ws)) (tr
   abbrev d : ℕ
   d = depthWord ws
 
-  abbrev B : Which → ℕ → ℕ → Bool
+  abbrev B : Plane → ℕ → ℕ → Bool
   B = layOut l begin
 
   -- a row that is a set which looks at no class
@@ -105,13 +105,13 @@ module _ (ws : List ℕ) (t : Tape) (taken : tokensOf t ≡ bares (tape ws)) (tr
       ∙ ap (λ (n : ℕ). set n 8 (F (bares l))) (sym between)
       ∙ set-same m 8 (F (bares l)) (F l) (λ x h. same x)
 
-  row : (w : Which) (k : ℕ) → k < 9 → getD (tableOf t w) k [] ≡ set m 8 (layOut l begin w k)
+  row : (w : Plane) (k : ℕ) → k < 9 → getD (tableOf t w) k [] ≡ set m 8 (layOut l begin w k)
   row w k h = laid-as (λ y. layOut y begin w k) (bares-lay l begin w k) (row-is t tree w k h)
 
   cut : (f : ℕ → Bool) {r : List ℕ} → r ≡ set m 8 f → take W r ≡ set m W f
   cut f e = ap (take W) e ∙ first-words m W f narrow
 
-  threes : (w v u : Which) (k : ℕ) → k < 9
+  threes : (w v u : Plane) (k : ℕ) → k < 9
       → threeRows W (getD (tableOf t w) k []) (getD (tableOf t v) k []) (getD (tableOf t u) k []) ≡ three m W (layOut l begin w k) (layOut l begin v k) (layOut l begin u k)
   threes w v u k h = λ i. cut (layOut l begin w k) (row w k h) i ++ (cut (layOut l begin v k) (row v k h) i ++ cut (layOut l begin u k) (row u k h) i)
 
@@ -143,7 +143,7 @@ module _ (ws : List ℕ) (t : Tape) (taken : tokensOf t ≡ bares (tape ws)) (tr
         tables-is (propagateAt W d) (suc d) (propagateBlockTable t) (propagateSourceTable t) (propagateTargetTable t) (blockOf B) (sourceOf B) (targetOf B)
         rows
       where
-        bare : (w : Which) (k x : ℕ) → layOut (bares l) begin w k x ≡ B w k x
+        bare : (w : Plane) (k x : ℕ) → layOut (bares l) begin w k x ≡ B w k x
         bare w k x = bares-lay l begin w k x
 
         rows : (k : ℕ) → k < suc d → threeRows W (getD (propagateBlockTable t) k []) (getD (propagateSourceTable t) k []) (getD (propagateTargetTable t) k [])

@@ -14,7 +14,7 @@ use Rattle.model.specs.Bits.{bit, mask}
 use Rattle.model.specs.Image.{section, width}
 use Rattle.model.specs.Models.Apart.{anyBelow, tape, tokenAt, tokenOf, tokensBetween, tokensFrom}
 use Rattle.model.specs.Models.Sections.{backIn, bitOf, chunk, Counted, depthWord, gatherAt, gatherIn, lettersAt, lettersIn, propagateAt, propagateIn, repeatsAt, repeatsIn, scatterAt, scatterIn, stateWord, widthWord}
-use Rattle.model.specs.Models.LayOut.{assemble, back-source, back-target, begin, blockOf, gather-block, gather-source, gather-target, laid, layOut, loop-place, reach, scatter-block, scatter-source, scatter-target, set, sourceOf, targetOf, three, tokenLetters, tokenLoops, two, valid, Which}
+use Rattle.model.specs.Models.LayOut.{assemble, back-source, back-target, begin, blockOf, gather-block, gather-source, gather-target, laid, layOut, loop-place, reach, scatter-block, scatter-source, scatter-target, set, sourceOf, targetOf, three, tokenLetters, tokenLoops, two, valid, Plane}
 use Rattle.model.specs.Models.Tokens.{aBar, classOf, Token}
 use Rattle.model.specs.Models.Verdict.{accepts}
 use Rattle.model.specs.Models.Words.{andWords, Fit, value}
@@ -164,7 +164,7 @@ module _ (l : List Token) where
   abbrev R : ℕ → ℕ → Bool
   R = tokenLoops l
 
-  abbrev B : Which → ℕ → ℕ → Bool
+  abbrev B : Plane → ℕ → ℕ → Bool
   B = layOut l begin
 
   -- the count after the n words xs of a section at place a, where the next section has j words

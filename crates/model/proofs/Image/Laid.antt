@@ -6,7 +6,7 @@ use Prim.Native.Nat.{ℕ, suc, _<_}
 use Rattle.model.specs.Tree.{Seq}
 use Rattle.model.specs.Edges.{depth, seqEnd}
 use Rattle.model.specs.Image.{join, section, width}
-use Rattle.model.specs.Models.LayOut.{assemble, back-source, back-target, begin, blockOf, gather-block, gather-source, gather-target, laid, layOut, scatter-block, scatter-source, scatter-target, set, sourceOf, targetOf, three, tokenLetters, tokenLoops, two, Which}
+use Rattle.model.specs.Models.LayOut.{assemble, back-source, back-target, begin, blockOf, gather-block, gather-source, gather-target, laid, layOut, scatter-block, scatter-source, scatter-target, set, sourceOf, targetOf, three, tokenLetters, tokenLoops, two, Plane}
 use Rattle.model.specs.Models.Tokens.{Token, tokens}
 use Rattle.model.proofs.Ends.Run.{letterSet, loopSet}
 use Rattle.model.proofs.Image.Depth.{reach-is}
@@ -18,9 +18,9 @@ use Rattle.model.proofs.Image.Tokens.{length-tokens}
 use Rattle.model.proofs.Language.Arcs.{arcs}
 
 -- images of sets that agree for every byte and below m
-pub assemble-same : (m W d : ℕ) (L R L′ R′ : ℕ → ℕ → Bool) (B B′ : Which → ℕ → ℕ → Bool)
+pub assemble-same : (m W d : ℕ) (L R L′ R′ : ℕ → ℕ → Bool) (B B′ : Plane → ℕ → ℕ → Bool)
     → ((b x : ℕ) → b < 256 → x < m → L b x ≡ L′ b x) → ((b x : ℕ) → b < 256 → x < m → R b x ≡ R′ b x)
-    → ((w : Which) (k x : ℕ) → B w k x ≡ B′ w k x)
+    → ((w : Plane) (k x : ℕ) → B w k x ≡ B′ w k x)
     → assemble m W d L R B ≡ assemble m W d L′ R′ B′
 assemble-same m W d L R L′ R′ B B′ hl hr hb =
     λ i. section (m ∷ W ∷ d ∷ [])

@@ -8,7 +8,7 @@ use lib.ListN.{length}
 use Rattle.model.specs.Lists.{any}
 use Rattle.model.specs.Tree.{Alts, canOmit, canReturn, end, last, letter, Mark, more, Seq, union}
 use Rattle.model.specs.Edges.{altsEmpty, altsEnd, seqEmpty, seqEnd, unionEmpty}
-use Rattle.model.specs.Models.LayOut.{backStrokes, barStrokes, begin, endStrokes, Frame, layOut, mark, marks, nextAlternative, opened, openStrokes, propagateStrokes, Scan, step, Stroke, Which}
+use Rattle.model.specs.Models.LayOut.{backStrokes, barStrokes, begin, endStrokes, Frame, layOut, mark, marks, nextAlternative, opened, openStrokes, propagateStrokes, Scan, step, Stroke, Plane}
 use Rattle.model.specs.Models.Tokens.{aBar, aClose, aLetter, altsTokens, shown, Token, tokens}
 use Rattle.model.proofs.Image.ArcTests.{any-letter, any-more, any-union, letterTest}
 use Rattle.model.proofs.Image.Marks.{any-if, letter-strokes, on, passes, passes-on, tailTest, union-strokes}
@@ -19,7 +19,7 @@ use Rattle.model.proofs.Laws.Bool.{or-left-comm}
 use Rattle.model.proofs.Laws.Each.{any-same}
 use Rattle.model.proofs.Laws.Lists.{any-app}
 
-module _ (w : Which) (k x : ℕ) where
+module _ (w : Plane) (k x : ℕ) where
   -- some stroke, and some arc, marks the place
   abbrev some : List Stroke → Bool
   some ss = any (marks w k x) ss
@@ -151,7 +151,7 @@ module _ (w : Which) (k x : ℕ) where
         go h b i m p r = simp (or-assoc, or-left-comm)
 
 -- THE THEOREM
-pub lay-out-is : (w : Which) (k x : ℕ) (s : Seq) → layOut (tokens s []) begin w k x ≡ any (on w k x) (arcs s 0 0)
+pub lay-out-is : (w : Plane) (k x : ℕ) (s : Seq) → layOut (tokens s []) begin w k x ≡ any (on w k x) (arcs s 0 0)
 lay-out-is w k x s =
     sets w k x s [] begin
     ∙ or-false (any (passes (marks w k x)) (arcs s 0 0))

@@ -14,7 +14,7 @@ use Rattle.model.specs.Lists.{any}
 use Rattle.model.specs.Tree.{canLoop, Mark, once, option, optional, plus, star, starred, unmarked}
 use Rattle.model.specs.Models.Apart.{anyBelow}
 use Rattle.model.specs.Models.Sections.{bitOf, lettersIn, stateWord, widthWord}
-use Rattle.model.specs.Models.LayOut.{afterBar, afterClose, barStrokesIn, begin, closeStrokesIn, Frame, layOut, letter-place, loop-place, mark, marks, number, oneState, sameKind, Scan, set, step, tokenLetters, tokenLoops, Which}
+use Rattle.model.specs.Models.LayOut.{afterBar, afterClose, barStrokesIn, begin, closeStrokesIn, Frame, layOut, letter-place, loop-place, mark, marks, number, oneState, samePlane, Scan, set, step, tokenLetters, tokenLoops, Plane}
 use Rattle.model.specs.Models.Tokens.{aBar, aClose, aLetter, anOpen, classOf, loopClassOf, Token}
 use Rattle.model.specs.Models.Words.{value}
 use Rattle.model.proofs.Image.Classes.{AllFine, Fine, fine-at, no-bits, some-bit}
@@ -52,15 +52,15 @@ position-step (aClose m) q = go (q .stack)
     go (f ∷ st) = refl
 
 -- the one state of a stroke at depth 0
-one-place : (w : Which) (x y : ℕ) → (marks w 0 x (oneState w 0 y) || false) ≡ eqb x y
+one-place : (w : Plane) (x y : ℕ) → (marks w 0 x (oneState w 0 y) || false) ≡ eqb x y
 one-place w x y =
     or-false (marks w 0 x (oneState w 0 y))
     ∙ one-marks w 0 x w 0 y
-    ∙ ap (λ (b : Bool). b && (eqb x y && true)) (is-true (sameKind w w) (eqb-refl (number w)))
+    ∙ ap (λ (b : Bool). b && (eqb x y && true)) (is-true (samePlane w w) (eqb-refl (number w)))
     ∙ and-true (eqb x y)
 
 -- ---- a mask in which each token that passes a test marks the state it leads to
-module _ (w : Which) (test : Token → Bool) (marks : (y : Token) (q : Scan) (x : ℕ) → mark y q w 0 x ≡ (test y && eqb x (suc (q .position)))) where
+module _ (w : Plane) (test : Token → Bool) (marks : (y : Token) (q : Scan) (x : ℕ) → mark y q w 0 x ≡ (test y && eqb x (suc (q .position)))) where
   elsewhere : (y : Token) (q : Scan) (x : ℕ) → (x ≡ suc (q .position) → ⊥) → mark y q w 0 x ≡ false
   elsewhere y q x h = marks y q x ∙ ap (λ (b : Bool). test y && b) (unequal x (suc (q .position)) h) ∙ and-false (test y)
 

@@ -10,7 +10,7 @@ use Rattle.model.specs.Lists.{any, each, within}
 use Rattle.model.specs.Tree.{Alts, canLoop, canSkip, last, more, Repeat}
 use Rattle.model.specs.Edges.{altsEnd, endsOf, seqEmpty, seqEnd, startsOf, Way, ways}
 use Rattle.model.specs.Image.{firstEnd, lastStart}
-use Rattle.model.specs.Models.LayOut.{back-source, back-target, backStrokes, barStrokes, endStrokes, entering, Frame, gather-block, gather-source, gather-target, leaving, letter-place, letterStrokes, loop-place, marks, nextAlternative, number, oneState, opened, openStrokes, propagateStrokes, sameKind, Scan, scatter-block, scatter-source, scatter-target, Stroke, stroke, Which}
+use Rattle.model.specs.Models.LayOut.{back-source, back-target, backStrokes, barStrokes, endStrokes, entering, Frame, gather-block, gather-source, gather-target, leaving, letter-place, letterStrokes, loop-place, marks, nextAlternative, number, oneState, opened, openStrokes, propagateStrokes, samePlane, Scan, scatter-block, scatter-source, scatter-target, Stroke, stroke, Plane}
 use Rattle.model.proofs.Image.ArcTests.{letterTest}
 use Rattle.model.proofs.Language.Arcs.{Arc, arc, ArcKind, backArc, forkArc, letterArc, loopArc, propagateArc}
 use Rattle.model.proofs.Laws.Bool.{and-both, and-split, or-left-comm, same-truth, unequal}
@@ -135,9 +135,9 @@ module _ (g : Stroke → Bool) where
         S : Bool
         S = g (oneState scatter-source d t)
 
--- ---- the places of an arc, of each kind of mask that has any, by the kinds' numbers
+-- ---- the places of an arc, in each plane that has any, by the planes' numbers
 abbrev Place : Type 0
-Place = Which × (ℕ → Bool)
+Place = Plane × (ℕ → Bool)
 
 abbrev pub places : ArcKind → ℕ → ℕ → List Place
 places (letterArc c) i j = (letter-place, λ x. eqb x j) ∷ []
@@ -153,24 +153,24 @@ places (forkArc xs) i j =
     ∷ []
 places backArc i j = (back-source, λ x. eqb x i) ∷ (back-target, λ x. eqb x j) ∷ []
 
-abbrev pub setOf : Which → List Place → ℕ → Bool
+abbrev pub setOf : Plane → List Place → ℕ → Bool
 setOf w [] x = false
-setOf w (p ∷ ps) x = cond (sameKind (p .0) w) (p .1 x) (setOf w ps x)
+setOf w (p ∷ ps) x = cond (samePlane (p .0) w) (p .1 x) (setOf w ps x)
 
-abbrev pub onKind : Which → ℕ → ArcKind → ℕ → ℕ → Bool
+abbrev pub onKind : Plane → ℕ → ArcKind → ℕ → ℕ → Bool
 onKind w x a i j = setOf w (places a i j) x
 
 -- letter and loop places have no depth of their own
-abbrev pub levelOf : Which → ℕ → ℕ
+abbrev pub levelOf : Plane → ℕ → ℕ
 levelOf w d = cond (ltb (number w) 2) 0 d
 
-abbrev pub on : Which → ℕ → ℕ → Arc → Bool
+abbrev pub on : Plane → ℕ → ℕ → Arc → Bool
 on w k x e = onKind w x (e .kind) (e .from) (e .to) && eqb (levelOf w (e .level)) k
 
 -- ---- an arc's strokes have its places
-module _ (w : Which) (k x : ℕ) where
-  pub one-marks : (v : Which) (d y : ℕ) → marks w k x (oneState v d y) ≡ (sameKind v w && (eqb x y && eqb d k))
-  one-marks v d y = ap (λ (b : Bool). sameKind v w && (b && eqb d k)) (same-truth (leb y x && ltb x (suc y)) (eqb x y) there back)
+module _ (w : Plane) (k x : ℕ) where
+  pub one-marks : (v : Plane) (d y : ℕ) → marks w k x (oneState v d y) ≡ (samePlane v w && (eqb x y && eqb d k))
+  one-marks v d y = ap (λ (b : Bool). samePlane v w && (b && eqb d k)) (same-truth (leb y x && ltb x (suc y)) (eqb x y) there back)
     where
       there : T (leb y x && ltb x (suc y)) → T (eqb x y)
       there t =
@@ -183,7 +183,7 @@ module _ (w : Which) (k x : ℕ) where
 
   module _ (d : ℕ) where
     abbrev hit : Place → Bool
-    hit p = sameKind (p .0) w && (p .1 x && eqb (levelOf (p .0) d) k)
+    hit p = samePlane (p .0) w && (p .1 x && eqb (levelOf (p .0) d) k)
 
     -- the kinds' numbers rise from n on, so the place of kind w is the only one
     abbrev Rising : ℕ → List Place → Type 0
@@ -198,7 +198,7 @@ module _ (w : Which) (k x : ℕ) where
 
     hit-is : (n : ℕ) (ps : List Place) → Rising n ps → any hit ps ≡ (setOf w ps x && eqb (levelOf w d) k)
     hit-is n [] R = refl
-    hit-is n (p ∷ ps) R = go (sameKind (p .0) w) (λ t. eqb→eq (number (p .0)) (number w) t) (hit-is (suc (number (p .0))) ps (R .1))
+    hit-is n (p ∷ ps) R = go (samePlane (p .0) w) (λ t. eqb→eq (number (p .0)) (number w) t) (hit-is (suc (number (p .0))) ps (R .1))
       where
         rest : Bool → Bool
         rest b = (b && (p .1 x && eqb (levelOf (p .0) d) k)) || any hit ps
@@ -219,10 +219,10 @@ module _ (w : Which) (k x : ℕ) where
     ending xs = hit (gather-source, λ x. within x (endsOf xs))
 
     ways-are : (xs : List Way) → any (marks w k x) (each (wayStrokes d) xs) ≡ (starting xs || (ending xs || false))
-    ways-are [] = sym (ap₂ (λ (a b : Bool). a || (b || false)) (and-false (sameKind scatter-target w)) (and-false (sameKind gather-source w)))
+    ways-are [] = sym (ap₂ (λ (a b : Bool). a || (b || false)) (and-false (samePlane scatter-target w)) (and-false (samePlane gather-source w)))
     ways-are (a ∷ xs) =
         (λ i. one-marks scatter-target d (a .0) i || (one-marks gather-source d (a .1) i || ways-are xs i))
-        ∙ go (sameKind scatter-target w) (sameKind gather-source w) (eqb d k) (eqb x (a .0)) (eqb x (a .1)) (within x (startsOf xs)) (within x (endsOf xs))
+        ∙ go (samePlane scatter-target w) (samePlane gather-source w) (eqb d k) (eqb x (a .0)) (eqb x (a .1)) (within x (startsOf xs)) (within x (endsOf xs))
       where
         go : (s e o a b u v : Bool)
             → ((s && (a && o)) || ((e && (b && o)) || ((s && (u && o)) || ((e && (v && o)) || false)))) ≡ ((s && ((a || u) && o)) || ((e && ((b || v) && o)) || false))

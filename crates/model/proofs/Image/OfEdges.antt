@@ -10,7 +10,7 @@ use Rattle.model.specs.Tree.{canLoop, canSkip, Repeat, Seq}
 use Rattle.model.specs.Edges.{backEdge, byLetter, byLoop, depth, Edge, edge, edges, edgesOf, endsOf, gatherEdge, isBack, isPropagate, letterAt, letterEdge, loopEdge, Part, parts, propagateEdge, returnAt, scatterEdge, startsOf, states, unionAt, Way}
 use Rattle.model.specs.Edges.{when as whenEdge}
 use Rattle.model.specs.Image.{backSource, backTarget, enters, firstEnd, gatherBlock, gatherSource, gatherTarget, image, lastStart, leaves, letters, repeats, scatterBlock, scatterSource, scatterTarget, unionTest, width}
-use Rattle.model.specs.Models.LayOut.{back-source, back-target, entering, gather-block, gather-source, gather-target, leaving, letter-place, loop-place, scatter-block, scatter-source, scatter-target, Which}
+use Rattle.model.specs.Models.LayOut.{back-source, back-target, entering, gather-block, gather-source, gather-target, leaving, letter-place, loop-place, scatter-block, scatter-source, scatter-target, Plane}
 use Rattle.model.proofs.Ends.Run.{letterSet, loopsByte, loopSet, takesByte}
 use Rattle.model.proofs.Image.ArcTests.{any-when, branchTest, letterTest}
 use Rattle.model.proofs.Image.Laid.{assemble-same}
@@ -109,7 +109,7 @@ back-targets-of s k x =
     (λ k i j. refl) (λ k i j. refl) (λ xs k i j. refl) (λ k i j. refl) s
 
 -- a mask of unions: no letter and no propagate edge marks a place, and a union passes as its fork does
-unions-of : (w : Which) (f : ℕ → List Way → ℕ → Bool) (s : Seq) (k x : ℕ) → ((c d i j : ℕ) → on w k x (arc (letterArc c) d i j) ≡ false)
+unions-of : (w : Plane) (f : ℕ → List Way → ℕ → Bool) (s : Seq) (k x : ℕ) → ((c d i j : ℕ) → on w k x (arc (letterArc c) d i j) ≡ false)
     → ((c d i j : ℕ) → on w k x (arc (loopArc c) d i j) ≡ false) → ((d i j : ℕ) → on w k x (arc propagateArc d i j) ≡ false) → ((ws : List Way) (d i j : ℕ) → (f i ws j && eqb d k) ≡ on w k x (arc (forkArc ws) d i j))
     → ((d i j : ℕ) → on w k x (arc backArc d i j) ≡ false) → any (unionTest k f) (parts s 0 0) ≡ treeSet s w k x
 unions-of w f s k x no-letter no-loop no-propagate at-fork no-back = parts-any (unionTest k f) (on w k x) at-letter at-union (λ d i j. sym (no-back d i j)) s ∙ arcs-set s w k x
@@ -124,7 +124,7 @@ unions-of w f s k x no-letter no-loop no-propagate at-fork no-back = parts-any (
         at-fork ws d t u ∙ ap (λ (v : Bool). v || on w k x (arc (forkArc ws) d t u)) (sym (ap (λ (v : Bool). b && v) (no-propagate d t u) ∙ and-false b))
 
 -- the sets of the image; letter and loop places have no mask there
-abbrev pub edgeSet : Seq → Which → ℕ → ℕ → Bool
+abbrev pub edgeSet : Seq → Plane → ℕ → ℕ → Bool
 edgeSet s letter-place = treeSet s letter-place
 edgeSet s loop-place = treeSet s loop-place
 edgeSet s scatter-block = scatterBlock s
@@ -138,7 +138,7 @@ edgeSet s entering = enters s
 edgeSet s back-source = backSource s
 edgeSet s back-target = backTarget s
 
-pub edge-sets : (s : Seq) (w : Which) (k x : ℕ) → edgeSet s w k x ≡ treeSet s w k x
+pub edge-sets : (s : Seq) (w : Plane) (k x : ℕ) → edgeSet s w k x ≡ treeSet s w k x
 edge-sets s letter-place k x = refl
 edge-sets s loop-place k x = refl
 edge-sets s scatter-block k x =

@@ -8,7 +8,7 @@ use lib.Dec.{leb, ltb, eqb}
 use Rattle.model.specs.Lists.{any, within}
 use Rattle.model.specs.Tree.{Seq}
 use Rattle.model.specs.Edges.{Way}
-use Rattle.model.specs.Models.LayOut.{back-source, back-target, begin, entering, gather-block, gather-source, gather-target, layOut, leaving, letter-place, loop-place, scatter-block, scatter-source, scatter-target, Which}
+use Rattle.model.specs.Models.LayOut.{back-source, back-target, begin, entering, gather-block, gather-source, gather-target, layOut, leaving, letter-place, loop-place, scatter-block, scatter-source, scatter-target, Plane}
 use Rattle.model.specs.Models.Tokens.{tokens}
 use Rattle.model.proofs.Image.LayOut.{lay-out-is}
 use Rattle.model.proofs.Image.Marks.{on, onKind}
@@ -69,7 +69,7 @@ enters-any x [] = refl
 enters-any x (p ∷ ps) = ap (λ (b : Bool). eqb x (p .1) || b) (enters-any x ps)
 
 -- the sets by the arcs are the tree's
-pub arcs-set : (s : Seq) (w : Which) (k x : ℕ) → any (on w k x) (arcs s 0 0) ≡ treeSet s w k x
+pub arcs-set : (s : Seq) (w : Plane) (k x : ℕ) → any (on w k x) (arcs s 0 0) ≡ treeSet s w k x
 arcs-set s letter-place k x = refl
 arcs-set s loop-place k x = refl
 arcs-set s scatter-block k x =
@@ -94,5 +94,5 @@ arcs-set s back-source k x = refl
 arcs-set s back-target k x = refl
 
 -- LAY OUT MARKS THE TREE'S SETS
-pub tree-sets : (s : Seq) (w : Which) (k x : ℕ) → layOut (tokens s []) begin w k x ≡ treeSet s w k x
+pub tree-sets : (s : Seq) (w : Plane) (k x : ℕ) → layOut (tokens s []) begin w k x ≡ treeSet s w k x
 tree-sets s w k x = lay-out-is w k x s ∙ arcs-set s w k x

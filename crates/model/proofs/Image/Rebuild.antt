@@ -9,7 +9,7 @@ use lib.ListN.{length, getD, take, drop, length-drop, take-append-drop}
 use lib.Seq.{drop-cons, drop-drop, take-add, take-all}
 use Rattle.model.specs.Image.{join}
 use Rattle.model.specs.Models.Sections.{backAt, backIn, chunk, Counted, depthWord, gatherAt, gatherIn, lettersAt, lettersIn, propagateAt, propagateIn, repeatsAt, repeatsIn, scatterAt, scatterIn, stateWord, widthWord}
-use Rattle.model.specs.Models.LayOut.{assemble, Which}
+use Rattle.model.specs.Models.LayOut.{assemble, Plane}
 use Rattle.model.proofs.Image.Sections.{after-gather, after-letters, after-propagate, after-repeats, after-scatter, backRows, backs-length, backWordsAt, gatherRows, gathers-length, gatherWordsAt, letterRows, letters-length, letterWordsAt, loopRows, loops-length, loopWordsAt, propagateRows, propagates-length, propagateWordsAt, scatterRows, scatters-length, scatterWordsAt}
 
 -- ---- words from their parts
@@ -37,7 +37,7 @@ module _ (ws : List ℕ) (a w n : ℕ) (f : ℕ → List ℕ) (parts : (k : ℕ)
   section-end l = sym (take-all (w * n) (drop a ws) (omega (arith, length-drop a ws))) ∙ whole
 
 -- ---- an image from its sections
-module _ (ws : List ℕ) (L R : ℕ → ℕ → Bool) (B : Which → ℕ → ℕ → Bool) where
+module _ (ws : List ℕ) (L R : ℕ → ℕ → Bool) (B : Plane → ℕ → ℕ → Bool) where
   abbrev m : ℕ
   m = stateWord ws
 

@@ -9,11 +9,11 @@ use lib.ListN.{length, length-append}
 use Rattle.model.specs.Bits.{bit}
 use Rattle.model.specs.Image.{join, section}
 use Rattle.model.specs.Models.Sections.{backIn, bitOf, bitOfThree, bitOfTwo, chunk, gatherAt, gatherIn, imageLength, lettersAt, lettersIn, propagateAt, propagateIn, repeatsAt, repeatsIn, scatterAt, scatterIn}
-use Rattle.model.specs.Models.LayOut.{assemble, back-source, back-target, blockOf, gather-block, gather-source, gather-target, scatter-block, scatter-source, scatter-target, set, sourceOf, targetOf, three, two, Which}
+use Rattle.model.specs.Models.LayOut.{assemble, back-source, back-target, blockOf, gather-block, gather-source, gather-target, scatter-block, scatter-source, scatter-target, set, sourceOf, targetOf, three, two, Plane}
 use Rattle.model.specs.Models.Words.{value}
 use Rattle.model.proofs.Image.Rows.{chunk-join, chunk-join-end, length-join, length-set, length-three, length-two, past-section, set-bit, three-0, three-1, three-2, two-0, wide}
 
-module _ (m W d : ℕ) (L R : ℕ → ℕ → Bool) (B : Which → ℕ → ℕ → Bool) where
+module _ (m W d : ℕ) (L R : ℕ → ℕ → Bool) (B : Plane → ℕ → ℕ → Bool) where
   abbrev all : List ℕ
   all = assemble m W d L R B
 

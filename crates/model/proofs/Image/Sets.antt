@@ -6,7 +6,7 @@ use Rattle.model.specs.Lists.{any}
 use Rattle.model.specs.Tree.{Seq}
 use Rattle.model.specs.Edges.{depth, seqEnd}
 use Rattle.model.specs.Image.{width}
-use Rattle.model.specs.Models.LayOut.{assemble, back-source, back-target, entering, gather-block, gather-source, gather-target, leaving, letter-place, loop-place, scatter-block, scatter-source, scatter-target, Which}
+use Rattle.model.specs.Models.LayOut.{assemble, back-source, back-target, entering, gather-block, gather-source, gather-target, leaving, letter-place, loop-place, scatter-block, scatter-source, scatter-target, Plane}
 use Rattle.model.proofs.Ends.Run.{letterSet, loopSet}
 use Rattle.model.proofs.Image.Marks.{on}
 use Rattle.model.proofs.Language.Arcs.{arcs}
@@ -17,7 +17,7 @@ use Rattle.model.proofs.Words.Propagate.{entersOf, leavesOf}
 use Rattle.model.proofs.Words.Rounds.{returnSource, returnTarget}
 use Rattle.model.proofs.Words.Scatter.{scatterBlockOf, scatterSourceOf, scatterTargetOf}
 
-abbrev pub treeSet : Seq → Which → ℕ → ℕ → Bool
+abbrev pub treeSet : Seq → Plane → ℕ → ℕ → Bool
 treeSet s letter-place k x = any (on letter-place k x) (arcs s 0 0)
 treeSet s loop-place k x = any (on loop-place k x) (arcs s 0 0)
 treeSet s scatter-block k x = scatterBlockOf (forksOf k (arcs s 0 0)) x

@@ -12,7 +12,7 @@ use Rattle.model.specs.Edges.{depth, seqEnd}
 use Rattle.model.specs.Image.{width}
 use Rattle.model.specs.Models.Apart.{anyBelow, markOf, repeatOf, tape, tokenAt, tokenOf, tokensFrom}
 use Rattle.model.specs.Models.Sections.{backIn, bitOf, bitOfThree, bitOfTwo, gatherIn, lettersIn, propagateIn, repeatsIn, scatterIn}
-use Rattle.model.specs.Models.LayOut.{back-source, entering, gather-target, leaving, scatter-source, Which}
+use Rattle.model.specs.Models.LayOut.{back-source, entering, gather-target, leaving, scatter-source, Plane}
 use Rattle.model.specs.Models.Tokens.{aBar, aClose, aLetter, anOpen, classOf, loopClassOf, Token, tokens}
 use Rattle.model.proofs.Ends.Run.{letterSet, loopSet}
 use Rattle.model.proofs.Image.Between.{token}
@@ -82,7 +82,7 @@ module _ (s : Seq) (fine : AllFine (tokens s [])) where
   abbrev R : ℕ → ℕ → Bool
   R = loopSet (arcs s 0 0)
 
-  abbrev B : Which → ℕ → ℕ → Bool
+  abbrev B : Plane → ℕ → ℕ → Bool
   B = treeSet s
 
   abbrev ws : List ℕ

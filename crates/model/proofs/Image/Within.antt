@@ -10,7 +10,7 @@ use Rattle.model.specs.Lists.{All, within}
 use Rattle.model.specs.Tree.{Alts, end, last, letter, more, Seq, union}
 use Rattle.model.specs.Edges.{altsEnd, endsOf, seqEnd, startsOf, ways}
 use Rattle.model.specs.Image.{firstEnd, lastStart}
-use Rattle.model.specs.Models.LayOut.{begin, layOut, sameKind, Which}
+use Rattle.model.specs.Models.LayOut.{begin, layOut, samePlane, Plane}
 use Rattle.model.specs.Models.Tokens.{tokens}
 use Rattle.model.proofs.Image.LayOut.{lay-out-is}
 use Rattle.model.proofs.Image.Marks.{levelOf, on, onKind, places, setOf}
@@ -37,9 +37,9 @@ low-fork a t d n F l =
     let ends : (x : ℕ) → T (within x (endsOf (ways a t))) → x ≤ n = λ x h. omega (arith, ends-between a t x h) in
     (blocks, (sources, (targets, (between, (ends, (low-state (suc (altsEnd a t)) n l, tt))))))
 
-set-low : (w : Which) (x n : ℕ) (ps : List (Which × (ℕ → Bool))) → All (λ p. (x : ℕ) → T (p .1 x) → x ≤ n) ps → T (setOf w ps x) → x ≤ n
+set-low : (w : Plane) (x n : ℕ) (ps : List (Plane × (ℕ → Bool))) → All (λ p. (x : ℕ) → T (p .1 x) → x ≤ n) ps → T (setOf w ps x) → x ≤ n
 set-low w x n [] L t = absurd t
-set-low w x n (p ∷ ps) L t = go (sameKind (p .0) w) t (set-low w x n ps (L .1))
+set-low w x n (p ∷ ps) L t = go (samePlane (p .0) w) t (set-low w x n ps (L .1))
   where
     go : (b : Bool) → T (cond b (p .1 x) (setOf w ps x)) → (T (setOf w ps x) → x ≤ n) → x ≤ n
     go true t later = L .0 x t
@@ -73,7 +73,7 @@ mutual
       (low s (suc p) (suc k) n (F .1) (omega (arith, altsEnd-lt a (seqEnd s (suc p))))) (low-alts a (seqEnd s (suc p)) k n (F .2) l)
 
 -- NO PLACE PAST THE ACCEPTING STATE
-pub lay-low : (s : Seq) → Full s → (w : Which) (k x : ℕ) → T (layOut (tokens s []) begin w k x) → x ≤ seqEnd s 0
+pub lay-low : (s : Seq) → Full s → (w : Plane) (k x : ℕ) → T (layOut (tokens s []) begin w k x) → x ≤ seqEnd s 0
 lay-low s F w k x h =
     let r = any-out (on w k x) (arcs s 0 0) (subst T (lay-out-is w k x s) h) in
     set-low w x (seqEnd s 0) (places (r .0 .kind) (r .0 .from) (r .0 .to))

@@ -65,13 +65,13 @@ step aBar q = afterBar (q .position) (q .canBeEmpty) (q .stack)
 step (aClose m) q = afterClose m (q .position) (q .canBeEmpty) (q .stack)
 
 -- ---- what a token marks
--- the kinds of masks: letter and loop places (depth 0 alone), those of scatter and gather, the states where propagate edges start and end,
--- and those where back edges do
-pub data Which : Type 0 where
-  letter-place loop-place scatter-block scatter-source scatter-target gather-block gather-source gather-target leaving entering back-source back-target : Which
+-- the planes, each the masks of one sort for all depths: letter and loop places (depth 0 alone), those of scatter and gather, the states where
+-- propagate edges start and end, and those where back edges do
+pub data Plane : Type 0 where
+  letter-place loop-place scatter-block scatter-source scatter-target gather-block gather-source gather-target leaving entering back-source back-target : Plane
 
--- a number for each kind; 8 is left to propagate's block, which is made of the two kinds after it
-abbrev pub number : Which → ℕ
+-- a number for each; 8 is left to propagate's block, which is made of the two planes after it
+abbrev pub number : Plane → ℕ
 number letter-place = 0
 number loop-place = 1
 number scatter-block = 2
@@ -85,20 +85,20 @@ number entering = 10
 number back-source = 11
 number back-target = 12
 
-abbrev pub sameKind : Which → Which → Bool
-sameKind v w = eqb (number v) (number w)
+abbrev pub samePlane : Plane → Plane → Bool
+samePlane v w = eqb (number v) (number w)
 
--- A STROKE: in the mask of one kind of one depth, its row, the states from `from` on and before `to`
+-- A STROKE: in one plane, in its row for a depth, the states from `from` on and before `to`
 pub record Stroke : Type 0 where
-  pub which : Which
+  pub plane : Plane
   pub row : ℕ
   pub from : ℕ
   pub to : ℕ
 
-abbrev pub stroke : Which → ℕ → ℕ → ℕ → Stroke
-stroke w k a z = record { which = w; row = k; from = a; to = z }
+abbrev pub stroke : Plane → ℕ → ℕ → ℕ → Stroke
+stroke w k a z = record { plane = w; row = k; from = a; to = z }
 
-abbrev pub oneState : Which → ℕ → ℕ → Stroke
+abbrev pub oneState : Plane → ℕ → ℕ → Stroke
 oneState w k x = stroke w k x (suc x)
 
 abbrev pub covers : Stroke → ℕ → ℕ → Bool
@@ -152,15 +152,15 @@ strokes anOpen q = openStrokes (q .position) (length (q .stack))
 strokes aBar q = barStrokesIn (q .position) (q .stack)
 strokes (aClose m) q = closeStrokesIn m (q .position) (q .stack)
 
--- of the masks of kind w, the state x at depth k
-abbrev pub marks : Which → ℕ → ℕ → Stroke → Bool
-marks w k x s = sameKind (s .which) w && covers s k x
+-- of plane w the state x at depth k
+abbrev pub marks : Plane → ℕ → ℕ → Stroke → Bool
+marks w k x s = samePlane (s .plane) w && covers s k x
 
-abbrev pub mark : Token → Scan → Which → ℕ → ℕ → Bool
+abbrev pub mark : Token → Scan → Plane → ℕ → ℕ → Bool
 mark y q w k x = any (marks w k x) (strokes y q)
 
 -- LAY OUT: what the tokens that are still to come mark
-abbrev pub layOut : List Token → Scan → Which → ℕ → ℕ → Bool
+abbrev pub layOut : List Token → Scan → Plane → ℕ → ℕ → Bool
 layOut [] q w k x = false
 layOut (y ∷ ys) q w k x = mark y q w k x || layOut ys (step y q) w k x
 
@@ -233,17 +233,17 @@ abbrev pub two : ℕ → ℕ → (ℕ → Bool) → (ℕ → Bool) → List ℕ
 two m W f g = set m W f ++ set m W g
 
 -- propagate's masks by the states where its edges start and end
-abbrev pub blockOf : (Which → ℕ → ℕ → Bool) → ℕ → ℕ → Bool
+abbrev pub blockOf : (Plane → ℕ → ℕ → Bool) → ℕ → ℕ → Bool
 blockOf B k x = B leaving k x || B entering k x
 
-abbrev pub sourceOf : (Which → ℕ → ℕ → Bool) → ℕ → ℕ → Bool
+abbrev pub sourceOf : (Plane → ℕ → ℕ → Bool) → ℕ → ℕ → Bool
 sourceOf B k x = B leaving k x && not (B entering k x)
 
-abbrev pub targetOf : (Which → ℕ → ℕ → Bool) → ℕ → ℕ → Bool
+abbrev pub targetOf : (Plane → ℕ → ℕ → Bool) → ℕ → ℕ → Bool
 targetOf B k x = B entering k x && not (B leaving k x)
 
 -- the seven sections by the shape m, W, d, the letters' sets L, the loops' R, and the others B
-abbrev pub assemble : ℕ → ℕ → ℕ → (ℕ → ℕ → Bool) → (ℕ → ℕ → Bool) → (Which → ℕ → ℕ → Bool) → List ℕ
+abbrev pub assemble : ℕ → ℕ → ℕ → (ℕ → ℕ → Bool) → (ℕ → ℕ → Bool) → (Plane → ℕ → ℕ → Bool) → List ℕ
 assemble m W d L R B =
     section (m ∷ W ∷ d ∷ [])
     ++ (section (join 256 0 (λ b. set m W (L b)))

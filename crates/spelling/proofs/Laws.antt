@@ -1,4 +1,3 @@
--- What the proofs of the functions cite. Sets: rows of words that hold a set of the tree's states. Follow: one turn of the checker's loop.
-pub mod Sets
+-- What the proofs of the functions cite. Follow: one turn of the checker's loop. Check: what its tests come to.
 pub mod Follow
 pub mod Check

@@ -1,6 +1,6 @@
 -- WHAT THE CHECK ANSWERS, at each of its ways out: a test that fails fails for no image, and words that pass all tests are one.
-use mathlib.Core.Path.{_≡_, refl, sym, ap, _∙_, subst}
-use mathlib.Core.Bool.{Bool, true, false, not}
+use mathlib.Core.Path.{_≡_, sym, ap, _∙_, subst}
+use mathlib.Core.Bool.{true, false}
 use mathlib.Core.List.{List}
 use Prim.Native.Nat.{ℕ}
 use native.Mathlib.Omega.{arith}
@@ -83,11 +83,3 @@ module _ {ws : List ℕ} {p : Sections} {letters : List ℕ} {t : Tape} (K : Tak
       let y = yes ws (K .fit) (K .headed) (K .letters-of) (K .shown) (q .0) (q .1 ∙ n ∙ depth-is)
       (subst T (sym (sym (ap (λ (r : Sections). sameAll ws r letters t) own-places) ∙ a)) tt) in
       is-image (y .0) (y .1) (ap Image (K .own ∙ sym (image-placed ws (y .0) (y .1) .own))) (y .2)
-
-pub not-true : (b : Bool) → not b ≡ true → b ≡ false
-not-true true e = sym e
-not-true false e = refl
-
-pub not-false : (b : Bool) → not b ≡ false → b ≡ true
-not-false true e = refl
-not-false false e = sym e

@@ -4,7 +4,8 @@ use Rattle.mask.proofs.Laws.Bits.{fit-row}
 use Rattle.tokens_masks.specs.Tapes.{onTape}
 use Rattle.tokens_masks.specs.declared.OnTape.the-variants.{Tree}
 use Rattle.image_check.specs.Says.{is-other}
-use Rattle.image_check.proofs.Laws.Answers.{image-found, no-tree, not-false, not-headed, not-true, other-depth, room-taken, Taken, taken-of, words-differ}
+use Rattle.model.proofs.Laws.Bool.{not-false, not-true}
+use Rattle.image_check.proofs.Laws.Answers.{image-found, no-tree, not-headed, other-depth, room-taken, Taken, taken-of, words-differ}
 use borrow.Author.Needs.{needs}
 use Rattle.image_check.proofs.check.Statement.{statement}
 use Rattle.image_check.proofs.check.Tie as tie

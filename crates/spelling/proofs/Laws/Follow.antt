@@ -18,7 +18,7 @@ use Rattle.model.specs.Spelling.{Follow, Reaches}
 use Rattle.model.proofs.Definitions.Below.{takes-below}
 use Rattle.run_edges.specs.Reach.{EnterSays, ReachSays}
 use Rattle.spelling.specs.Work.{FollowSays}
-use Rattle.spelling.proofs.Laws.Sets.{entered-from, row-is}
+use Rattle.run_edges.proofs.Laws.Sets.{entered-from, row-is}
 
 module _ (image : List ℕ) (last : ℕ) (text : List ℕ) (start : ℕ) (list : List ℕ) where
   abbrev bytes : List ℕ

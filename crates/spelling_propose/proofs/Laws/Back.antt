@@ -18,7 +18,7 @@ use Rattle.model.proofs.Laws.Bool.{is-not}
 use Rattle.run_edges.specs.Reach.{LeaveSays, reachWords}
 use Rattle.run.specs.Says.{StatesAre}
 use Rattle.run_edges.proofs.Laws.Image.{reach-says}
-use Rattle.spelling.proofs.Laws.Sets.{every, row-is}
+use Rattle.run_edges.proofs.Laws.Sets.{every, row-is}
 use Rattle.spelling_propose.specs.Work.{BackSays, EndingSays, Has, IntoSays, OriginsSays, Ready, SetOf, WithSays}
 use Rattle.spelling_propose.proofs.Laws.Origins.{none-has}
 

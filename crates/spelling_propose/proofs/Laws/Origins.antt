@@ -18,7 +18,7 @@ use Rattle.model.proofs.Laws.Bits.{no-bit}
 use Rattle.model.proofs.Laws.Bool.{le-or-lt}
 use Rattle.model.proofs.Words.RowBits.{row-bit, shifted}
 use Rattle.run_edges.specs.Reach.{reachWords}
-use Rattle.spelling.proofs.Laws.Sets.{bit-below}
+use Rattle.run_edges.proofs.Laws.Sets.{bit-below}
 use Rattle.spelling_propose.specs.Work.{EitherSays, Has, IntoSays, IntoWordSays, NoteSays, OriginsSays, WithSays}
 
 -- no row of zeros has a state

@@ -17,7 +17,7 @@ use Rattle.model.proofs.Words.Holds.{Near}
 use Rattle.model.proofs.Words.Operations.{near-and, near-or}
 use Rattle.model.proofs.Words.Put.{put-bit}
 use Rattle.model.proofs.Words.RowBits.{row-bit}
-use Rattle.spelling.proofs.Laws.Sets.{bit-below}
+use Rattle.run_edges.proofs.Laws.Sets.{bit-below}
 use Rattle.spelling_propose.specs.Work.{EitherSays, Has, LowestBitSays, LowestSays, WithSays}
 
 pub with-says : (row r : List ℕ) (q : ℕ) → q < 512 → length row ≡ 8 → Fit row → r ≡ putBit row q → WithSays row q r

@@ -14,7 +14,7 @@ use Rattle.model.specs.Spelling.{between}
 use Rattle.model.proofs.Spelling.Leads.{between-more, between-one, chain-more}
 use Rattle.model.proofs.Definitions.Below.{takes-below}
 use Rattle.run_edges.specs.Reach.{EnterSays, ReachSays}
-use Rattle.spelling.proofs.Laws.Sets.{entered-from}
+use Rattle.run_edges.proofs.Laws.Sets.{entered-from}
 use Rattle.spelling_propose.specs.Work.{BackSays, ChooseSays, FillSays, Has, LowestSays, Ready, SetAt, SetOf, SetsOf, Stretch, WalkAsks, Walked, WalkSays}
 
 -- ---- THE SETS OF A STRETCH, from its last place down

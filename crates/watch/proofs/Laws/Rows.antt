@@ -18,6 +18,7 @@ use Rattle.model.specs.Models.Run.{noted}
 use Rattle.model.specs.Models.Words.{Fit, isMask, value}
 use Rattle.model.specs.Tree.{Tree}
 use Rattle.model.specs.Watch.{BeginSays, begun, goes-on, IsMask, not-a-mask, not-an-image, stays, stepped, StepSays, stretch-too-long, text-too-long, watch, Watched}
+use Rattle.model.proofs.Laws.Bool.{not-false, not-true}
 use Rattle.model.proofs.Laws.Stores.{sets-fit}
 use Rattle.model.proofs.Watch.Ends.{ends-zero}
 use Rattle.model.proofs.Watch.Masks.{mask-test}
@@ -104,19 +105,11 @@ module _ (ws : List ℕ) {r : Checked} (C : CheckSays ws r) {p : Sections} (g : 
           (λ y. h .0 (subst T k y), λ M. subst T (sym k) (h .1 M))
 
       pub step-mask : not b ≡ true → Says (stays 9 mask place ends)
-      step-mask n = not-a-mask t I small (λ M. no b n (is .1 M)) refl
-        where
-          no : (b : Bool) → not b ≡ true → T b → ⊥
-          no true p h = subst T (sym p) tt
-          no false p h = h
+      step-mask n = not-a-mask t I small (λ M. subst T (not-true b n) (is .1 M)) refl
 
       module _ (passed : not b ≡ false) where
         M : IsMask (states t) mask
-        M = is .0 (yes b passed)
-          where
-            yes : (b : Bool) → not b ≡ false → T b
-            yes true p = tt
-            yes false p = subst T p tt
+        M = is .0 (subst T (sym (not-false b passed)) tt)
 
         pub its-words : length mask ≡ p .width
         its-words = M .long ∙ sym width-is

@@ -4,8 +4,8 @@ use native.Mathlib.Omega.{arith}
 use Prim.Native.Nat.{_-_}
 use lib.Dec.{T}
 use lib.ListN.{length}
+use Rattle.model.proofs.Laws.Bool.{not-false, not-true}
 use Rattle.spelling.proofs.Laws.Follow.{Going, going-ends, going-more, going-none, going-stops}
-use Rattle.spelling.proofs.Laws.Sets.{not-false, not-true}
 use borrow.Author.Needs.{needs}
 use Rattle.spelling.proofs.follow.follow.Statement.{statement}
 use Rattle.spelling.proofs.follow.follow.Tie as tie

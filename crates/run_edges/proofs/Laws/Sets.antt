@@ -1,6 +1,5 @@
 -- WORDS THAT HOLD A SET OF THE TREE'S STATES: what a state reaches, and what a byte enters from there.
-use mathlib.Core.Path.{_≡_, refl, subst, sym}
-use mathlib.Core.Bool.{Bool, true, false, not}
+use mathlib.Core.Path.{_≡_, subst}
 use mathlib.Core.Logic.{_⊎_, inl, inr, _↔_}
 use mathlib.Core.List.{List}
 use Prim.Native.Nat.{ℕ, _≤_, _<_}
@@ -41,15 +40,7 @@ module _ {image : List ℕ} {t : Tree} (I : ImageOf image t) {q : ℕ} (h : q < 
         λ k. e .1 (k .0, row-is (k .0) .1 (k .1), k .2),
       )
 
--- ---- tests, and the bits of eight words
-pub not-true : (b : Bool) → not b ≡ true → b ≡ false
-not-true true e = sym e
-not-true false e = refl
-
-pub not-false : (b : Bool) → not b ≡ false → b ≡ true
-not-false true e = refl
-not-false false e = sym e
-
+-- ---- the bits of eight words
 pub bit-below : (words : List ℕ) (x : ℕ) → Fit words → length words ≡ 8 → T (bit (value words) x) → x < 512
 bit-below words x f e h = go (le-or-lt 512 x)
   where

@@ -60,7 +60,7 @@ module _ {A Given : Type 0} (refuses : Refusal → A) (done : Given → A) where
   abbrev pub read : ℕ → Given → A
   read n g = cond (eqb n 0) (done g) (refuses (refusalWith n))
 
-  pub read-refused : (x : Refusal) (g : Given) → read (numberOf x) g ≡ refuses x
+  read-refused : (x : Refusal) (g : Given) → read (numberOf x) g ≡ refuses x
   read-refused x g = rw (unequal (numberOf x) 0 (λ e. omega (arith, number-known x .0, e))) (ap refuses (with-number x))
 
 -- ---- A COUNT'S ANSWER

@@ -1,7 +1,9 @@
 // The examples of document 01, and those of repeated groups, through build, read back and match: what the desk program writes about a rule and a text,
 // and the masks that the document prints.
 use desk_report::report;
+use image_sections::sections_of;
 use watcher::build;
+ghost use Prim.Native.Nat.{_+_, _≤_, _<_};
 
 fn show(rule: &[u8], journal: &[u8]) {
     io::write_all(1, b"-- ");
@@ -14,33 +16,43 @@ fn show(rule: &[u8], journal: &[u8]) {
     io::write_all(1, &text[..length]);
 }
 
-fn show_three(label: &[u8], block: u64, source: u64, target: u64) {
+fn show_mask(image: &[u64; 4834], at: usize)
+    requires { ⌜ at < 4834 ⌝ }
+{
+    io::write_all(1, b" ");
+    io::print_decimal(1, image[at]);
+}
+
+// Block, source and target of one depth, where a mask has one word.
+fn show_three(label: &[u8], image: &[u64; 4834], at: usize)
+    requires { ⌜ at + 3 ≤ 4834 ⌝ }
+{
     io::write_all(1, label);
-    io::print_decimal(1, block);
-    io::write_all(1, b" ");
-    io::print_decimal(1, source);
-    io::write_all(1, b" ");
-    io::print_decimal(1, target);
+    show_mask(image, at);
+    show_mask(image, at + 1);
+    show_mask(image, at + 2);
     io::write_all(1, b"\n");
 }
 
-fn show_two(label: &[u8], source: u64, target: u64) {
+fn show_two(label: &[u8], image: &[u64; 4834], at: usize)
+    requires { ⌜ at + 2 ≤ 4834 ⌝ }
+{
     io::write_all(1, label);
-    io::print_decimal(1, source);
-    io::write_all(1, b" ");
-    io::print_decimal(1, target);
+    show_mask(image, at);
+    show_mask(image, at + 1);
     io::write_all(1, b"\n");
 }
 
-// The masks of a rule of at most 64 states and depth 1: its image has 536 words, and the last sections start after words 518, 522, 526 and 533.
+// The masks of a rule of at most 64 states and depth 1.
 fn show_masks(rule: &[u8]) {
-    let mut image = [0u64; 536];
+    let mut image = [0u64; 4834];
     build(rule, &mut image);
-    show_three(b"scatter 0: ", image[519], image[520], image[521]);
-    show_three(b"gather 0: ", image[523], image[524], image[525]);
-    show_three(b"propagate 0: ", image[527], image[528], image[529]);
-    show_three(b"propagate 1: ", image[530], image[531], image[532]);
-    show_two(b"back 0: ", image[534], image[535]);
+    let sections = sections_of(64, 1);
+    show_three(b"scatter 0:", &image, sections.scatter);
+    show_three(b"gather 0:", &image, sections.gather);
+    show_three(b"propagate 0:", &image, sections.propagate);
+    show_three(b"propagate 1:", &image, sections.propagate + 3);
+    show_two(b"back 0:", &image, sections.back);
 }
 
 fn show_letters() {

@@ -34,7 +34,7 @@ quiet ended e = absurd (never e)
 quiet (went-on H W) e = absurd (never e)
 quiet nothing e = refl
 
-pub unfollowed : {rule text : List ℕ} {stretches : List (List ℕ)} (a : Counted) → BuildSays rule (replicate 4834 0) a → 0 < a .number → FollowSays rule stretches text
+unfollowed : {rule text : List ℕ} {stretches : List (List ℕ)} (a : Counted) → BuildSays rule (replicate 4834 0) a → 0 < a .number → FollowSays rule stretches text
     → text ≡ refusedText (a .number)
 unfollowed {rule} a B z (follows {n} {after} (built C b) W) =
     absurd (omega (arith, z, ap (λ (x : Counted). x .number) (build-one rule (replicate 4834 0) a (record { number = 0; given = n; lent = after }) B C)))

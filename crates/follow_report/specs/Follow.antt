@@ -2,13 +2,14 @@
 -- tables of build, begin and step. And what that is to come to for the whole journal.
 use mathlib.Core.Path.{_≡_}
 use mathlib.Core.List.{List, [], _∷_, _++_}
-use Prim.Native.Nat.{ℕ, _+_, _%_, _^_, _≤_, _<_, min}
-use lib.ListN.{getD, length, replicate, take}
+use Prim.Native.Nat.{ℕ, _+_, _%_, _^_, _≤_, _<_}
+use lib.ListN.{length, replicate, take}
 use Rattle.model.specs.Answers.{BuildSays, Counted}
 use Rattle.model.specs.Ends.{EndsAre}
 use Rattle.model.specs.Lists.{All, each}
 use Rattle.model.specs.Tree.{Tree}
 use Rattle.model.specs.Watch.{BeginSays, foundBy, StepSays, Watched}
+use Rattle.image_sections.specs.Sections.{maskWords}
 use Rattle.program_lines.specs.Lines.{endLines, refusedText, totalText}
 
 -- what is kept between stretches: the watch's mask and place, and how many ends were found, a number of 64 bits
@@ -26,10 +27,6 @@ pub data Next : Type 0 where
 pub data Told (w : Watched) (total : ℕ) (next : Next) (text : List ℕ) : Type 0 where
   found : w .number ≡ 0 → next ≡ on (record { mask = w .lent .mask; place = w .lent .place; total = total % 2 ^ 64 }) → text ≡ endLines (foundBy w) → Told w total next text
   refused : 0 < w .number → next ≡ stopped → text ≡ refusedText (w .number) → Told w total next text
-
--- W, an image's third word: a mask is the first W of eight words
-abbrev pub maskWords : List ℕ → ℕ
-maskWords words = min (getD words 2 0) 8
 
 -- "a watch that begins with an image": the line `0` where place 0 is an end
 pub record Begins (words : List ℕ) (next : Next) (text : List ℕ) : Type 0 where

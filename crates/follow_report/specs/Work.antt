@@ -4,9 +4,10 @@ use mathlib.Core.Bool.{Bool, true, false}
 use mathlib.Core.List.{List}
 use Prim.Native.Nat.{ℕ}
 use lib.ListN.{take}
+use Rattle.image_sections.specs.Sections.{maskWords}
 use Rattle.program_lines.specs.Lines.{endLines, refusedText}
 use Rattle.program_lines.specs.Work.{PutAt}
-use Rattle.follow_report.specs.Follow.{Kept, maskWords, Next, on, stopped}
+use Rattle.follow_report.specs.Follow.{Kept, Next, on, stopped}
 use Rattle.follow_report.specs.declared.Said.{Said}
 use Rattle.follow_report.specs.declared.Watching.{Watching}
 

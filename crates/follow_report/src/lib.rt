@@ -2,6 +2,7 @@
 // each stretch, and at the end.
 use answers::Answer;
 use answers::Refusal;
+use image_sections::mask_words;
 use program_lines::put_ends;
 use program_lines::put_refusal;
 use program_lines::put_total;
@@ -14,7 +15,7 @@ ghost use Prim.Native.Nat.{_≤_};
 ghost use lib.ListN.{length, take};
 ghost use Rattle.answers.specs.Answers.{numberOf};
 ghost use Rattle.program_lines.specs.Lines.{Reports, totalText};
-ghost use Rattle.follow_report.specs.Follow.{Begins, Hears, maskWords, Opens};
+ghost use Rattle.follow_report.specs.Follow.{Begins, Hears, Opens};
 ghost use Rattle.follow_report.specs.Work.{Goes, keptIn, nextIn, Stops};
 
 // What is kept between stretches: a mask, of whose words the image's first W count, the place, and how many ends were found. The image lies beside it.
@@ -66,17 +67,6 @@ fn go_on(text: &mut [u8], ends: &[u32], count: usize, watching: Watching) -> Sai
         on: true,
         watching,
     }
-}
-
-// W, as the image's shape has it.
-fn mask_words(image: &[u64]) -> usize
-    ensures { λ r. ⌜ r ≡ maskWords (now (image .entry)) ⌝ }
-{
-    if image.len() < 3 {
-        return 0;
-    }
-    let words = image[2];
-    if words < 8 { words as usize } else { 8 }
 }
 
 // A watch begun, before any byte.

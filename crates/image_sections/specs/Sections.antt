@@ -1,10 +1,10 @@
 -- THE PLACES OF AN IMAGE as one record: for W words to a mask, those of m states and depth d; and of words that have a shape, their own.
 use mathlib.Core.Path.{_≡_}
 use mathlib.Core.List.{List}
-use Prim.Native.Nat.{ℕ, _+_, _*_, _≤_}
+use Prim.Native.Nat.{ℕ, _+_, _*_, _≤_, min}
 use lib.ListN.{length}
 use Rattle.model.specs.Image.{width}
-use Rattle.model.specs.Models.Sections.{backAt, depthWord, gatherAt, imageLength, lettersAt, propagateAt, repeatsAt, scatterAt, stateWord}
+use Rattle.model.specs.Models.Sections.{backAt, depthWord, gatherAt, imageLength, lettersAt, propagateAt, repeatsAt, scatterAt, stateWord, widthWord}
 use Rattle.image_sections.specs.declared.Sections.{Sections}
 
 abbrev pub sectionsFor : (m W d : ℕ) → Sections
@@ -29,6 +29,10 @@ sectionsIn ws = sectionsOf (stateWord ws) (depthWord ws)
 
 abbrev pub widthOf : List ℕ → ℕ
 widthOf ws = width (stateWord ws)
+
+-- the words to a mask as the shape says it, of a mask of at most eight
+abbrev pub maskWords : List ℕ → ℕ
+maskWords ws = min (widthWord ws) 8
 
 -- EVERY SECTION LIES WITHIN n WORDS: the limits, and that each begins after the one before it and a count
 pub record Within (p : Sections) (n : ℕ) : Type 0 where

@@ -2,6 +2,7 @@
 // byte's masks; and the header of any words at all, read in one place. Only the shape's own words are written elsewhere, by `image`.
 mod reader;
 
+pub use reader::mask_words;
 pub use reader::read_header;
 ghost use mathlib.Core.Path.{_≡_};
 ghost use Prim.Native.Nat.{_≤_};

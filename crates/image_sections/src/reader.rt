@@ -5,7 +5,7 @@ use crate::sections_of;
 ghost use mathlib.Core.Path.{_≡_};
 ghost use lib.ListN.{length as lengthOf};
 ghost use Rattle.image_sections.specs.Header.{countsFit, headerFits, headerIf, shapeFits};
-ghost use Rattle.image_sections.specs.Sections.{Within};
+ghost use Rattle.image_sections.specs.Sections.{maskWords, Within};
 
 // "Six sections .. each after its count of words", and a seventh: the counts after the shape's, where the length is right.
 fn counts_fit(words: &[u64], sections: Sections) -> bool
@@ -62,4 +62,15 @@ pub fn read_header(words: &[u64]) -> Header
         return Header::Other;
     }
     shape
+}
+
+// How many words a mask has, as the shape of any words says it: at most eight, and none where there is no shape.
+pub fn mask_words(words: &[u64]) -> usize
+    ensures { λ r. ⌜ r ≡ maskWords (now (words .entry)) ⌝ }
+{
+    if words.len() < 3 {
+        return 0;
+    }
+    let width = words[2];
+    if width < 8 { width as usize } else { 8 }
 }

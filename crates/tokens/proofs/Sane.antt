@@ -14,7 +14,7 @@ behind-more : (p : ℕ) (st : List Frame) → Behind p st → Behind (suc p) st
 behind-more p [] B = tt
 behind-more p (f ∷ st) B = (omega (arith, B .0), omega (arith, B .1), omega (arith, B .2), behind-more p st (B .3))
 
-pub cond-le : (b : Bool) (x y z : ℕ) → x ≤ z → y ≤ z → cond b x y ≤ z
+cond-le : (b : Bool) (x y z : ℕ) → x ≤ z → y ≤ z → cond b x y ≤ z
 cond-le true x y z h k = h
 cond-le false x y z h k = k
 

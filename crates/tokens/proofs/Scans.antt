@@ -46,7 +46,7 @@ outside-is fs (suc n) = ne-eqb (suc n) 0 (λ e. omega arith)
 
 -- ---- below the top of a stack that is not empty
 module _ (fs : List Frame) where
-  abbrev pub topFrame : ℕ → Frame
+  abbrev topFrame : ℕ → Frame
   topFrame n = getD fs (n - 1) noFrame
 
   pub top-is : (n : ℕ) → 0 < n → stackOf fs n ≡ frameOf (topFrame n) ∷ stackOf fs (n - 1)

@@ -116,7 +116,7 @@ module _ (ms : List ℕ) (long : length ms ≡ 936) (i k x : ℕ) (hi : i < plan
           table-row (markRow ms r x) v j h ∙ row-other ms r x hx fits (rowNumber j v) (λ q. d (omega arith)) (omega arith) ∙ sym (table-row ms v j h)
 
 -- ---- a run of states
-pub run-long : (n : ℕ) (ms : List ℕ) (r x : ℕ) → length (runRow n ms r x) ≡ length ms
+run-long : (n : ℕ) (ms : List ℕ) (r x : ℕ) → length (runRow n ms r x) ≡ length ms
 run-long zero ms r x = refl
 run-long (suc n) ms r x = run-long n (markRow ms r x) r (suc x) ∙ length-set ms (8 * r + x / 64) _
 
@@ -149,7 +149,7 @@ module _ (i k : ℕ) (hi : i < planes) (hk : k < 9) where
       ∙ mark-other ms l i k x hi hk (h x (omega arith) (omega arith)) v hv d
 
 -- ---- strokes
-pub number-small : (w : Plane) → number w < planes
+number-small : (w : Plane) → number w < planes
 number-small letter-place = omega arith
 number-small loop-place = omega arith
 number-small scatter-block = omega arith

@@ -16,7 +16,7 @@ use Rattle.tokens_masks.proofs.InWords.{row-long, row-word, table-long,
 use Rattle.tokens_masks.proofs.Joins.{joined-at, length-joined}
 
 -- where word n of the blocks stands; the sources are 8 words after it, the targets 16
-abbrev pub at : ℕ → ℕ
+abbrev at : ℕ → ℕ
 at n = placeOf (n / 8) blockPlane (n % 8)
 
 -- word n of the three masks is joined; it is as it was

@@ -97,28 +97,28 @@ module _ (s : tree.Tree) (t : Tape) (O : TreeOnTape s t) where
     nine : k < 9
     nine = omega (arith, O .shallow)
 
-    pub scatter-block-row : getD (tableOf t scatter-block) k [] ≡ words 8 (mask (states s) (scatterBlock s k))
+    scatter-block-row : getD (tableOf t scatter-block) k [] ≡ words 8 (mask (states s) (scatterBlock s k))
     scatter-block-row = row-as scatter-block k (scatterBlock s k) nine (λ x l. is-set scatter-block k x)
 
-    pub scatter-source-row : getD (tableOf t scatter-source) k [] ≡ words 8 (mask (states s) (scatterSource s k))
+    scatter-source-row : getD (tableOf t scatter-source) k [] ≡ words 8 (mask (states s) (scatterSource s k))
     scatter-source-row = row-as scatter-source k (scatterSource s k) nine (λ x l. is-set scatter-source k x)
 
-    pub scatter-target-row : getD (tableOf t scatter-target) k [] ≡ words 8 (mask (states s) (scatterTarget s k))
+    scatter-target-row : getD (tableOf t scatter-target) k [] ≡ words 8 (mask (states s) (scatterTarget s k))
     scatter-target-row = row-as scatter-target k (scatterTarget s k) nine (λ x l. is-set scatter-target k x)
 
-    pub gather-block-row : getD (tableOf t gather-block) k [] ≡ words 8 (mask (states s) (gatherBlock s k))
+    gather-block-row : getD (tableOf t gather-block) k [] ≡ words 8 (mask (states s) (gatherBlock s k))
     gather-block-row = row-as gather-block k (gatherBlock s k) nine (λ x l. is-set gather-block k x)
 
-    pub gather-source-row : getD (tableOf t gather-source) k [] ≡ words 8 (mask (states s) (gatherSource s k))
+    gather-source-row : getD (tableOf t gather-source) k [] ≡ words 8 (mask (states s) (gatherSource s k))
     gather-source-row = row-as gather-source k (gatherSource s k) nine (λ x l. is-set gather-source k x)
 
-    pub gather-target-row : getD (tableOf t gather-target) k [] ≡ words 8 (mask (states s) (gatherTarget s k))
+    gather-target-row : getD (tableOf t gather-target) k [] ≡ words 8 (mask (states s) (gatherTarget s k))
     gather-target-row = row-as gather-target k (gatherTarget s k) nine (λ x l. is-set gather-target k x)
 
-    pub back-source-row : getD (tableOf t back-source) k [] ≡ words 8 (mask (states s) (backSource s k))
+    back-source-row : getD (tableOf t back-source) k [] ≡ words 8 (mask (states s) (backSource s k))
     back-source-row = row-as back-source k (backSource s k) nine (λ x l. is-set back-source k x)
 
-    pub back-target-row : getD (tableOf t back-target) k [] ≡ words 8 (mask (states s) (backTarget s k))
+    back-target-row : getD (tableOf t back-target) k [] ≡ words 8 (mask (states s) (backTarget s k))
     back-target-row = row-as back-target k (backTarget s k) nine (λ x l. is-set back-target k x)
 
   -- ---- PROPAGATE
@@ -126,19 +126,19 @@ module _ (s : tree.Tree) (t : Tape) (O : TreeOnTape s t) where
     nine-too : k < 9
     nine-too = omega (arith, O .shallow)
 
-    pub propagate-block-row : getD (propagateBlockTable t) k [] ≡ words 8 (mask (states s) (propagateBlock s k))
+    propagate-block-row : getD (propagateBlockTable t) k [] ≡ words 8 (mask (states s) (propagateBlock s k))
     propagate-block-row =
         propagate-block-is t is-tree k nine-too
         ∙ as-states (blockOf (layOut (tokensOf t) begin) k) (propagateBlock s k)
         (λ x l. ap₂ _||_ (laid-is leaving k x ∙ is-set leaving k x) (laid-is entering k x ∙ is-set entering k x))
 
-    pub propagate-source-row : getD (propagateSourceTable t) k [] ≡ words 8 (mask (states s) (propagateSource s k))
+    propagate-source-row : getD (propagateSourceTable t) k [] ≡ words 8 (mask (states s) (propagateSource s k))
     propagate-source-row =
         propagate-source-is t is-tree k nine-too
         ∙ as-states (sourceOf (layOut (tokensOf t) begin) k) (propagateSource s k)
         (λ x l. ap₂ (λ (a b : Bool). a && not b) (laid-is leaving k x ∙ is-set leaving k x) (laid-is entering k x ∙ is-set entering k x))
 
-    pub propagate-target-row : getD (propagateTargetTable t) k [] ≡ words 8 (mask (states s) (propagateTarget s k))
+    propagate-target-row : getD (propagateTargetTable t) k [] ≡ words 8 (mask (states s) (propagateTarget s k))
     propagate-target-row =
         propagate-target-is t is-tree k nine-too
         ∙ as-states (targetOf (layOut (tokensOf t) begin) k) (propagateTarget s k)
@@ -146,7 +146,7 @@ module _ (s : tree.Tree) (t : Tape) (O : TreeOnTape s t) where
 
   -- ---- ROWS PAST THE DEPTH ARE 0
   module _ (k : ℕ) (h : k < 9) where
-    pub union-row-past : (w : Plane) → T (ofUnion w) → depth s ≤ k → getD (tableOf t w) k [] ≡ replicate 8 0
+    union-row-past : (w : Plane) → T (ofUnion w) → depth s ≤ k → getD (tableOf t w) k [] ≡ replicate 8 0
     union-row-past w u p =
         laid-row w k h
         ∙ none-words (states s) (laid w k) (λ x. is-not (laid w k x) (λ m. omega (arith, deep k x (tokens s []) begin w m .1 u, reach-is s)))
@@ -155,18 +155,18 @@ module _ (s : tree.Tree) (t : Tape) (O : TreeOnTape s t) where
       nothing : (w : Plane) (x : ℕ) → layOut (tokensOf t) begin w k x ≡ false
       nothing w x = laid-is w k x ∙ is-not (laid w k x) (λ m. omega (arith, deep k x (tokens s []) begin w m .0, reach-is s))
 
-      pub propagate-block-past : getD (propagateBlockTable t) k [] ≡ replicate 8 0
+      propagate-block-past : getD (propagateBlockTable t) k [] ≡ replicate 8 0
       propagate-block-past =
           propagate-block-is t is-tree k h
           ∙ none-words (suc (length (tokensOf t))) (blockOf (layOut (tokensOf t) begin) k) (λ x. ap₂ _||_ (nothing leaving x) (nothing entering x))
 
-      pub propagate-source-past : getD (propagateSourceTable t) k [] ≡ replicate 8 0
+      propagate-source-past : getD (propagateSourceTable t) k [] ≡ replicate 8 0
       propagate-source-past =
           propagate-source-is t is-tree k h
           ∙ none-words (suc (length (tokensOf t))) (sourceOf (layOut (tokensOf t) begin) k)
           (λ x. ap₂ (λ (a b : Bool). a && not b) (nothing leaving x) (nothing entering x))
 
-      pub propagate-target-past : getD (propagateTargetTable t) k [] ≡ replicate 8 0
+      propagate-target-past : getD (propagateTargetTable t) k [] ≡ replicate 8 0
       propagate-target-past =
           propagate-target-is t is-tree k h
           ∙ none-words (suc (length (tokensOf t))) (targetOf (layOut (tokensOf t) begin) k)
@@ -179,7 +179,7 @@ module _ (s : tree.Tree) (t : Tape) (O : TreeOnTape s t) where
   letter-token : (b x : ℕ) → x < states s → tokenLetters (tokens s []) b x ≡ letters s b x
   letter-token b x h = letters-are s b x h ∙ sym (letters-of s b x)
 
-  pub letters-row : getD (tableOf t letter-place) 0 [] ≡ words 8 (mask (states s) (λ x. anyBelow 256 (λ b. letters s b x)))
+  letters-row : getD (tableOf t letter-place) 0 [] ≡ words 8 (mask (states s) (λ x. anyBelow 256 (λ b. letters s b x)))
   letters-row =
       row-as letter-place 0 (λ x. anyBelow 256 (λ b. letters s b x)) (omega arith)
       (λ x h. sym (or-is-places (tokens s []) (good .2) x (within x h))
@@ -188,7 +188,7 @@ module _ (s : tree.Tree) (t : Tape) (O : TreeOnTape s t) where
   loop-bit : (x : ℕ) → x < states s → bit (value (getD (tableOf t loop-place) 0 [])) x ≡ laid loop-place 0 x
   loop-bit x h = ap (λ (ws : List ℕ). bit (value ws) x) (laid-row loop-place 0 (omega arith)) ∙ set-bit (states s) 8 (laid loop-place 0) (omega (arith, O .few)) x h
 
-  pub loops-row : (b x : ℕ) → x < states s → (letters s b x && bit (value (getD (tableOf t loop-place) 0 [])) x) ≡ repeats s b x
+  loops-row : (b x : ℕ) → x < states s → (letters s b x && bit (value (getD (tableOf t loop-place) 0 [])) x) ≡ repeats s b x
   loops-row b x h =
       ap₂ _&&_ (sym (letter-token b x h)) (loop-bit x h)
       ∙ repeats-by-letters (tokens s []) b x (within x h)
@@ -229,7 +229,7 @@ propagate-source-says t s O = record { row = propagate-source-row s t O; past = 
 pub propagate-target-says : (t : Tape) → PropagateSays propagateTarget t (propagateTargetTable t)
 propagate-target-says t s O = record { row = propagate-target-row s t O; past = λ k p h. propagate-target-past s t O k h p }
 
-pub letters-say : (t : Tape) → LettersSay t (getD (tableOf t letter-place) 0 [])
+letters-say : (t : Tape) → LettersSay t (getD (tableOf t letter-place) 0 [])
 letters-say t s O = letters-row s t O
 
 pub loops-say : (t : Tape) → LoopsSay t (getD (tableOf t loop-place) 0 [])

@@ -90,7 +90,7 @@ module _ (t : Tape) (i : T (isTree t)) where
   valid-tokens : T (valid l begin)
   valid-tokens = and-split (leb (t .length) 511) (valid l begin) i .1
 
-  pub few-tokens : length l ≤ 511
+  few-tokens : length l ≤ 511
   few-tokens =
       omega (
         arith,

@@ -100,7 +100,7 @@ module _ {t : Tape} {ms : List ℕ} {fs : List Frame} {q : Scan} {deepest i : �
           }
 
 -- ---- what the scan told
-tree-told : (b : Bool) (x d : ℕ) → cond b (Tree x) Other ≡ Tree d → T b
+pub tree-told : (b : Bool) (x d : ℕ) → cond b (Tree x) Other ≡ Tree d → T b
 tree-told true x d q = tt
 tree-told false x d q = let z : _≡_ {A = ℕ} 0 1 = cc in absurd (omega arith)
 

@@ -109,7 +109,7 @@ run-adds (suc n) a k x R hk h =
     }
 
 -- A STROKE
-pub stroke-adds : (a : Table) (s : Stroke) → Rows a → Within s → Adds a (paintStroke a s) (covers s)
+stroke-adds : (a : Table) (s : Stroke) → Rows a → Within s → Adds a (paintStroke a s) (covers s)
 stroke-adds a s R W =
     let A = run-adds (s .to - s .from) a (s .row) (s .from) R (W .0) (λ y h l. omega (arith, W .1)) in
     record { rows = A .rows; bits = λ j y. A .bits j y ∙ ap (λ (b : Bool). bitAt a j y || (b && eqb (s .row) j)) (same y) }

@@ -1,6 +1,5 @@
 -- WHAT A TAPE IS TOLD TO BE: a row of tokens that passes the scan is the tokens of a tree, and with a class for each letter that tree is a rule's.
 use mathlib.Core.Path.{_≡_, refl, sym, ap, ap₂, _∙_, subst}
-use mathlib.Core.Bool.{Bool, true, false, cond}
 use mathlib.Core.List.{List, [], _∷_}
 use Prim.Native.Nat.{ℕ, suc, _^_, _≤_, _<_}
 use native.Mathlib.Omega.{arith}
@@ -21,13 +20,13 @@ use Rattle.tokens_masks.specs.Says.{OnTapeSays, TreeOnTape}
 use Rattle.tokens.specs.Tokens.{bare, tokenOf}
 use Rattle.tokens_masks.specs.Tapes.{bares, isTree, onTape, readKinds, tokensOf}
 use Rattle.tokens.specs.Kinds.{readKind}
-use Rattle.tokens_masks.specs.declared.OnTape.{OnTape}
-use Rattle.tokens_masks.specs.declared.OnTape.the-variants.{Other, Tree}
+use Rattle.tokens_masks.specs.declared.OnTape.the-variants.{Tree}
 use Rattle.tokens_masks.specs.declared.Tape.{Tape}
 use Rattle.tokens.specs.declared.token.Token as code
 use Rattle.tokens.specs.declared.token.Token.the-variants.{Bar, Close, Letter, Open}
 use Rattle.tokens_masks.proofs.Bare.{bares-length, bares-valid}
 use Rattle.tokens_masks.proofs.OfTree.{on-tape-is}
+use Rattle.tokens_masks.proofs.Scanning.{tree-told}
 use Rattle.tokens_masks.proofs.Tokens.{read-length}
 
 -- ---- any class that holds a byte will do
@@ -101,17 +100,9 @@ module _ (t : Tape) (room : length (t .kinds) ≡ 512) (is : T (isTree t)) where
         },
       )
 
-abbrev isOther : OnTape → Type 0
-isOther Other = Unit
-isOther (Tree k) = ⊥
-
-told : (b : Bool) (n d : ℕ) → cond b (Tree n) Other ≡ Tree d → T b
-told true n d e = tt
-told false n d e = subst isOther e tt
-
 -- A TAPE IS TOLD TO BE A TREE'S EXACTLY IF IT IS ONE
 pub on-tape-says : (t : Tape) → length (t .kinds) ≡ 512 → OnTapeSays t (onTape t)
 on-tape-says t room = record {
   of-tree = λ s O. on-tape-is s t O;
-  some-tree = λ d e. tree-there t room (told (isTree t) (reach (tokensOf t) begin) d e);
+  some-tree = λ d e. tree-there t room (tree-told (isTree t) (reach (tokensOf t) begin) d e);
 }

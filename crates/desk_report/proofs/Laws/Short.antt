@@ -5,8 +5,8 @@ use Prim.Native.Nat.{ℕ, _≤_, _<_}
 use native.Mathlib.Omega.{arith}
 use lib.ListN.{length, length-append, length-replicate, length-take, replicate}
 use Rattle.model.specs.Answers.{Counted, MatchSays, resultOf}
-use Rattle.model.specs.Lists.{_∈_, All}
-use Rattle.model.proofs.Laws.Lists.{all-map, in-all}
+use Rattle.model.specs.Lists.{All}
+use Rattle.model.proofs.Laws.Lists.{all-of}
 use Rattle.watcher.proofs.Laws.Ends.{end-within, ends-few}
 use Rattle.program_lines.specs.Lines.{endLines, line, refusedText, totalText}
 use Rattle.program_lines.proofs.Laws.Numbers.{ends-short, number-short}
@@ -38,7 +38,7 @@ few-digits M = go M
     go (MatchSays.text-too-long t i l e) = rw e (record { number = omega arith; total = omega arith; few = length-replicate {A = ℕ} 1000 0; places = zeros })
     go {journal = journal} (MatchSays.matched t ends i l E e) =
         let small : Small ends =
-        all-map (λ (p : ℕ). p ∈ ends) (λ (p : ℕ). p < 100000) (λ p h. omega (arith, end-within t journal ends E p h)) ends (in-all ends) in
+        all-of (λ (p : ℕ). p < 100000) ends (λ p h. omega (arith, end-within t journal ends E p h)) in
         rw e (record {
           number = omega arith;
           total = omega (arith, ends-few t journal ends E);

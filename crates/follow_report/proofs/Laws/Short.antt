@@ -8,7 +8,7 @@ use lib.ListN.{length, length-replicate, length-take, replicate, take}
 use Rattle.model.specs.Answers.{done}
 use Rattle.model.specs.Lists.{_∈_, All}
 use Rattle.model.specs.Watch.{BeginSays, begun, foundBy, stepped, StepSays, stretch-too-long, text-too-long, Watched}
-use Rattle.model.proofs.Laws.Lists.{all-map, in-all}
+use Rattle.model.proofs.Laws.Lists.{all-of}
 use Rattle.watcher.proofs.Laws.Ends.{end-within}
 use Rattle.program_lines.specs.Lines.{endLines, refusedText, totalText}
 use Rattle.program_lines.proofs.Laws.Numbers.{ends-short, number-short}
@@ -19,7 +19,7 @@ abbrev Near : ℕ → Type 0
 Near p = p < 10 ^ 10
 
 near-all : (ps : List ℕ) → ((p : ℕ) → p ∈ ps → p ≤ 4294967295) → All Near ps
-near-all ps f = all-map (λ (p : ℕ). p ∈ ps) Near (λ p h. omega (arith, f p h)) ps (in-all ps)
+near-all ps f = all-of Near ps (λ p h. omega (arith, f p h))
 
 -- what lies in a room of k places, in lines
 room-short : (found : List ℕ) (k n : ℕ) → All Near found → length (endLines (take n (done found (replicate k 0) .lent))) ≤ k * 11
@@ -32,12 +32,12 @@ room-short found k n F =
 abbrev Short : ℕ → Watched → Type 0
 Short k a = (a .number < 100) × (length (endLines (foundBy a)) ≤ k * 11)
 
-pub begin-short : {words mask : List ℕ} {place : ℕ} {a : Watched} → BeginSays words mask place (0 ∷ []) a → Short 1 a
+begin-short : {words mask : List ℕ} {place : ℕ} {a : Watched} → BeginSays words mask place (0 ∷ []) a → Short 1 a
 begin-short (BeginSays.not-an-image f e) = rw e (omega arith)
 begin-short (BeginSays.not-a-mask t i f e) = rw e (omega arith)
 begin-short (begun t first found I k A E e) = rw e (omega arith, room-short found 1 (length found) (near-all found (λ p h. omega (arith, end-within t [] found E p h))))
 
-pub step-short : {words mask : List ℕ} {place : ℕ} {stretch : List ℕ} {a : Watched} → StepSays words mask place stretch (replicate 4096 0) a → Short 4096 a
+step-short : {words mask : List ℕ} {place : ℕ} {stretch : List ℕ} {a : Watched} → StepSays words mask place stretch (replicate 4096 0) a → Short 4096 a
 step-short (StepSays.not-an-image f e) = rw e (omega arith)
 step-short (stretch-too-long t i l e) = rw e (omega arith)
 step-short (StepSays.not-a-mask t i l f e) = rw e (omega arith)

@@ -13,10 +13,11 @@ use Rattle.answers.specs.declared.Answer.{Answer}
 use Rattle.answers.specs.declared.Answer.the-variants.{Done, Refused}
 use Rattle.answers.specs.declared.Refusal.{Refusal}
 use Rattle.answers.proofs.Apart.{number-known}
+use Rattle.image_sections.specs.Sections.{maskWords}
 use Rattle.program_lines.specs.Lines.{endLines, refusedText, Reports}
 use Rattle.program_lines.proofs.Laws.Puts.{reports}
 use Rattle.program_lines.proofs.Laws.Room.{build-fits, First, first}
-use Rattle.follow_report.specs.Follow.{Begins, built, found, Hears, maskWords, on, Opens, stopped, Told}
+use Rattle.follow_report.specs.Follow.{Begins, built, found, Hears, on, Opens, stopped, Told}
 use Rattle.follow_report.specs.Work.{Goes, keptIn, nextIf, nextIn, Stops}
 use Rattle.follow_report.specs.declared.Said.{Said}
 use Rattle.follow_report.specs.declared.Watching.{Watching}

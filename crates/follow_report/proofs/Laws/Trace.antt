@@ -12,7 +12,7 @@ use Rattle.program_lines.proofs.Laws.Puts.{lines-app}
 use Rattle.follow_report.specs.Follow.{ended, Kept, Next, on, Told, went-on, Writes}
 use Rattle.follow_report.proofs.Laws.Few.{step-few}
 
-abbrev pub joined : List (List ℕ) → List ℕ
+abbrev joined : List (List ℕ) → List ℕ
 joined stretches = each (λ s. s) stretches
 
 -- the calls of steps, one after another, each with room for its ends

@@ -3,7 +3,7 @@ use mathlib.Core.Path.{_≡_, ap, _∙_, subst}
 use mathlib.Core.List.{List, [], _∷_, _++_}
 use Prim.Native.Nat.{ℕ, _+_, _%_, _^_, _≤_}
 use native.Mathlib.Omega.{arith}
-use lib.ListN.{getD, length, length-append, length-take, replicate, take}
+use lib.ListN.{length, length-append, length-take, replicate, take}
 use Rattle.model.specs.Answers.{ImageOf}
 use Rattle.model.specs.Edges.{states}
 use Rattle.model.specs.Ends.{EndsAre}
@@ -11,15 +11,17 @@ use Rattle.model.specs.Image.{width}
 use Rattle.model.specs.Lists.{All}
 use Rattle.model.specs.Tree.{Tree}
 use Rattle.model.specs.Watch.{Call, Calls, Cutting, endsOf, Fair, foundBy, textOf, Watched}
+use Rattle.model.specs.Models.Sections.{widthWord}
 use Rattle.model.proofs.Watch.Cuttings.{cutting}
-use Rattle.follow_report.specs.Follow.{Arrives, Begins, Followed, maskWords, Next, Told, Writes}
+use Rattle.image_sections.specs.Sections.{maskWords}
+use Rattle.follow_report.specs.Follow.{Arrives, Begins, Followed, Next, Told, Writes}
 use Rattle.follow_report.proofs.Laws.Few.{begin-few}
 use Rattle.follow_report.proofs.Laws.Trace.{broken, lines-then, traced, Traced, whole}
 
 -- a mask of as many words as the image says
 mask-wide : (words : List ℕ) (t : Tree) → ImageOf words t → length {A = ℕ} (take (maskWords words) (replicate 8 0)) ≡ width (states t)
 mask-wide words t I =
-    let W : getD words 2 0 ≡ width (states t) = ap (λ (ws : List ℕ). getD ws 2 0) (I .laid) in
+    let W : widthWord words ≡ width (states t) = ap widthWord (I .laid) in
     omega (arith, length-take {A = ℕ} (maskWords words) (replicate 8 0), W, I .few)
 
 module _ (words : List ℕ) (t : Tree) (I : ImageOf words t) {journal : List ℕ} (stretches : List (List ℕ)) (A : Arrives journal stretches) where

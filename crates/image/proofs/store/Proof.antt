@@ -65,7 +65,7 @@ put-image-requires c κs =
       (
         within-limits places (few T d) (shallow T d),
         ap (λ (p : Sections). p .letters) places,
-        roomy .if1 .left,
+        omega (arith, roomy .if1 .left),
         omega (arith, atTape l .tape-of .ensures .0, ap (λ (p : Sections). p .states) places),
       ),
       l .lay-out .ensures .1 .1 .0,
@@ -84,7 +84,7 @@ returns-3 c =
     let d = m .before .before .on-tape .given .1 in
     let before = start l .args .words .now in
     let places = m .sections-of .ensures in
-    says-stored T d before places (roomy .if1 .left) (put .put-image .ensures)
+    says-stored T d before places (omega (arith, roomy .if1 .left)) (put .put-image .ensures)
 
 pub store-spec : {M : Type 1} → statement M
 store-spec =

@@ -30,7 +30,7 @@ module _ (ws : List ℕ) (at W : ℕ) (fits : at + W ≤ length ws) where
   pub words-long : length (wordsAt ws at W) ≡ W
   words-long = length-take-le W (drop at ws) (omega (arith, length-drop at ws))
 
-  pub word-at : (j : ℕ) → j < W → getD ws (at + j) 0 ≡ getD (wordsAt ws at W) j 0
+  word-at : (j : ℕ) → j < W → getD ws (at + j) 0 ≡ getD (wordsAt ws at W) j 0
   word-at j h = sym (getD-take W (drop at ws) j 0 h ∙ getD-drop at ws j 0)
 
 module _ (ws : List ℕ) (at W : ℕ) (fits : at + 2 * W ≤ length ws) where

@@ -67,7 +67,7 @@ module _ (w n : ℕ) (g : ℕ → List ℕ) (long : (k : ℕ) → k < n → leng
       ∙ ap g (zero-add k)
 
   -- the section as the code compares it, whose rows are g's for each part that there is
-  pub section-is : (f : ℕ → List ℕ) → ((k : ℕ) → k < n → f k ≡ g k)
+  section-is : (f : ℕ → List ℕ) → ((k : ℕ) → k < n → f k ≡ g k)
       → T (sameWords (take (w * n) S) (join n 0 f)) ↔ ((k : ℕ) → k < n → chunk w k S ≡ g k)
   section-is f r = (
     λ t. parts-of (same-words (take (w * n) S) (join n 0 f) t ∙ rows),

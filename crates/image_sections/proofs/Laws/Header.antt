@@ -73,7 +73,7 @@ module _ (ws : List ℕ) where
       && (holds ws (one-before (gatherCount W d) i) (3 * W * d)
       && (holds ws (one-before (propagateCount W d) i) (3 * W * suc d) && holds ws (one-before (backCount W d) i) (2 * W * d)))))
 
-  pub counts-of : (m d : ℕ) → getD ws 0 0 ≡ 3 → length ws ≡ imageLength (width m) d → T (countsFit ws (sectionsOf m d)) → Counted ws (width m) d
+  counts-of : (m d : ℕ) → getD ws 0 0 ≡ 3 → length ws ≡ imageLength (width m) d → T (countsFit ws (sectionsOf m d)) → Counted ws (width m) d
   counts-of m d three long t =
       let W = width m in
       let a = and-split (holds ws lettersCount (256 * W)) _ (subst T (tests-are m d) t) in
@@ -92,7 +92,7 @@ module _ (ws : List ℕ) where
         back-count = eqb→eq (getD ws (backCount W d) 0) (2 * W * d) (f .1);
       }
 
-  pub counts-fit : (m d : ℕ) → Counted ws (width m) d → T (countsFit ws (sectionsOf m d))
+  counts-fit : (m d : ℕ) → Counted ws (width m) d → T (countsFit ws (sectionsOf m d))
   counts-fit m d C =
       let W = width m in
       subst T (sym (tests-are m d))
@@ -150,13 +150,13 @@ module _ (ws : List ℕ) where
     pub long : length ws ≡ sectionsIn ws .length
     pub counts : T (countsFit ws (sectionsIn ws))
 
-  pub fits-of : T (headerFits ws) → Fits
+  fits-of : T (headerFits ws) → Fits
   fits-of t =
       let a = and-split (shapeFits ws) _ t in
       let b = and-split (eqb (length ws) (sectionsIn ws .length)) _ (a .1) in
       record { shape = shape-of (a .0); long = eqb→eq (length ws) (sectionsIn ws .length) (b .0); counts = b .1 }
 
-  pub header-fits : Fits → T (headerFits ws)
+  header-fits : Fits → T (headerFits ws)
   header-fits F =
       and-both (shapeFits ws) _ (shape-fits (F .shape))
       (and-both (eqb (length ws) (sectionsIn ws .length)) _ (equal (length ws) (sectionsIn ws .length) (F .long)) (F .counts))

@@ -25,7 +25,7 @@ abbrev pub sumWord : ℕ → ℕ → Bool → ℕ
 sumWord x y c = wrapAdd (wrapAdd x y) (digit c)
 
 -- the code asks whether t is below s, the model whether it is below the carry: t has wrapped exactly if either is so
-pub wrapped : (s : ℕ) (b : Bool) → s < 2 ^ 64 → ltb (wrapAdd s (digit b)) s ≡ ltb (wrapAdd s (digit b)) (digit b)
+wrapped : (s : ℕ) (b : Bool) → s < 2 ^ 64 → ltb (wrapAdd s (digit b)) s ≡ ltb (wrapAdd s (digit b)) (digit b)
 wrapped s b h = same-truth (ltb t s) (ltb t (digit b)) there back
   where
     t : ℕ

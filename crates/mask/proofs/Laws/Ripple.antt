@@ -15,13 +15,13 @@ use Rattle.mask.proofs.Laws.Take.{take-ripple}
 use Rattle.mask.specs.Rows.{Upto}
 
 -- what goes into word i, from c into word 0
-abbrev pub intoWord : (out : ℕ → ℕ → Bool → Bool) → List ℕ → List ℕ → Bool → ℕ → Bool
+abbrev intoWord : (out : ℕ → ℕ → Bool → Bool) → List ℕ → List ℕ → Bool → ℕ → Bool
 intoWord out xs ys c zero = c
 intoWord out [] ys c (suc i) = c
 intoWord out (x ∷ xs) [] c (suc i) = c
 intoWord out (x ∷ xs) (y ∷ ys) c (suc i) = intoWord out xs ys (out x y c) i
 
-pub into-next : (out : ℕ → ℕ → Bool → Bool) (xs ys : List ℕ) (c : Bool) (i : ℕ) → i < length xs → i < length ys
+into-next : (out : ℕ → ℕ → Bool → Bool) (xs ys : List ℕ) (c : Bool) (i : ℕ) → i < length xs → i < length ys
     → intoWord out xs ys c (suc i) ≡ out (getD xs i 0) (getD ys i 0) (intoWord out xs ys c i)
 into-next out [] ys c i h k = absurd (not-suc-le-zero h)
 into-next out (x ∷ xs) [] c i h k = absurd (not-suc-le-zero k)
@@ -29,14 +29,14 @@ into-next out (x ∷ xs) (y ∷ ys) c zero h k = refl
 into-next out (x ∷ xs) (y ∷ ys) c (suc i) h k = into-next out xs ys (out x y c) i (le-of-suc-le-suc h) (le-of-suc-le-suc k)
 
 module _ (word : ℕ → ℕ → Bool → ℕ) (out : ℕ → ℕ → Bool → Bool) where
-  pub ripple-word : (xs ys : List ℕ) (c : Bool) (i : ℕ) → i < length xs → i < length ys
+  ripple-word : (xs ys : List ℕ) (c : Bool) (i : ℕ) → i < length xs → i < length ys
       → getD (ripple word out xs ys c) i 0 ≡ word (getD xs i 0) (getD ys i 0) (intoWord out xs ys c i)
   ripple-word [] ys c i h k = absurd (not-suc-le-zero h)
   ripple-word (x ∷ xs) [] c i h k = absurd (not-suc-le-zero k)
   ripple-word (x ∷ xs) (y ∷ ys) c zero h k = refl
   ripple-word (x ∷ xs) (y ∷ ys) c (suc i) h k = ripple-word xs ys (out x y c) i (le-of-suc-le-suc h) (le-of-suc-le-suc k)
 
-  pub ripple-length : (xs ys : List ℕ) (c : Bool) → length xs ≡ length ys → length (ripple word out xs ys c) ≡ length xs
+  ripple-length : (xs ys : List ℕ) (c : Bool) → length xs ≡ length ys → length (ripple word out xs ys c) ≡ length xs
   ripple-length [] ys c e = refl
   ripple-length (x ∷ xs) [] c e = absurd (omega arith)
   ripple-length (x ∷ xs) (y ∷ ys) c e = ap suc (ripple-length xs ys (out x y c) (omega arith))

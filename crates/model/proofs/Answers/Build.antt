@@ -19,17 +19,17 @@ use Rattle.model.proofs.Laws.Bool.{le-or-lt, pick-gt, pick-le}
 use Rattle.model.proofs.Reading.Decides.{reads}
 
 -- ---- the answer, computed: checks 3 to 5 on a tree, check 2 on what was read, check 1 on the rule
-abbrev pub treeAnswer : Tree → List ℕ → Counted
+abbrev treeAnswer : Tree → List ℕ → Counted
 treeAnswer t before =
     cond (leb (states t) 512)
     (cond (leb (depth t) 8) (cond (leb (length (image t)) (length before)) (done (image t) before) (refused 5 before)) (refused 4 before))
     (refused 3 before)
 
-abbrev pub readAnswer : Option Tree → List ℕ → Counted
+abbrev readAnswer : Option Tree → List ℕ → Counted
 readAnswer none before = refused 2 before
 readAnswer (some t) before = treeAnswer t before
 
-abbrev pub buildAnswer : List ℕ → List ℕ → Counted
+abbrev buildAnswer : List ℕ → List ℕ → Counted
 buildAnswer rule before = cond (leb (length rule) 1024) (readAnswer (readRule rule) before) (refused 1 before)
 
 -- ---- a check that fails, and one that passes
@@ -73,7 +73,7 @@ module _ (rule before : List ℕ) where
       go none e = e
       go (some t) e = absurd (f t (reads rule t .1 e))
 
-  pub build-is : (a : Counted) → BuildSays rule before a → a ≡ buildAnswer rule before
+  build-is : (a : Counted) → BuildSays rule before a → a ≡ buildAnswer rule before
   build-is a (rule-too-long l e) = e ∙ sym (long l)
   build-is a (not-a-rule l f e) = e ∙ sym (short l ∙ ap (λ (o : Option Tree). readAnswer o before) (unread f))
   build-is a (too-many-states t l d m e) = e ∙ sym (read t l d ∙ many t before m)

@@ -19,11 +19,11 @@ use Rattle.model.proofs.Laws.Bool.{le-false, le-or-lt, le-true}
 use Rattle.model.proofs.Words.Run.{Bytes}
 
 -- ---- the answer, computed
-abbrev pub endsAnswer : Option Tree → List ℕ → List ℕ → Counted
+abbrev endsAnswer : Option Tree → List ℕ → List ℕ → Counted
 endsAnswer none text before = refused 6 before
 endsAnswer (some t) text before = cond (leb (length text) 65535) (done (treeEnds t text) before) (refused 7 before)
 
-abbrev pub matchAnswer : List ℕ → List ℕ → List ℕ → Counted
+abbrev matchAnswer : List ℕ → List ℕ → List ℕ → Counted
 matchAnswer words text before = endsAnswer (verdict words) text before
 
 -- ---- what the table says is that answer
@@ -31,7 +31,7 @@ module _ (words text before : List ℕ) (B : Bytes text) where
   abbrev by : Option Tree → Counted
   by o = endsAnswer o text before
 
-  pub match-is : (a : Counted) → MatchSays words text before a → a ≡ matchAnswer words text before
+  match-is : (a : Counted) → MatchSays words text before a → a ≡ matchAnswer words text before
   match-is a (not-an-image n e) = e ∙ sym (on-other by n)
   match-is a (text-too-long t i l e) = e ∙ sym (on-image by i ∙ rw (le-false (length text) 65535 l))
   match-is a (matched t ends i l E e) =

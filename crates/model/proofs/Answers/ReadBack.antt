@@ -16,11 +16,11 @@ use Rattle.model.proofs.Image.Decided.{by-verdict, on-image, on-other}
 use Rattle.model.proofs.Laws.Bool.{le-false, le-or-lt, le-true}
 
 -- ---- the answer, computed
-abbrev pub writingAnswer : Option Tree → List ℕ → Counted
+abbrev writingAnswer : Option Tree → List ℕ → Counted
 writingAnswer none before = refused 6 before
 writingAnswer (some t) before = cond (leb (length (writing t)) (length before)) (done (writing t) before) (refused 8 before)
 
-abbrev pub readBackAnswer : List ℕ → List ℕ → Counted
+abbrev readBackAnswer : List ℕ → List ℕ → Counted
 readBackAnswer words before = writingAnswer (verdict words) before
 
 -- ---- what the table says is that answer
@@ -28,7 +28,7 @@ module _ (words before : List ℕ) where
   abbrev by : Option Tree → Counted
   by o = writingAnswer o before
 
-  pub read-back-is : (a : Counted) → ReadBackSays words before a → a ≡ readBackAnswer words before
+  read-back-is : (a : Counted) → ReadBackSays words before a → a ≡ readBackAnswer words before
   read-back-is a (not-an-image n e) = e ∙ sym (on-other by n)
   read-back-is a (no-room t i l e) = e ∙ sym (on-image by i ∙ rw (le-false (length (writing t)) (length before) l))
   read-back-is a (written t i l e) = e ∙ sym (on-image by i ∙ rw (le-true (length (writing t)) (length before) l))

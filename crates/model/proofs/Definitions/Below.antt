@@ -6,28 +6,15 @@ use mathlib.Core.Logic.{inl, inr}
 use native.Mathlib.Omega.{arith}
 use Rattle.model.specs.Lists.{_∈_, All}
 use Rattle.model.specs.Tree.{Alts, end, last, letter, more, Seq, Tree, union}
-use Rattle.model.specs.Edges.{altsEnd, endsOf, seqEnd, startsOf, states, ways}
+use Rattle.model.specs.Edges.{altsEnd, seqEnd, states, ways}
 use Rattle.model.specs.Live.{Free, itself, onward, Reached, Takes}
 use Rattle.model.proofs.Definitions.Free.{free-is}
 use Rattle.model.proofs.Definitions.Takes.{takes-is}
 use Rattle.model.proofs.Language.Arcs.{altsArcs, Arc, arc, ArcKind, arcs, backArc, branch-whole, Byte, forkArc, letter-whole, letterArc, loopArc, propagateArc, Still}
-use Rattle.model.proofs.Language.Languages.{altsEnd-lt, seqEnd-le}
+use Rattle.model.proofs.Language.Languages.{altsEnd-lt, ends-among, seqEnd-le, starts-among}
 use Rattle.model.proofs.Laws.Lists.{all-app, all-in, all-map}
 use Rattle.model.proofs.Passes.Closure.{AnyEdge}
 use Rattle.model.proofs.Passes.OnTrees.{Gathers, Propagates, Scatters}
-
--- the alternatives of a union start past its start, and start and end at or below the last one's end
-starts-between : (a : Alts) (p r : ℕ) → r ∈ startsOf (ways a p) → (p < r) × (r ≤ altsEnd a p)
-starts-between (last s) p r (inl e) = omega (arith, seqEnd-le s (suc p))
-starts-between (last s) p r (inr h) = absurd h
-starts-between (more s a) p r (inl e) = omega (arith, seqEnd-le s (suc p), altsEnd-lt a (seqEnd s (suc p)))
-starts-between (more s a) p r (inr h) = omega (arith, seqEnd-le s (suc p), starts-between a (seqEnd s (suc p)) r h)
-
-ends-below : (a : Alts) (p r : ℕ) → r ∈ endsOf (ways a p) → r ≤ altsEnd a p
-ends-below (last s) p r (inl e) = omega arith
-ends-below (last s) p r (inr h) = absurd h
-ends-below (more s a) p r (inl e) = omega (arith, altsEnd-lt a (seqEnd s (suc p)))
-ends-below (more s a) p r (inr h) = ends-below a (seqEnd s (suc p)) r h
 
 -- a move along an arc that does not lead back rises
 abbrev Rises : ArcKind → ℕ → ℕ → Type 0
@@ -72,8 +59,8 @@ mutual
       z = seqEnd s u
 
       fork : (q r : ℕ) → Still (forkArc (ways a t)) t u q r → (q < r) × (r ≤ z)
-      fork q r (inl x) = omega (arith, x .0, starts-between a t r (x .1), seqEnd-le s u)
-      fork q r (inr x) = omega (arith, ends-below a t q (x .0), x .1, seqEnd-le s u)
+      fork q r (inl x) = omega (arith, x .0, starts-among a t r (x .1), seqEnd-le s u)
+      fork q r (inr x) = omega (arith, ends-among a t q (x .0), x .1, seqEnd-le s u)
 
   alts-below : (a : Alts) (p k : ℕ) → All (To (altsEnd a p)) (altsArcs a p k)
   alts-below (last s) p k = below s (suc p) (suc k)

@@ -8,10 +8,10 @@ use native.Mathlib.Nat.{eq-or-lt-of-le}
 use native.Mathlib.Omega.{arith}
 use lib.Dec.{T}
 use lib.ListN.{length}
-use Rattle.model.specs.Lists.{_∈_, All}
+use Rattle.model.specs.Lists.{_∈_}
 use Rattle.model.specs.Tree.{Tree}
 use Rattle.model.specs.Ends.{End, EndsAre, Rising}
-use Rattle.model.proofs.Laws.Lists.{all-in}
+use Rattle.model.proofs.Laws.Lists.{all-in, all-of}
 
 -- ---- a rising list is settled by its elements
 tail-in : (p q x : ℕ) (qs : List ℕ) → p ≡ q → p < x → (x ≡ q) ⊎ (x ∈ qs) → x ∈ qs
@@ -51,7 +51,7 @@ placesFrom f p zero = cond (f p) (p ∷ []) []
 placesFrom f p (suc n) = cond (f p) (p ∷ placesFrom f (suc p) n) (placesFrom f (suc p) n)
 
 module _ (f : ℕ → Bool) where
-  pub places-in : (p n x : ℕ) → x ∈ placesFrom f p n → (p ≤ x) × (x ≤ p + n) × T (f x)
+  places-in : (p n x : ℕ) → x ∈ placesFrom f p n → (p ≤ x) × (x ≤ p + n) × T (f x)
   places-in p zero x h = go (f p) refl h
     where
       go : (b : Bool) → f p ≡ b → x ∈ cond b (p ∷ []) [] → (p ≤ x) × (x ≤ p + 0) × T (f x)
@@ -66,7 +66,7 @@ module _ (f : ℕ → Bool) where
       go true e (inr k) ih = let r = ih k in (omega (arith, r .0), omega (arith, r .1), r .2)
       go false e k ih = let r = ih k in (omega (arith, r .0), omega (arith, r .1), r .2)
 
-  pub in-places : (p n x : ℕ) → p ≤ x → x ≤ p + n → T (f x) → x ∈ placesFrom f p n
+  in-places : (p n x : ℕ) → p ≤ x → x ≤ p + n → T (f x) → x ∈ placesFrom f p n
   in-places p zero x h l t = let e : x ≡ p = omega arith in go (f p) refl e
     where
       go : (b : Bool) → f p ≡ b → x ≡ p → x ∈ cond b (p ∷ []) []
@@ -80,11 +80,7 @@ module _ (f : ℕ → Bool) where
       go false e (inl k) ih = absurd (subst T e (subst (λ (y : ℕ). T (f y)) (sym k) t))
       go false e (inr k) ih = ih k
 
-  above : (p : ℕ) (ps : List ℕ) → ((x : ℕ) → x ∈ ps → p < x) → All (λ x. p < x) ps
-  above p [] h = tt
-  above p (x ∷ ps) h = (h x (inl refl), above p ps (λ y k. h y (inr k)))
-
-  pub places-rise : (p n : ℕ) → Rising (placesFrom f p n)
+  places-rise : (p n : ℕ) → Rising (placesFrom f p n)
   places-rise p zero = go (f p)
     where
       go : (b : Bool) → Rising (cond b (p ∷ []) [])
@@ -93,7 +89,7 @@ module _ (f : ℕ → Bool) where
   places-rise p (suc n) = go (f p) (places-rise (suc p) n)
     where
       go : (b : Bool) → Rising (placesFrom f (suc p) n) → Rising (cond b (p ∷ placesFrom f (suc p) n) (placesFrom f (suc p) n))
-      go true R = (above p (placesFrom f (suc p) n) (λ x h. places-in (suc p) n x h .0), R)
+      go true R = (all-of (λ x. p < x) (placesFrom f (suc p) n) (λ x h. places-in (suc p) n x h .0), R)
       go false R = R
 
 -- THE PLACES THAT PASS A TEST FOR ENDS ARE THE LIST OF ENDS

@@ -22,7 +22,7 @@ use Rattle.model.proofs.Words.Full.{Full}
 use Rattle.model.proofs.Words.ImageRun.{tree-carry, treeMasks}
 use Rattle.model.proofs.Words.Run.{Bytes, bytes-fed, bytes-take, end-words}
 
-abbrev pub isEnd : Tree → List ℕ → ℕ → Bool
+abbrev isEnd : Tree → List ℕ → ℕ → Bool
 isEnd t text p = bit (value (runWords (treeMasks (states t) (width (states t)) t) (depth t) (feed [] (take p text)))) (accepting t)
 
 abbrev pub treeEnds : Tree → List ℕ → List ℕ

@@ -15,7 +15,7 @@ use Rattle.model.proofs.Language.Stretches.{feed-app}
 use Rattle.model.proofs.Words.Full.{Full}
 
 -- a text stops with a stretch that the tree spells
-abbrev pub Stops : Seq → List ℕ → Type 0
+abbrev Stops : Seq → List ℕ → Type 0
 Stops s x = (a : List ℕ) × (v : List ℕ) × (x ≡ a ++ v) × Spells s v
 
 -- place p of a text is an end

@@ -100,7 +100,7 @@ tape-letters ws b i h k =
     ∙ class-of (λ b. bitOf (widthWord ws) (lettersIn ws) b (suc i)) (anyBelow 256 (λ b. bitOf (widthWord ws) (lettersIn ws) b (suc i))) _ _ _ _ _ b h refl
 
 -- SOUND: what was compared is all
-pub compared-laid : (ws : List ℕ) → Fit ws → Compared ws (tape ws) → ws ≡ laid (tape ws)
+compared-laid : (ws : List ℕ) → Fit ws → Compared ws (tape ws) → ws ≡ laid (tape ws)
 compared-laid ws fit C =
     rebuild ws (tokenLetters l) (tokenLoops l) (layOut l begin) (record {
       counted = C .counted;
@@ -176,7 +176,7 @@ module _ (l : List Token) where
   set-clear f x h (inl e) = ap (λ (y : ℕ). bit (value (set m W f)) y) e ∙ set-holds m W f (room m) .near .bits 0 (zero-lt-suc (length l)) ∙ h
   set-clear f x h (inr k) = set-holds m W f (room m) .none x k
 
-  pub laid-compared : Compared (laid l) l
+  laid-compared : Compared (laid l) l
   laid-compared = record {
     counted = record {
       long = length-assembled m W d L R B;

@@ -18,12 +18,12 @@ tokens-glue end t rest = refl
 tokens-glue (letter c r s) t rest = ap (λ (l : List Token). aLetter c r ∷ l) (tokens-glue s t rest)
 tokens-glue (union m a s) t rest = ap (λ (l : List Token). anOpen ∷ altsTokens a (shown m (altsEmpty a)) l) (tokens-glue s t rest)
 
-pub end-glue : (h t : Seq) (p : ℕ) → seqEnd (glue h t) p ≡ seqEnd t (seqEnd h p)
+end-glue : (h t : Seq) (p : ℕ) → seqEnd (glue h t) p ≡ seqEnd t (seqEnd h p)
 end-glue end t p = refl
 end-glue (letter c r s) t p = end-glue s t (suc p)
 end-glue (union m a s) t p = end-glue s t (suc (altsEnd a p))
 
-pub depth-glue : (h t : Seq) → depth (glue h t) ≡ max (depth h) (depth t)
+depth-glue : (h t : Seq) → depth (glue h t) ≡ max (depth h) (depth t)
 depth-glue end t = omega arith
 depth-glue (letter c r s) t = depth-glue s t
 depth-glue (union m a s) t = let e = depth-glue s t in omega arith
@@ -35,12 +35,12 @@ empty-glue (union m a s) t = ap (λ (b : Bool). unionEmpty m a && b) (empty-glue
 
 -- ---- a sequence takes as many states wherever it starts
 mutual
-  pub end-from : (s : Seq) (p : ℕ) → seqEnd s p ≡ p + accepting s
+  end-from : (s : Seq) (p : ℕ) → seqEnd s p ≡ p + accepting s
   end-from end p = omega arith
   end-from (letter c r s) p = omega (arith, end-from s (suc p), end-from s 1)
   end-from (union m a s) p = omega (arith, end-from s (suc (altsEnd a p)), end-from s (suc (altsEnd a 0)), alts-from a p)
 
-  pub alts-from : (a : Alts) (p : ℕ) → altsEnd a p ≡ p + altsEnd a 0
+  alts-from : (a : Alts) (p : ℕ) → altsEnd a p ≡ p + altsEnd a 0
   alts-from (last s) p = omega (arith, end-from s (suc p), end-from s 1)
   alts-from (more s a) p = omega (arith, end-from s (suc p), end-from s 1, alts-from a (seqEnd s (suc p)), alts-from a (seqEnd s 1))
 

@@ -24,13 +24,13 @@ use Rattle.model.proofs.Laws.Bits.{below-in, bit-zero}
 use Rattle.model.proofs.Laws.Bool.{is-not, is-true, unequal}
 use Rattle.model.proofs.Words.Holds.{Holds, set-holds}
 
-abbrev pub isLetter : Token → Bool
+abbrev isLetter : Token → Bool
 isLetter (aLetter c r) = true
 isLetter anOpen = false
 isLetter aBar = false
 isLetter (aClose m) = false
 
-abbrev pub isLooping : Token → Bool
+abbrev isLooping : Token → Bool
 isLooping (aLetter c r) = canLoop r
 isLooping anOpen = false
 isLooping aBar = false

@@ -121,7 +121,7 @@ module _ (m W d : ℕ) (L R : ℕ → ℕ → Bool) (B : Plane → ℕ → ℕ �
   propagate-found =
       past-section all gatherRows (propagateRows ++ after-propagate) (gatherAt W d) (3 * W * d) (length propagateRows) gather-found gathers-length
 
-  pub back-found : backIn all ≡ backRows
+  back-found : backIn all ≡ backRows
   back-found = past-section all propagateRows backRows (propagateAt W d) (3 * W * suc d) (length backRows) propagate-found propagates-length
 
   -- ---- and in it each part

@@ -16,7 +16,7 @@ use Rattle.model.proofs.Words.Full.{Full}
 
 module _ (s : Seq) (F : Full s) (w : List ℕ) where
   -- the states that a text leads to are those whose language has it
-  pub leads-to : (q : ℕ) → q ≤ seqEnd s 0 → LeadsTo (In (arcs s 0 0)) w q ↔ Texts s 0 Any q w
+  leads-to : (q : ℕ) → q ≤ seqEnd s 0 → LeadsTo (In (arcs s 0 0)) w q ↔ Texts s 0 Any q w
   leads-to q l = (
     leads-out (In (arcs s 0 0)) L (all-in (Carries L) (arcs s 0 0) (carried L s 0 0 Any (texts-table s 0 Any)))
         (λ v. to (start-of L s 0 Any (texts-table s 0 Any)) tt),

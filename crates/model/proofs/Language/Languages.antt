@@ -9,8 +9,9 @@ use native.Mathlib.Nat.{le-refl}
 use native.Mathlib.Omega.{arith}
 use lib.Dec.{T}
 use Rattle.model.specs.Bits.{bit}
+use Rattle.model.specs.Lists.{_∈_}
 use Rattle.model.specs.Tree.{Alts, canLoop, canOmit, canSkip, end, last, letter, Mark, more, once, option, optional, plus, Repeat, Seq, star, starred, union, unmarked}
-use Rattle.model.specs.Edges.{altsEmpty, altsEnd, seqEmpty, seqEnd, states, unionEmpty}
+use Rattle.model.specs.Edges.{altsEmpty, altsEnd, endsOf, seqEmpty, seqEnd, startsOf, states, unionEmpty, ways}
 use Rattle.model.specs.Ends.{AltsSpell, never, Repeated}
 use Rattle.model.proofs.Laws.Bool.{and-split, or-split}
 use Rattle.model.proofs.Laws.Trees.{NonEmpty}
@@ -83,6 +84,19 @@ mutual
   pub altsEnd-lt : (a : Alts) (p : ℕ) → p < altsEnd a p
   altsEnd-lt (last s) p = seqEnd-le s (suc p)
   altsEnd-lt (more s a) p = omega (arith, seqEnd-le s (suc p), altsEnd-lt a (seqEnd s (suc p)))
+
+-- the alternatives of a union start and end past its start, and at or below the last one's end
+pub starts-among : (a : Alts) (p x : ℕ) → x ∈ startsOf (ways a p) → (p < x) × (x ≤ altsEnd a p)
+starts-among (last s) p x (inl e) = omega (arith, seqEnd-le s (suc p))
+starts-among (last s) p x (inr h) = absurd h
+starts-among (more s a) p x (inl e) = omega (arith, seqEnd-le s (suc p), altsEnd-lt a (seqEnd s (suc p)))
+starts-among (more s a) p x (inr h) = omega (arith, seqEnd-le s (suc p), starts-among a (seqEnd s (suc p)) x h)
+
+pub ends-among : (a : Alts) (p x : ℕ) → x ∈ endsOf (ways a p) → (p < x) × (x ≤ altsEnd a p)
+ends-among (last s) p x (inl e) = omega (arith, seqEnd-le s (suc p))
+ends-among (last s) p x (inr h) = absurd h
+ends-among (more s a) p x (inl e) = omega (arith, seqEnd-le s (suc p), altsEnd-lt a (seqEnd s (suc p)))
+ends-among (more s a) p x (inr h) = omega (arith, seqEnd-le s (suc p), ends-among a (seqEnd s (suc p)) x h)
 
 -- a sequence with an item has at least two states
 pub two-states : (s : Seq) → NonEmpty s → 2 ≤ states s

@@ -45,13 +45,16 @@ module _ {A : Type 0} (Q : A → Type 0) where
   all-in (y ∷ xs) h x (inl p) = subst Q (sym p) (h .0)
   all-in (y ∷ xs) h x (inr i) = all-in xs (h .1) x i
 
+  pub all-of : (xs : List A) → ((x : A) → In xs x → Q x) → All Q xs
+  all-of [] h = tt
+  all-of (x ∷ xs) h = (h x (inl refl), all-of xs (λ y i. h y (inr i)))
+
 pub all-map : {A : Type 0} (Q R : A → Type 0) → ((x : A) → Q x → R x) → (xs : List A) → All Q xs → All R xs
 all-map Q R f [] h = tt
 all-map Q R f (x ∷ xs) h = (f x (h .0), all-map Q R f xs (h .1))
 
 pub in-all : {A : Type 0} (xs : List A) → All (In xs) xs
-in-all [] = tt
-in-all (x ∷ xs) = (inl refl, all-map (In xs) (In (x ∷ xs)) (λ e i. inr i) xs (in-all xs))
+in-all xs = all-of (In xs) xs (λ x i. i)
 
 -- ---- some
 module _ {A : Type 0} (p : A → Bool) where

@@ -11,12 +11,12 @@ use Rattle.model.specs.Lists.{_∈_, All}
 use Rattle.model.specs.Tree.{Alts, canReturn, end, last, letter, Mark, more, optional, Seq, starred, union, unmarked}
 use Rattle.model.specs.Edges.{altsEnd, endsOf, seqEnd, startsOf, ways}
 use Rattle.model.proofs.Language.Arcs.{altsArcs, Arc, arc, ArcKind, arcs, backArc, branch-whole, forkArc, letter-whole, letterArc, loopArc, propagateArc}
-use Rattle.model.proofs.Language.Languages.{altsEnd-lt, seqEnd-le}
+use Rattle.model.proofs.Language.Languages.{altsEnd-lt, ends-among, seqEnd-le, starts-among}
 use Rattle.model.proofs.Laws.Lists.{all-app, all-in, all-map, In}
 use Rattle.model.proofs.Words.Full.{Full, FullA, Single}
 
 -- ---- the states that an arc without a letter touches all have P, and it lies at depth n or deeper; a back edge falls
-abbrev pub TouchKind : (ℕ → Type 0) → ArcKind → ℕ → ℕ → Type 0
+abbrev TouchKind : (ℕ → Type 0) → ArcKind → ℕ → ℕ → Type 0
 TouchKind P (letterArc c) i j = Unit
 TouchKind P (loopArc c) i j = Unit
 TouchKind P propagateArc i j = P i × P j
@@ -43,18 +43,6 @@ Between a z x = (a ≤ x) × (x ≤ z)
 abbrev Outside : ℕ → ℕ → ℕ → Type 0
 Outside a z x = (x ≤ a) ⊎ (z ≤ x)
 
-starts-in : (a : Alts) (p x : ℕ) → x ∈ startsOf (ways a p) → (p < x) × (x ≤ altsEnd a p)
-starts-in (last s) p x (inl e) = omega (arith, seqEnd-le s (suc p))
-starts-in (last s) p x (inr h) = absurd h
-starts-in (more s a) p x (inl e) = omega (arith, seqEnd-le s (suc p), altsEnd-lt a (seqEnd s (suc p)))
-starts-in (more s a) p x (inr h) = omega (arith, seqEnd-le s (suc p), starts-in a (seqEnd s (suc p)) x h)
-
-ends-in : (a : Alts) (p x : ℕ) → x ∈ endsOf (ways a p) → (p < x) × (x ≤ altsEnd a p)
-ends-in (last s) p x (inl e) = omega (arith, seqEnd-le s (suc p))
-ends-in (last s) p x (inr h) = absurd h
-ends-in (more s a) p x (inl e) = omega (arith, seqEnd-le s (suc p), altsEnd-lt a (seqEnd s (suc p)))
-ends-in (more s a) p x (inr h) = omega (arith, seqEnd-le s (suc p), ends-in a (seqEnd s (suc p)) x h)
-
 -- a sequence keeps to its own states
 mutual
   pub touches : (s : Seq) (t k : ℕ) → All (Touch (Between t (seqEnd s t)) k) (arcs s t k)
@@ -76,7 +64,7 @@ mutual
       let b = altsEnd-lt a t in
       branch-whole (Touch P k) m a s t k (record {
         skips = λ x. (le-refl k, (omega arith, omega arith));
-        forks = (le-refl k, (omega arith, omega arith, λ x h. omega (arith, starts-in a t x h), λ x h. omega (arith, ends-in a t x h)));
+        forks = (le-refl k, (omega arith, omega arith, λ x h. omega (arith, starts-among a t x h), λ x h. omega (arith, ends-among a t x h)));
         returns = λ x. (le-refl k, (omega arith, omega arith, omega arith));
         alts = all-map (Touch (Between (suc t) (altsEnd a t)) (suc k)) (Touch P k)
             (touch-map (Between (suc t) (altsEnd a t)) P (suc k) k (omega arith) (λ x h. omega arith)) (altsArcs a t k) (touches-alts a t k);
@@ -168,13 +156,13 @@ apart-start (last s) p x (inl e) = inl (omega arith)
 apart-start (last s) p x (inr h) = absurd h
 apart-start (more s a) p x (inl e) = (inl (omega arith), apart-low a (seqEnd s (suc p)) x (omega (arith, seqEnd-le s (suc p))))
 apart-start (more s a) p x (inr h) =
-    let z = seqEnd s (suc p) in let b = starts-in a z x h in (inr (omega (arith, b)), apart-start a z x h)
+    let z = seqEnd s (suc p) in let b = starts-among a z x h in (inr (omega (arith, b)), apart-start a z x h)
 
 apart-end : (a : Alts) (p x : ℕ) → x ∈ endsOf (ways a p) → Apart a p x
 apart-end (last s) p x (inl e) = inr (omega arith)
 apart-end (last s) p x (inr h) = absurd h
 apart-end (more s a) p x (inl e) = (inr (omega arith), apart-low a (seqEnd s (suc p)) x (omega arith))
-apart-end (more s a) p x (inr h) = let z = seqEnd s (suc p) in let b = ends-in a z x h in (inr (omega (arith, b)), apart-end a z x h)
+apart-end (more s a) p x (inr h) = let z = seqEnd s (suc p) in let b = ends-among a z x h in (inr (omega (arith, b)), apart-end a z x h)
 
 -- ---- all arcs E of a tree, among them those of a sequence or of alternatives, and otherwise only such as keep out of them
 module _ (E : Arc → Type 0) where
@@ -269,7 +257,7 @@ module _ (E : Arc → Type 0) where
             skips = λ x. O (arc propagateArc k t u) (omega arith, (inl (omega (arith, altsEnd-lt a t)), inl (le-refl u)));
             forks = O (arc (forkArc (ways a t)) k t u) (
               omega arith,
-              (inl (omega (arith, altsEnd-lt a t)), inl (le-refl u), λ x h. inl (omega (arith, starts-in a t x h)), λ x h. inl (omega (arith, ends-in a t x h))),
+              (inl (omega (arith, altsEnd-lt a t)), inl (le-refl u), λ x h. inl (omega (arith, starts-among a t x h)), λ x h. inl (omega (arith, ends-among a t x h))),
             );
             returns = λ x. O (arc backArc k (altsEnd a t) (suc t)) (omega arith, (inl (omega arith), inl (omega (arith, altsEnd-lt a t)), altsEnd-lt a t));
             alts = all-map (Touch (Between (suc t) (altsEnd a t)) (suc k)) Q

@@ -94,7 +94,7 @@ module _ (s : Seq) where
     return-high k q r i = all-in (Touch (Between 0 (seqEnd s 0)) 0) (arcs s 0 0) (touches s 0 0) (arc backArc k q r) i .1 .0 .1
 
     -- every other edge is clear of a body
-    pub moves : (k q r x y : ℕ) → In-tree (arc backArc k q r) → AnyEdge Propagates Gathers Scatters x y → Moves r q x y
+    moves : (k q r x y : ℕ) → In-tree (arc backArc k q r) → AnyEdge Propagates Gathers Scatters x y → Moves r q x y
     moves k q r x y i (inl (j, e)) = clear k q r i .1 (arc propagateArc j x y) e
     moves k q r x y i (inr (inl (j, (xs, t, e, h)))) = clear k q r i .1 (arc (forkArc xs) j t y) e .1 x h
     moves k q r x y i (inr (inr (j, (xs, u, e, h)))) = clear k q r i .1 (arc (forkArc xs) j x u) e .0 y h

@@ -14,13 +14,13 @@ use Rattle.model.proofs.Reading.Answers.{Holds, opens-long, past-cases,
 use Rattle.model.proofs.Reading.Decides.{item-opens, seq-opens, sound-item, sound-seq}
 
 -- the bodies, over what they call
-abbrev pub altsBody : (List ℕ → Read Seq) → (List ℕ → Read Alts) → List ℕ → Read Alts
+abbrev altsBody : (List ℕ → Read Seq) → (List ℕ → Read Alts) → List ℕ → Read Alts
 altsBody S A l = bind (S l) (λ s r. case (past (byte "|") r) (λ x r′. bind (A r′) (λ a r″. got (more s a) r″)) (got (last s) r))
 
-abbrev pub seqBody : (List ℕ → Read Seq) → (List ℕ → Read Seq) → List ℕ → Read Seq
+abbrev seqBody : (List ℕ → Read Seq) → (List ℕ → Read Seq) → List ℕ → Read Seq
 seqBody I S l = bind (I l) (λ h r. cond (over r) (got h r) (bind (S r) (λ t r′. got (glue h t) r′)))
 
-abbrev pub itemBody : (List ℕ → Read Alts) → List ℕ → Read Seq
+abbrev itemBody : (List ℕ → Read Alts) → List ℕ → Read Seq
 itemBody A l =
     case (past (byte "(") l) (λ x r. bind (A r) (λ a r′. bind (past (byte ")") r′) (λ y r″. bind (readMark r″) (λ m r‴. got (grouped a m) r‴)))) (readPiece l)
 
@@ -77,10 +77,10 @@ settled : {A : Type 0} (f : ℕ → A) (m : ℕ) → ((n : ℕ) → m ≤ n → 
 settled f m h zero n e = let z : n ≡ m = omega arith in ap f z
 settled f m h (suc k) n e = let z : n ≡ suc (m + k) = omega arith in ap f z ∙ h (m + k) (omega arith) ∙ settled f m h k (m + k) refl
 
-pub enough-alts : (n : ℕ) (l : List ℕ) → 3 * length l + 3 ≤ n → readAlts n l ≡ alts l
+enough-alts : (n : ℕ) (l : List ℕ) → 3 * length l + 3 ≤ n → readAlts n l ≡ alts l
 enough-alts n l h = settled (λ k. readAlts k l) (3 * length l + 3) (λ k. more-alts k l) (n - (3 * length l + 3)) n (omega arith)
 
-pub enough-seq : (n : ℕ) (l : List ℕ) → 3 * length l + 2 ≤ n → readSeq n l ≡ seq l
+enough-seq : (n : ℕ) (l : List ℕ) → 3 * length l + 2 ≤ n → readSeq n l ≡ seq l
 enough-seq n l h = settled (λ k. readSeq k l) (3 * length l + 2) (λ k. more-seq k l) (n - (3 * length l + 2)) n (omega arith)
 
 -- THE THREE READERS, EACH BY ITS BODY

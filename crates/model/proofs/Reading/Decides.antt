@@ -32,7 +32,7 @@ sound-mark (x ∷ xs) =
     (equal-sound x (byte "+") (λ e. took (bytes "+") (ap (λ (y : ℕ). y ∷ xs) e) (some-number refl refl)) (took [] refl (nothing refl refl))))
 
 mutual
-  pub sound-alts : (n : ℕ) (l : List ℕ) → Sound IsAlts l (readAlts n l)
+  sound-alts : (n : ℕ) (l : List ℕ) → Sound IsAlts l (readAlts n l)
   sound-alts zero l = stopped
   sound-alts (suc n) l =
       bind-sound (sound-seq n l) (λ u s r e d.
@@ -57,7 +57,7 @@ mutual
       bind-sound (sound-mark r″) (λ v m r‴ f b. took (byte "(" ∷ (u ++ (byte ")" ∷ v))) (cc (append-assoc u (byte ")" ∷ v) r‴)) (group refl refl d b)))))
       (sound-piece l)
 
-pub sound-rule : (w : List ℕ) (s : Seq) → readRule w ≡ some s → IsRule w s
+sound-rule : (w : List ℕ) (s : Seq) → readRule w ≡ some s → IsRule w s
 sound-rule w s e = go (readAlts (3 * length w + 3) w) (sound-alts (3 * length w + 3) w) e
   where
     go : (m : Read Alts) → Sound IsAlts w m → whole m ≡ some s → IsRule w s
@@ -88,7 +88,7 @@ complete-mark (any-number p q) r c = rw (p, q)
 complete-mark (some-number p q) r c = rw (p, q)
 
 mutual
-  pub complete-alts : {w : List ℕ} {a : Alts} → IsAlts w a → (n : ℕ) (r : List ℕ) → T (closes r) → 3 * length (w ++ r) + 3 ≤ n → readAlts n (w ++ r) ≡ got a r
+  complete-alts : {w : List ℕ} {a : Alts} → IsAlts w a → (n : ℕ) (r : List ℕ) → T (closes r) → 3 * length (w ++ r) + 3 ≤ n → readAlts n (w ++ r) ≡ got a r
   complete-alts (only d) zero r c k = absurd (omega arith)
   complete-alts (only d) (suc n) r c k = rw (complete-seq d n r (closes-over r c) (omega arith), closes-past r c)
   complete-alts (also p d b) zero r c k = absurd (omega arith)
@@ -97,7 +97,7 @@ mutual
       let size = ap length e in
       rw (e, complete-seq d n (byte "|" ∷ (v ++ r)) tt (omega arith), complete-alts b n r c (omega (arith, length-append u (byte "|" ∷ (v ++ r)))))
 
-  pub complete-seq : {w : List ℕ} {s : Seq} → IsSeq w s → (n : ℕ) (r : List ℕ) → T (over r) → 3 * length (w ++ r) + 2 ≤ n → readSeq n (w ++ r) ≡ got s r
+  complete-seq : {w : List ℕ} {s : Seq} → IsSeq w s → (n : ℕ) (r : List ℕ) → T (over r) → 3 * length (w ++ r) + 2 ≤ n → readSeq n (w ++ r) ≡ got s r
   complete-seq (item d) zero r c k = absurd (omega arith)
   complete-seq (item d) (suc n) r c k = rw (complete-item d n r (over-free r c) (omega arith), is-true (over r) c)
   complete-seq (then p q d b) zero r c k = absurd (omega arith)
@@ -113,7 +113,7 @@ mutual
         q,
       )
 
-  pub complete-item : {w : List ℕ} {s : Seq} → IsItem w s → (n : ℕ) (r : List ℕ) → T (free r) → 3 * length (w ++ r) + 1 ≤ n → readItem n (w ++ r) ≡ got s r
+  complete-item : {w : List ℕ} {s : Seq} → IsItem w s → (n : ℕ) (r : List ℕ) → T (free r) → 3 * length (w ++ r) + 1 ≤ n → readItem n (w ++ r) ≡ got s r
   complete-item (lone p q d b) zero r c k = absurd (omega arith)
   complete-item (lone {w} {u} {v} p q d b) (suc n) r c k =
       rw (parted w u v r p, begins-past (u ++ (v ++ r)) (begins-append u (v ++ r) (letter-begins d)), complete-letter d (v ++ r), complete-sign b r c, q)
@@ -122,7 +122,7 @@ mutual
       let e = parted w (byte "(" ∷ u) (byte ")" ∷ v) r p in
       rw (e, complete-alts d n (byte ")" ∷ (v ++ r)) tt (omega (arith, ap length e)), complete-mark b r c, q)
 
-pub complete-rule : {w : List ℕ} {s : Seq} → IsRule w s → readRule w ≡ some s
+complete-rule : {w : List ℕ} {s : Seq} → IsRule w s → readRule w ≡ some s
 complete-rule (rule {w} p d) =
     let e = complete-alts d (3 * length w + 3) [] tt (omega (arith, length-append w [])) in
     rw p (ap whole (rw append-nil at e))

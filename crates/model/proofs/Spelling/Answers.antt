@@ -26,7 +26,7 @@ abbrev checkOf : Option Tree → (text : List ℕ) (start end : ℕ) (states : L
 checkOf none text start end states = refusal false 6 tt
 checkOf (some t) text start end states = cond (leb (length text) 65535) (says (isSpelled t text start end states)) (refusal false 7 tt)
 
-abbrev pub checkAnswer : (words text : List ℕ) (start end : ℕ) (states : List ℕ) → Judgement
+abbrev checkAnswer : (words text : List ℕ) (start end : ℕ) (states : List ℕ) → Judgement
 checkAnswer words = checkOf (verdict words)
 
 module _ (words text : List ℕ) (start end : ℕ) (states : List ℕ) where
@@ -42,7 +42,7 @@ module _ (words text : List ℕ) (start end : ℕ) (states : List ℕ) where
   gets-no : (t : Tree) → Full t → (Spelled t text start end states → ⊥) → isSpelled t text start end states ≡ false
   gets-no t F f = is-not (isSpelled t text start end states) (λ h. f (spelled-is t F text start end states .0 h))
 
-  pub check-is : (a : Judgement) → Checks a → a ≡ checkAnswer words text start end states
+  check-is : (a : Judgement) → Checks a → a ≡ checkAnswer words text start end states
   check-is a (not-an-image f e) = e ∙ sym (on-other checks f)
   check-is a (text-too-long t I l e) = e ∙ sym (on-image checks I ∙ rw (le-false (length text) 65535 l))
   check-is a (right t I l s e) = e ∙ sym (on-image checks I ∙ rw (le-true (length text) 65535 l, gets-yes t (rule-full t (I .is-rule)) s))
@@ -84,7 +84,7 @@ abbrev proposeOf : Option Tree → (text : List ℕ) (end : ℕ) (before : List 
 proposeOf none text end before = proposes-none 6 before
 proposeOf (some t) text end before = cond (leb (length text) 65535) (proposeAt (latest t text end) end before) (proposes-none 7 before)
 
-abbrev pub proposeAnswer : (words text : List ℕ) (end : ℕ) (before : List ℕ) → Proposal
+abbrev proposeAnswer : (words text : List ℕ) (end : ℕ) (before : List ℕ) → Proposal
 proposeAnswer words = proposeOf (verdict words)
 
 module _ (words text : List ℕ) (end : ℕ) (before : List ℕ) where
@@ -97,7 +97,7 @@ module _ (words text : List ℕ) (end : ℕ) (before : List ℕ) where
   from : (t : Tree) → ImageOf words t → length text ≤ 65535 → {o : Option ℕ} → latest t text end ≡ o → proposeAnswer words text end before ≡ proposeAt o end before
   from t I l e = on-image answer I ∙ rw (le-true (length text) 65535 l, e)
 
-  pub propose-is : (a : Proposal) → Proposes a → settled a ≡ proposeAnswer words text end before
+  propose-is : (a : Proposal) → Proposes a → settled a ≡ proposeAnswer words text end before
   propose-is a (not-an-image n e) = ap settled e ∙ sym (on-other answer n)
   propose-is a (text-too-long t I l e) = ap settled e ∙ sym (on-image answer I ∙ rw (le-false (length text) 65535 l))
   propose-is a (no-end t I l f e) =

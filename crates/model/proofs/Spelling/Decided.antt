@@ -199,7 +199,7 @@ module _ (t : Tree) (F : Full t) where
       )
 
 -- ---- THE LATEST START IS ONE
-pub latest-one : (t : Tree) (text : List ℕ) (i j stop : ℕ) → Latest t text i stop → Latest t text j stop → i ≡ j
+latest-one : (t : Tree) (text : List ℕ) (i j stop : ℕ) → Latest t text i stop → Latest t text j stop → i ≡ j
 latest-one t text i j stop L M = omega (arith, L .none-later j (M .some .0) (M .some .1), M .none-later i (L .some .0) (L .some .1))
 
 module _ (t : Tree) (text : List ℕ) (stop : ℕ) where

@@ -48,7 +48,7 @@ module _ (t : Tree) where
   led-after (b ∷ u) w D c d l = led-after u w (After t b D) (λ x y a e. onward a e) (itself (inl refl)) l
 
   -- the accepting state is live exactly if the last bytes lead to it from 0
-  pub live-leads : (w : List ℕ) → Live t w (accepting t) ↔ ((u : List ℕ) × (v : List ℕ) × (w ≡ u ++ v) × Leads t v 0)
+  live-leads : (w : List ℕ) → Live t w (accepting t) ↔ ((u : List ℕ) × (v : List ℕ) × (w ≡ u ++ v) × Leads t v 0)
   live-leads w = (λ h. go (began w (Before t) h), λ (u, v, e, l). subst (λ (x : List ℕ). Live t x (accepting t)) (sym e) (led-after u v (Before t) (λ x y a e. onward a e) (itself refl) l))
     where
       go : Began (Before t) w → (u : List ℕ) × (v : List ℕ) × (w ≡ u ++ v) × Leads t v 0

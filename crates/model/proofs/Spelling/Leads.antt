@@ -20,7 +20,7 @@ origin (itself {q} h) = (q, h, itself refl)
 origin (onward h e) = let r = origin h in (r .0, r .1, onward (r .2) e)
 
 -- and from what reaches that state
-pub joined : {R : ℕ → ℕ → Type 0} {D : ℕ → Type 0} {p q : ℕ} → Reached R D p → Reached R (λ y. y ≡ p) q → Reached R D q
+joined : {R : ℕ → ℕ → Type 0} {D : ℕ → Type 0} {p q : ℕ} → Reached R D p → Reached R (λ y. y ≡ p) q → Reached R D q
 joined {R} {D} h (itself e) = subst (Reached R D) (sym e) h
 joined h (onward k e) = onward (joined h k) e
 

@@ -25,7 +25,7 @@ module _ (t : Tree) (F : Full t) (b : ℕ) where
   P = loopSet (arcs t 0 0) b
 
   -- the edges that take the byte, by the two sets
-  pub takes-sets : (q x : ℕ) → Takes t b q (suc x) ↔ (((q ≡ x) × T (L (suc x))) ⊎ ((q ≡ suc x) × T (P (suc x))))
+  takes-sets : (q x : ℕ) → Takes t b q (suc x) ↔ (((q ≡ x) × T (L (suc x))) ⊎ ((q ≡ suc x) × T (P (suc x))))
   takes-sets q x = (there, back)
     where
       D : ℕ → Bool

@@ -168,7 +168,7 @@ module _ (t : Tree) where
   goes-text w (byte {b} {q} {p} e i m g) l = goes-text (b ∷ w) g (carries e i .byte b q p m w l)
 
   -- THE THEOREM: the bytes that lead from 0 to the accepting state are those that the rule spells
-  pub leads-spells : Full t → (v : List ℕ) → Leads t v 0 ↔ Spells t v
+  leads-spells : Full t → (v : List ℕ) → Leads t v 0 ↔ Spells t v
   leads-spells F v = (there, λ h. goes-leads (spells-goes (In (arcs t 0 0)) t 0 0 F (in-all (arcs t 0 0)) v h) refl)
     where
       there : Leads t v 0 → Spells t v

@@ -43,25 +43,25 @@ firstOf t = closeWords (own t) (depth t) (own t .startMask)
 abbrev zeroOf : Tree → List ℕ
 zeroOf t = noted (bit (value (firstOf t)) (accepting t)) 0
 
-abbrev pub beginOf : Option Tree → (mask : List ℕ) (place : ℕ) (ends : List ℕ) → Watched
+abbrev beginOf : Option Tree → (mask : List ℕ) (place : ℕ) (ends : List ℕ) → Watched
 beginOf none mask place ends = stays 6 mask place ends
 beginOf (some t) mask place ends = cond (eqb (length mask) (width (states t))) (goes-on (firstOf t) 0 (zeroOf t) ends) (stays 9 mask place ends)
 
-abbrev pub beginAnswer : (words mask : List ℕ) (place : ℕ) (ends : List ℕ) → Watched
+abbrev beginAnswer : (words mask : List ℕ) (place : ℕ) (ends : List ℕ) → Watched
 beginAnswer words = beginOf (verdict words)
 
 abbrev runOf : Tree → (mask : List ℕ) (place : ℕ) (stretch ends : List ℕ) → Watched
 runOf t mask place stretch ends =
     goes-on (runFrom (own t) (depth t) mask stretch) (place + length stretch) (endsAfter (own t) (depth t) (accepting t) place mask stretch) ends
 
-abbrev pub stepOf : Option Tree → (mask : List ℕ) (place : ℕ) (stretch ends : List ℕ) → Watched
+abbrev stepOf : Option Tree → (mask : List ℕ) (place : ℕ) (stretch ends : List ℕ) → Watched
 stepOf none mask place stretch ends = stays 6 mask place ends
 stepOf (some t) mask place stretch ends =
     cond (leb (length stretch) 65535)
     (cond (isMask (states t) mask) (cond (leb (place + length stretch) 4294967295) (runOf t mask place stretch ends) (stays 10 mask place ends)) (stays 9 mask place ends))
     (stays 7 mask place ends)
 
-abbrev pub stepAnswer : (words mask : List ℕ) (place : ℕ) (stretch ends : List ℕ) → Watched
+abbrev stepAnswer : (words mask : List ℕ) (place : ℕ) (stretch ends : List ℕ) → Watched
 stepAnswer words = stepOf (verdict words)
 
 -- ---- the masks of a tree hold its sets
@@ -86,7 +86,7 @@ module _ (words mask : List ℕ) (place : ℕ) (ends : List ℕ) where
     zero-end : EndsAre t [] (zeroOf t)
     zero-end = first-ends t (rule-full t (I .is-rule)) (width (states t)) (own t) (carry t) (I .is-rule)
 
-  pub begin-is : (a : Watched) → Begins a → a ≡ beginAnswer words mask place ends
+  begin-is : (a : Watched) → Begins a → a ≡ beginAnswer words mask place ends
   begin-is a (not-an-image n e) = e ∙ sym (on-other begins n)
   begin-is a (not-a-mask t I f e) = e ∙ sym (on-image begins I ∙ rw (unequal (length mask) (width (states t)) f))
   begin-is a (begun t first found I l A E e) =
@@ -129,7 +129,7 @@ module _ (words mask : List ℕ) (place : ℕ) (stretch ends : List ℕ) (F : Fi
     ends-after : EndsIn t (In mask) place stretch (endsAfter (own t) (depth t) (accepting t) place mask stretch)
     ends-after = stretch-ends t (rule-full t (I .is-rule)) (width (states t)) (own t) (carry t) mask refl F M stretch B place
 
-  pub step-is : (a : Watched) → Steps a → a ≡ stepAnswer words mask place stretch ends
+  step-is : (a : Watched) → Steps a → a ≡ stepAnswer words mask place stretch ends
   step-is a (not-an-image n e) = e ∙ sym (on-other steps n)
   step-is a (stretch-too-long t I l e) = e ∙ sym (on-image steps I ∙ rw (le-false (length stretch) 65535 l))
   step-is a (not-a-mask t I l f e) = e ∙ sym (on-image steps I ∙ rw (le-true (length stretch) 65535 l, not-masked t f))

@@ -58,7 +58,7 @@ module _ (words : List ℕ) (t : Tree) (I : ImageOf words t) where
     pub place : lastOf a cs .lent .place ≡ a .lent .place + length (textOf cs)
 
   -- from a mask with the states of D, all of them below m
-  pub calls-went : (D : ℕ → Type 0) → ((q : ℕ) → D q → q < states t) → (a : Watched) (cs : List Call) → MaskOf (states t) D (a .lent .mask)
+  calls-went : (D : ℕ → Type 0) → ((q : ℕ) → D q → q < states t) → (a : Watched) (cs : List Call) → MaskOf (states t) D (a .lent .mask)
       → Calls words (a .lent .mask) (a .lent .place) cs → All Fair cs → a .lent .place + length (textOf cs) ≤ 4294967295 → Went D a cs
   calls-went D below a [] M S F l = record { numbers = tt; ends = ends-none t D (a .lent .place); mask = M; place = sym (add-zero (a .lent .place)) }
   calls-went D below a (c ∷ cs) M S F l =

@@ -12,26 +12,22 @@ use lib.Seq.{take-append-add, take-append-le}
 use Rattle.model.specs.Edges.{accepting}
 use Rattle.model.specs.Ends.{End, EndsAre, Rising}
 use Rattle.model.specs.Grammar.{IsRule}
-use Rattle.model.specs.Lists.{_∈_, All}
+use Rattle.model.specs.Lists.{_∈_}
 use Rattle.model.specs.Live.{After, Before, Live, LiveFrom}
 use Rattle.model.specs.Models.Run.{noted}
 use Rattle.model.specs.Tree.{Tree}
 use Rattle.model.proofs.Definitions.Ends.{end-live}
 use Rattle.model.proofs.Definitions.EndsList.{rising-one}
 use Rattle.model.proofs.Laws.Bool.{le-or-lt}
-use Rattle.model.proofs.Laws.Lists.{all-app, in-split, later, sooner}
+use Rattle.model.proofs.Laws.Lists.{all-app, all-of, in-split, later, sooner}
 use Rattle.model.specs.Watch.{EndIn, EndsIn}
 use Rattle.model.proofs.Watch.Live.{live-app, live-as}
 
 -- ---- lists that rise, one after another
-above : (p : ℕ) (qs : List ℕ) → ((q : ℕ) → q ∈ qs → p < q) → All (λ q. p < q) qs
-above p [] h = tt
-above p (q ∷ qs) h = (h q (inl refl), above p qs (λ x k. h x (inr k)))
-
 rising-app : (ps qs : List ℕ) → Rising ps → Rising qs → ((p q : ℕ) → p ∈ ps → q ∈ qs → p < q) → Rising (ps ++ qs)
 rising-app [] qs P Q h = Q
 rising-app (p ∷ ps) qs P Q h =
-    (all-app (λ q. p < q) ps qs (P .0) (above p qs (λ q k. h p q (inl refl) k)), rising-app ps qs (P .1) Q (λ x q k l. h x q (inr k) l))
+    (all-app (λ q. p < q) ps qs (P .0) (all-of (λ q. p < q) qs (λ q k. h p q (inl refl) k)), rising-app ps qs (P .1) Q (λ x q k l. h x q (inr k) l))
 
 -- ONE LIST OF ENDS
 pub ends-in-one : {t : Tree} {D : ℕ → Type 0} {place : ℕ} {stretch ps qs : List ℕ} → EndsIn t D place stretch ps → EndsIn t D place stretch qs → ps ≡ qs

@@ -11,6 +11,10 @@ use Rattle.model.specs.Bits.{bit, digit, mask}
 use Rattle.model.proofs.Laws.Bits.{bit-zero}
 use Rattle.model.proofs.Words.Ripple.{digit-small, last-digit, odd, odd-is}
 
+-- a word and the words above it, as lib.Bits has the two parts of a number
+pub swap : (a n : ℕ) → a + 2 ^ 64 * n ≡ n * 2 ^ 64 + a
+swap a n = omega arith
+
 -- ---- no bit of a number stands at or above its size
 pub bit-high : (m n x : ℕ) → n < 2 ^ m → m ≤ x → bit n x ≡ false
 bit-high zero n x h l = (let e : n ≡ 0 = omega arith in ap (λ (k : ℕ). bit k x) e) ∙ bit-zero x

@@ -1,6 +1,6 @@
 -- A ROW OF WORDS HOLDS A SET: its bits below m are those of the set, and no bit stands at or above m. The words of a mask hold their set, and so do
 -- they with words of zeros after them.
-use mathlib.Core.Path.{_≡_, refl, ap, ap₂, _∙_}
+use mathlib.Core.Path.{_≡_, refl, ap, ap₂, _∙_, subst}
 use mathlib.Core.Bool.{Bool, false}
 use mathlib.Core.List.{List, [], _∷_, _++_}
 use Prim.Native.Nat.{ℕ, zero, suc, _+_, _*_, _/_, _^_, _≤_, _<_}
@@ -39,6 +39,9 @@ width-is (x ∷ xs) = ap (λ (n : ℕ). 64 + n) (width-is xs)
 pub val-lt : (xs : List ℕ) → Fit xs → value xs < 2 ^ bitsOf xs
 val-lt [] h = le-refl 1
 val-lt (x ∷ xs) h = let k = val-lt xs (h .1) in omega (arith, pow-add 2 64 (bitsOf xs))
+
+pub val-below : (W : ℕ) (xs : List ℕ) → length xs ≡ W → Fit xs → value xs < 2 ^ wide W
+val-below W xs e h = subst (λ (k : ℕ). value xs < 2 ^ k) (width-is xs ∙ ap wide e) (val-lt xs h)
 
 -- W words have room for m bits
 pub near-room : (m W : ℕ) (xs : List ℕ) → m ≤ wide W → length xs ≡ W → m ≤ bitsOf xs

@@ -21,22 +21,22 @@ use Rattle.model.proofs.Words.Holds.{Holds, set-holds}
 use Rattle.model.proofs.Words.Run.{Carry}
 
 -- ---- a tree's three sets of a depth for scatter, gather and propagate: block (0), source (1) and target (2)
-abbrev pub scatterSets : Seq → ℕ → ℕ → ℕ → Bool
+abbrev scatterSets : Seq → ℕ → ℕ → ℕ → Bool
 scatterSets s k zero = treeSet s scatter-block k
 scatterSets s k (suc zero) = treeSet s scatter-source k
 scatterSets s k (suc (suc j)) = treeSet s scatter-target k
 
-abbrev pub gatherSets : Seq → ℕ → ℕ → ℕ → Bool
+abbrev gatherSets : Seq → ℕ → ℕ → ℕ → Bool
 gatherSets s k zero = treeSet s gather-block k
 gatherSets s k (suc zero) = treeSet s gather-source k
 gatherSets s k (suc (suc j)) = treeSet s gather-target k
 
-abbrev pub propagateSets : Seq → ℕ → ℕ → ℕ → Bool
+abbrev propagateSets : Seq → ℕ → ℕ → ℕ → Bool
 propagateSets s k zero = blockOf (treeSet s) k
 propagateSets s k (suc zero) = sourceOf (treeSet s) k
 propagateSets s k (suc (suc j)) = targetOf (treeSet s) k
 
-abbrev pub backSets : Seq → ℕ → ℕ → ℕ → Bool
+abbrev backSets : Seq → ℕ → ℕ → ℕ → Bool
 backSets s k zero = treeSet s back-source k
 backSets s k (suc j) = treeSet s back-target k
 
@@ -73,7 +73,7 @@ tree-carry m W s r l = record {
 }
 
 -- ---- the masks as they stand in the words of an image
-abbrev pub imageMasks : List ℕ → Masks
+abbrev imageMasks : List ℕ → Masks
 imageMasks ws =
     let W = widthWord ws in
     record {

@@ -11,7 +11,7 @@ use lib.Pow.{pow-add, pow-pos}
 use Rattle.model.specs.Bits.{bit}
 use Rattle.model.specs.Models.Words.{addWords, andWords, bitsOf, eachWord, Fit, notWords, orWords, shiftWords, subtractWords, value, xorWords}
 use Rattle.model.proofs.Image.Rows.{wide}
-use Rattle.model.proofs.Words.Bits.{bit-and, bit-not, bit-or, bit-xor, odd2}
+use Rattle.model.proofs.Words.Bits.{bit-and, bit-not, bit-or, bit-xor, odd2, swap}
 use Rattle.model.proofs.Words.Holds.{Holds, Near, near-room, None, val-lt}
 use Rattle.model.proofs.Words.Ripple.{carry, differenceBits, into, odd3, sumBits}
 use Rattle.model.proofs.Words.Sums.{add-fit, add-is, Adds, adds-length, difference-bits, shift-fit, shift-is, subtract-fit, subtract-is, Subtracts, sum-bits}
@@ -54,9 +54,6 @@ module _ (op : ℕ → ℕ → ℕ) (g : Bool → Bool → Bool) (nil : op 0 0 �
       ap (λ (n : ℕ). op x y + 2 ^ 64 * n) (each-value xs ys (omega arith) (h .1) (k .1))
       ∙ swap (op x y) (op (value xs) (value ys)) ∙ sym (block 64 (value xs) (value ys) x y (h .0) (k .0))
       ∙ ap₂ op (sym (swap x (value xs))) (sym (swap y (value ys)))
-    where
-      swap : (a n : ℕ) → a + 2 ^ 64 * n ≡ n * 2 ^ 64 + a
-      swap a n = omega arith
 
   module _ (m W : ℕ) (xs ys : List ℕ) (f h : ℕ → Bool) (X : Near m W xs f) (Y : Near m W ys h) where
     same-length : length xs ≡ length ys
@@ -134,14 +131,14 @@ module _ {m W : ℕ} (r : m ≤ wide W) where
 
   module _ {xs ys : List ℕ} {f h : ℕ → Bool} (X : Near m W xs f) (Y : Near m W ys h) where
     -- ---- sums and differences, however their carries and borrows were found
-    pub near-add-of : (zs : List ℕ) (c : Bool) → Fit zs → Adds xs ys zs false c → Near m W zs (sumBits f h)
+    near-add-of : (zs : List ℕ) (c : Bool) → Fit zs → Adds xs ys zs false c → Near m W zs (sumBits f h)
     near-add-of zs c k R = record {
       len = sym (adds-length xs ys zs false c R) ∙ X .len;
       fit = k;
       bits = sum-bits m f h xs ys zs c (X .bits) (Y .bits) R (near-room m W xs r (X .len));
     }
 
-    pub near-sub-of : (zs : List ℕ) (c : Bool) → Fit zs → Subtracts xs ys zs false c → Near m W zs (differenceBits f h)
+    near-sub-of : (zs : List ℕ) (c : Bool) → Fit zs → Subtracts xs ys zs false c → Near m W zs (differenceBits f h)
     near-sub-of zs c k R =
         let l = adds-length zs ys xs false c R ∙ X .len in
         record { len = l; fit = k; bits = difference-bits m f h xs ys zs c (X .bits) (Y .bits) R (near-room m W zs r l) }

@@ -13,7 +13,7 @@ use lib.Seq.{set-out}
 use Rattle.model.specs.Bits.{bit}
 use Rattle.model.specs.Models.Words.{Fit, putBit, value}
 use Rattle.model.proofs.Laws.Bits.{bit-zero}
-use Rattle.model.proofs.Words.Bits.{bit-or}
+use Rattle.model.proofs.Words.Bits.{bit-or, swap}
 
 -- the word that bit i stands in, with that bit
 abbrev newWord : List ℕ → ℕ → ℕ
@@ -26,9 +26,6 @@ pub put-past : (ws : List ℕ) (i : ℕ) → 64 * length ws ≤ i → putBit ws 
 put-past ws i h = set-out ws (i / 64) (newWord ws i) (omega arith)
 
 -- ---- the number that the words make
-swap : (a n : ℕ) → a + 2 ^ 64 * n ≡ n * 2 ^ 64 + a
-swap a n = omega arith
-
 value-set : (ws : List ℕ) (i r : ℕ) → i < length ws → r < 64 → Fit ws
     → value (set ws i (bitOr (getD ws i 0) (2 ^ r))) ≡ bitOr (value ws) (2 ^ (64 * i + r))
 value-set [] i r h l f = absurd (not-suc-le-zero h)

@@ -76,7 +76,7 @@ module _ (f : Bool → Bool → Bool → Bool) where
   into-shift X Y c (suc i) = ap (f (X (suc i)) (Y (suc i))) (into-shift X Y c i)
 
   -- the bits that come out, from nothing into bit 0
-  abbrev pub rippled : (ℕ → Bool) → (ℕ → Bool) → ℕ → Bool
+  abbrev rippled : (ℕ → Bool) → (ℕ → Bool) → ℕ → Bool
   rippled X Y i = odd3 (X i) (Y i) (into X Y false i)
 
   -- they depend on the bits from there down

@@ -36,7 +36,7 @@ module _ (s : Seq) where
   abbrev pub returnTarget : ℕ → ℕ → Bool
   returnTarget k x = any (on back-target k x) es
 
-  pub source-out : (k x : ℕ) → T (returnSource k x) → (j : ℕ) × In es (arc backArc k x j)
+  source-out : (k x : ℕ) → T (returnSource k x) → (j : ℕ) × In es (arc backArc k x j)
   source-out k x t = let o = any-out (on back-source k x) es t in go (o .0) (o .0 .kind) (λ i. o .0 .kind) (o .1) (o .2)
     where
       go : (e : Arc) (w : ArcKind) → e .kind ≡ w → In es e → T (onKind back-source x w (e .from) (e .to) && eqb (e .level) k) → (j : ℕ) × In es (arc backArc k x j)
@@ -66,7 +66,7 @@ module _ (s : Seq) where
       pub source-in : T (returnSource k q)
       source-in = any-in (on back-source k q) es (arc backArc k q r) i (and-both (eqb q q) (eqb k k) (eqb-refl q) (eqb-refl k))
 
-      pub target-in : T (returnTarget k r)
+      target-in : T (returnTarget k r)
       target-in = any-in (on back-target k r) es (arc backArc k q r) i (and-both (eqb r r) (eqb k k) (eqb-refl r) (eqb-refl k))
 
       pub source-first : Clear (returnSource k) r q

@@ -134,7 +134,7 @@ module _ (m W : ℕ) (s : Seq) (F : Full s) (M : Masks) (C : Carry m W s M) wher
       fall-words n (suc k) (omega arith) (propagateBy M (suc k) S) (propagated s F (suc k) g)
       (propagate-is S g (scatter-is D f H k (omega arith)) (suc k) (omega arith))
 
-  pub passes-words : (D : List ℕ) (f : ℕ → Bool) → Holds m W D f → Holds m W (passWords M (depth s) D) (passed s F (depth s) f)
+  passes-words : (D : List ℕ) (f : ℕ → Bool) → Holds m W D f → Holds m W (passWords M (depth s) D) (passed s F (depth s) f)
   passes-words D f H = let d = depth s in fall-words d 0 (omega arith) (riseWords M d D) (risen s F d f) (rise-words d (le-refl d) D f H)
 
   returns-words : (n : ℕ) → n ≤ depth s → (E D : List ℕ) (g f : ℕ → Bool) → Holds m W E g → Holds m W D f
@@ -174,7 +174,7 @@ module _ (m W : ℕ) (s : Seq) (F : Full s) (M : Masks) (C : Carry m W s M) wher
   step-words b l D f H = rounds-words (moveBy M b D) (moved es b f) (move-is D f H b l)
 
   -- THE RUN over the bytes read so far
-  pub run-words : (w : List ℕ) → Bytes w → Holds m W (runWords M (depth s) w) (liveSet s F w)
+  run-words : (w : List ℕ) → Bytes w → Holds m W (runWords M (depth s) w) (liveSet s F w)
   run-words [] h = rounds-words (M .startMask) startSet (C .start)
   run-words (b ∷ w) h = step-words b (h .0) (runWords M (depth s) w) (liveSet s F w) (run-words w (h .1))
 

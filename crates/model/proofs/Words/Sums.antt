@@ -64,14 +64,14 @@ module _ (m : ℕ) (X Y : ℕ → Bool) (xs ys zs : List ℕ) (c : Bool)
       ∙ rippled-same borrow (bit (value xs)) (bit (value ys)) X Y m hX hY i k
 
 -- ---- one word as the machine makes it: p and q are the two comparisons that find the carry or the borrow
-pub word-add : (x y s z : ℕ) (b p q : Bool) → x < 2 ^ 64 → y < 2 ^ 64 → s ≡ (x + y) % 2 ^ 64 → z ≡ (s + digit b) % 2 ^ 64
+word-add : (x y s z : ℕ) (b p q : Bool) → x < 2 ^ 64 → y < 2 ^ 64 → s ≡ (x + y) % 2 ^ 64 → z ≡ (s + digit b) % 2 ^ 64
     → (T p → s < x) → (T (not p) → x ≤ s) → (T q → z < digit b) → (T (not q) → digit b ≤ z) → z + digit (p || q) * 2 ^ 64 ≡ x + y + digit b
 word-add x y s z b true true hx hy hs hz f g h i = absurd (omega (arith, f tt, h tt, digit-small b))
 word-add x y s z b true false hx hy hs hz f g h i = omega (arith, f tt, i tt, digit-small b)
 word-add x y s z b false true hx hy hs hz f g h i = omega (arith, g tt, h tt, digit-small b)
 word-add x y s z b false false hx hy hs hz f g h i = omega (arith, g tt, i tt, digit-small b)
 
-pub word-sub : (x y s z : ℕ) (b p q : Bool) → x < 2 ^ 64 → y < 2 ^ 64 → s < 2 ^ 64 → z < 2 ^ 64 → (s + y) % 2 ^ 64 ≡ x → (z + digit b) % 2 ^ 64 ≡ s
+word-sub : (x y s z : ℕ) (b p q : Bool) → x < 2 ^ 64 → y < 2 ^ 64 → s < 2 ^ 64 → z < 2 ^ 64 → (s + y) % 2 ^ 64 ≡ x → (z + digit b) % 2 ^ 64 ≡ s
     → (T p → x < y) → (T (not p) → y ≤ x) → (T q → s < digit b) → (T (not q) → digit b ≤ s) → x + digit (p || q) * 2 ^ 64 ≡ z + y + digit b
 word-sub x y s z b true true hx hy ls lz hs hz f g h i = absurd (omega (arith, f tt, h tt, digit-small b))
 word-sub x y s z b true false hx hy ls lz hs hz f g h i = omega (arith, f tt, i tt, digit-small b)

@@ -7,25 +7,19 @@ use lib.ListN.{length, length-append}
 use Rattle.model.specs.Answers.{Counted, ImageOf, no-room, not-an-image, ReadBackSays, written}
 use Rattle.model.specs.Models.LayOut.{begin, owns}
 use Rattle.model.specs.Models.Tokens.{aBar, aClose, aLetter, anOpen, Token, tokens}
-use Rattle.model.specs.Tree.{once, option, optional, plus, Repeat, star, starred, Tree, unmarked}
-use Rattle.model.specs.Writing.{classWriting, repeatWriting, writing}
+use Rattle.model.specs.Tree.{optional, starred, Tree, unmarked}
+use Rattle.model.specs.Writing.{writing}
 use Rattle.model.proofs.Answers.ReadBack.{read-back-one}
 use Rattle.model.proofs.Image.Tokens.{length-tokens}
 use Rattle.model.proofs.Image.TokenWriting.{length-owns, tokens-writing, tokensWriting, tokenWriting}
 use Rattle.model.proofs.Image.WellFormed.{well-formed}
 use Rattle.model.proofs.Reading.WellFormed.{rule-well}
-use Rattle.writing_letters.proofs.Laws.Bounds.{class-short}
+use Rattle.writing_letters.proofs.Laws.Bounds.{letter-short}
 use Rattle.panel.specs.Says.{Gives, itself}
 use Rattle.panel.proofs.Laws.Given.{Apart, apart, one-given}
 
-sign-short : (r : Repeat) → length (repeatWriting r) ≤ 1
-sign-short once = omega arith
-sign-short option = omega arith
-sign-short star = omega arith
-sign-short plus = omega arith
-
 token-short : (x : Token) → length (tokenWriting x) ≤ 2307
-token-short (aLetter c r) = omega (arith, length-append (classWriting c) (repeatWriting r), class-short c, sign-short r)
+token-short (aLetter c r) = letter-short c r
 token-short anOpen = omega arith
 token-short aBar = omega arith
 token-short (aClose unmarked) = omega arith

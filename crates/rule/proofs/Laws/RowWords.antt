@@ -53,7 +53,7 @@ sets-times l n i ws h =
     ∙ sym (sets-append l (5 * n) (timesWords i ws) ws)
     ∙ ap (sets l (5 * n)) (sym (times-last i ws))
 
-pub row-copies : (n c : ℕ) (r : Repeat) (s : Seq)
+row-copies : (n c : ℕ) (r : Repeat) (s : Seq)
     → rowWords (tokens (copies n c r s) []) ≡ timesWords n (tokenWords (aLetter c r)) ++ rowWords (tokens s [])
 row-copies zero c r s = refl
 row-copies (suc n) c r s =

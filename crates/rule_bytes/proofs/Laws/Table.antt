@@ -10,7 +10,7 @@ use lib.ListN.{getD}
 use Rattle.model.proofs.Laws.Bool.{and-split}
 
 -- ---- a table by its rule: what f gives for n numbers from i on
-abbrev pub entries : (ℕ → ℕ) → ℕ → ℕ → List ℕ
+abbrev entries : (ℕ → ℕ) → ℕ → ℕ → List ℕ
 entries f i zero = []
 entries f i (suc n) = f i ∷ entries f (suc i) n
 
@@ -23,7 +23,7 @@ pub entry : (f : ℕ → ℕ) (n k : ℕ) → k < n → getD (entries f 0 n) k 0
 entry f n k h = from f 0 n k h ∙ ap f (zero-add k)
 
 -- ---- a test that passes for every number below n
-abbrev pub allBelow : (ℕ → Bool) → ℕ → Bool
+abbrev allBelow : (ℕ → Bool) → ℕ → Bool
 allBelow f zero = true
 allBelow f (suc n) = f n && allBelow f n
 

@@ -1,5 +1,5 @@
 -- CLASSES AS FOUR WORDS: a mask by its words, the words of a span by two runs from 0 on, one byte, and the bytes of either of two classes.
-use mathlib.Core.Path.{_≡_, refl, sym, ap, ap₂, _∙_, subst}
+use mathlib.Core.Path.{_≡_, refl, sym, ap, ap₂, _∙_}
 use mathlib.Core.Logic.{_⊎_, inl, inr}
 use mathlib.Core.Bool.{Bool, false, _&&_, _||_, and-false}
 use mathlib.Core.List.{List, [], _∷_}
@@ -14,11 +14,11 @@ use lib.Pow.{pow-lt}
 use Rattle.model.specs.Bits.{bit, digit, mask}
 use Rattle.model.specs.Grammar.{span}
 use Rattle.model.specs.Image.{words}
-use Rattle.model.specs.Models.Words.{bitsOf, Fit, orWords, value}
+use Rattle.model.specs.Models.Words.{Fit, orWords, value}
 use Rattle.model.proofs.Laws.Bits.{mask-same}
 use Rattle.model.proofs.Laws.Bool.{le-false, le-or-lt, le-true, same-truth}
 use Rattle.model.proofs.Words.Bits.{bit-ext, bit-or}
-use Rattle.model.proofs.Words.Holds.{Near, val-lt}
+use Rattle.model.proofs.Words.Holds.{Near, val-below}
 use Rattle.model.proofs.Words.Operations.{near-or}
 use Rattle.rule_letters.specs.Classes.{belowWord, bytesOf, spanWord, wordsOf}
 use Rattle.rule_letters.specs.declared.Class.{Class}
@@ -150,8 +150,8 @@ span-none lo hi h = mask-same 256 (λ b. leb lo b && leb b hi) (λ b. ltb b 0) (
 -- ---- the bytes of either
 pub or-value : (xs ys : List ℕ) → length xs ≡ 4 → length ys ≡ 4 → Fit xs → Fit ys → value (orWords xs ys) ≡ bitOr (value xs) (value ys)
 or-value xs ys lx ly fx fy =
-    bit-ext 256 (value (orWords xs ys)) (bitOr (value xs) (value ys)) (small (orWords xs ys) (both .len) (both .fit))
-    (or-lt 256 (value xs) (value ys) (small xs lx fx) (small ys ly fy))
+    bit-ext 256 (value (orWords xs ys)) (bitOr (value xs) (value ys)) (val-below 4 (orWords xs ys) (both .len) (both .fit))
+    (or-lt 256 (value xs) (value ys) (val-below 4 xs lx fx) (val-below 4 ys ly fy))
     (λ i h. both .bits i h ∙ sym (bit-or i (value xs) (value ys)))
   where
     near : (ws : List ℕ) → length ws ≡ 4 → Fit ws → Near 256 4 ws (bit (value ws))
@@ -159,13 +159,6 @@ or-value xs ys lx ly fx fy =
 
     both : Near 256 4 (orWords xs ys) (λ x. bit (value xs) x || bit (value ys) x)
     both = near-or (near xs lx fx) (near ys ly fy)
-
-    bits-of : (ws : List ℕ) → bitsOf ws ≡ 64 * length ws
-    bits-of [] = refl
-    bits-of (w ∷ ws) = omega (arith, bits-of ws)
-
-    small : (ws : List ℕ) → length ws ≡ 4 → Fit ws → value ws < 2 ^ 256
-    small ws l f = let e : bitsOf ws ≡ 256 = omega (arith, bits-of ws) in subst (λ (k : ℕ). value ws < 2 ^ k) e (val-lt ws f)
 
 -- ---- a class's words
 words-value : (ws : List ℕ) → Fit ws → words (length ws) (value ws) ≡ ws

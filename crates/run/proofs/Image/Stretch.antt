@@ -50,7 +50,7 @@ module _ (m : ℕ) (few : m ≤ 512) where
   abbrev W : ℕ
   W = width m
 
-  pub first-holds : (xs : List ℕ) (f : ℕ → Bool) → Holds m 8 xs f → Holds m W (take W xs) f
+  first-holds : (xs : List ℕ) (f : ℕ → Bool) → Holds m 8 xs f → Holds m W (take W xs) f
   first-holds xs f H = record {
     near = record { len = long; fit = fits; bits = λ x l. sym (take-bit W xs x (omega arith)) ∙ H .near .bits x l };
     none = λ x l. go x l (le-or-lt (64 * W) x);
@@ -70,7 +70,7 @@ module _ (m : ℕ) (few : m ≤ 512) where
     one : (xs ys : List ℕ) (f : ℕ → Bool) → take W xs ≡ ys → Holds m 8 xs f → Holds m W ys f
     one xs ys f e H = subst (λ (l : List ℕ). Holds m W l f) e (first-holds xs f H)
 
-    pub first-carry : Carry m W t N
+    first-carry : Carry m W t N
     first-carry = record {
       room = room m;
       whole = C .whole;

@@ -67,7 +67,7 @@ module _ (n : ℕ) (table : List (List ℕ)) (d : ℕ) (row : List ℕ) (W : Who
 
 -- ---- ONE BYTE, from what it is with one round: with the second too, and without where there is no back edge
 module _ {n : ℕ} {ws : List ℕ} {b d : ℕ} {table : List (List ℕ)} {live first : List ℕ} (S : Stepped n ws b d table live first) where
-  pub twice-made : (r : List ℕ) → take n r ≡ secondRound (passMasks n table) d (take n first) → length r ≡ 8 → SteppedOn n ws b d table live r
+  twice-made : (r : List ℕ) → take n r ≡ secondRound (passMasks n table) d (take n first) → length r ≡ 8 → SteppedOn n ws b d table live r
   twice-made r e long = record {
     made = e ∙ second-letters n [] ws 0 n table d (take n first) ∙ ap (secondRound (ruleMasks ws n table) d) (S .made);
     eight = long;

@@ -42,7 +42,7 @@ no-word zero i = refl
 no-word (suc n) zero = refl
 no-word (suc n) (suc i) = no-word n i
 
-pub take-short : (n : ℕ) (xs : List ℕ) → length (take n xs) ≤ n
+take-short : (n : ℕ) (xs : List ℕ) → length (take n xs) ≤ n
 take-short zero xs = omega arith
 take-short (suc n) [] = omega arith
 take-short (suc n) (x ∷ xs) = let l = take-short n xs in omega arith

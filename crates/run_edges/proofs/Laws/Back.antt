@@ -35,7 +35,7 @@ low : (xs : List ℕ) → getD xs 0 0 % 2 ≡ value xs % 2
 low [] = refl
 low (x ∷ xs) = let e : x % 2 ≡ (x + 2 ^ 64 * value xs) % 2 = omega arith in e
 
-pub back-value : (xs : List ℕ) → Fit xs → value (unshiftWords xs) ≡ value xs / 2
+back-value : (xs : List ℕ) → Fit xs → value (unshiftWords xs) ≡ value xs / 2
 back-value [] f = refl
 back-value (x ∷ xs) f =
     let v = value xs in

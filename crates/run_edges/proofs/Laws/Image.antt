@@ -94,7 +94,7 @@ module _ (ws : List ℕ) (t : Tree) (I : ImageOf ws t) where
     none-held : Holds (states t) 8 noWords (λ x. false)
     none-held = record { near = record { len = refl; fit = none-fit 8; bits = λ x l. none-bit 8 x }; none = λ x l. none-bit 8 x }
 
-    pub enter-is : StatesAre t (enterWords ws b live) (λ r. (q : ℕ) × T (D q) × Takes t b q r)
+    enter-is : StatesAre t (enterWords ws b live) (λ r. (q : ℕ) × T (D q) × Takes t b q r)
     enter-is =
         let C = carried ws t I in
         let M = moveWords (lettersOf ws b) (repeatsOf ws b) noWords live in
@@ -154,7 +154,7 @@ module _ (ws : List ℕ) (t : Tree) (I : ImageOf ws t) where
         go x h (inl k) = row-past made x (made-near .fit) (omega (arith, made-near .len))
         go x h (inr k) = left-bits x k ∙ left-none x h
 
-    pub leave-is : StatesAre t (leaveWords ws b live) (λ q. (r : ℕ) × T (D r) × Takes t b q r)
+    leave-is : StatesAre t (leaveWords ws b live) (λ q. (r : ℕ) × T (D r) × Takes t b q r)
     unfolding made
     leave-is = states-are made (left t F b D) (λ q. (r : ℕ) × T (D r) × Takes t b q r) (left-is t F b D) leave-held
 

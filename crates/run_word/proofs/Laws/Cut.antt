@@ -111,7 +111,7 @@ module _ (n d : ℕ) (M N : Masks) (C : Cut n d M N) where
       fallen i (suc k) (omega arith) (propagateBy M (suc k) (scatterBy M k live))
       ∙ ap (fallWords N i (suc k)) (propagated (suc k) (omega arith) (scatterBy M k live) ∙ ap (propagateBy N (suc k)) (scattered k (omega arith) live))
 
-  pub pass-cut : (live : List ℕ) → take n (passWords M d live) ≡ passWords N d (take n live)
+  pass-cut : (live : List ℕ) → take n (passWords M d live) ≡ passWords N d (take n live)
   pass-cut live = fallen d 0 (omega arith) (riseWords M d live) ∙ ap (fallWords N d 0) (risen d (omega arith) live)
 
   -- THE SAME ENDS AND THE SAME WORDS, after a stretch and of a whole text, where the back edges stand among the first n words too

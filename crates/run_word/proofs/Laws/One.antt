@@ -135,7 +135,7 @@ module _ (ws table backs : List ℕ) (d : ℕ) (any : Bool) (deep : d ≡ depthW
   pub one-first : {first : ℕ} → first ∷ [] ≡ closeWords T d (1 ∷ []) → first ∷ [] ≡ closeWords (oneMasks ws) d (1 ∷ [])
   one-first e = ap (take 1) e ∙ close-cut 1 d T (oneMasks ws) one-cut one-back (1 ∷ []) (omega arith)
 
-  pub one-over : (n : ℕ) → d ≡ n → {last : ℕ} → last < 64 → {stretch : List ℕ} → Bytes stretch → {place found first r total : ℕ} {before after : List ℕ}
+  one-over : (n : ℕ) → d ≡ n → {last : ℕ} → last < 64 → {stretch : List ℕ} → Bytes stretch → {place found first r total : ℕ} {before after : List ℕ}
       → RanOver T 1 n last place found stretch (first ∷ []) before (r ∷ []) total after
       → RanOver (oneMasks ws) 1 d last place found stretch (first ∷ []) before (r ∷ []) total after
   one-over n q {last} l {stretch} bs {place} {found} {first} {r} {total} {before} {after} G = record {

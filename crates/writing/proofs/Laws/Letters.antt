@@ -68,7 +68,7 @@ module _ {ws : List ℕ} {p : Sections} (P : Placed ws p) (state : ℕ) (fits : 
       ∙ ap digit (read-bit (wordOf b) (state % 64) ∙ letter-bit b)
 
 -- ---- a digit put into a row
-abbrev pub withDigit : List ℕ → ℕ → ℕ → List ℕ
+abbrev withDigit : List ℕ → ℕ → ℕ → List ℕ
 withDigit ws i d = set ws (i / 64) (bitOr (getD ws (i / 64) 0) (d * 2 ^ (i % 64) % 2 ^ 64))
 
 with-none : (ws : List ℕ) (i : ℕ) → withDigit ws i 0 ≡ ws

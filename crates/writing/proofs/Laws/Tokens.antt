@@ -2,26 +2,16 @@
 use Prim.Native.Nat.{ℕ, _≤_}
 use mathlib.Core.List.{List}
 use native.Mathlib.Omega.{arith}
-use lib.ListN.{length, length-append}
-use Rattle.model.specs.Tree.{once, option, plus, Repeat, star}
-use Rattle.model.specs.Writing.{classWriting, repeatWriting}
-use Rattle.writing_letters.proofs.Laws.Bounds.{class-short}
+use lib.ListN.{length}
+use Rattle.writing_letters.proofs.Laws.Bounds.{letter-short}
 use Rattle.tokens.specs.Tokens.{repeatOf}
 use Rattle.tokens.specs.declared.token.Mark.the-variants.{Optional, Starred, Unmarked}
 use Rattle.tokens.specs.declared.token.Token.{Token}
 use Rattle.tokens.specs.declared.token.Token.the-variants.{Bar, Close, Letter, Open}
 use Rattle.writing.specs.Work.{classTo, tokenText}
 
-sign-short : (r : Repeat) → length (repeatWriting r) ≤ 1
-sign-short once = omega arith
-sign-short option = omega arith
-sign-short star = omega arith
-sign-short plus = omega arith
-
 pub token-short : (ws : List ℕ) (W : ℕ) (y : Token) (state : ℕ) → length (tokenText ws W y state) ≤ 4096
-token-short ws W (Letter r) state =
-    let class = classTo ws W state in
-    omega (arith, length-append (classWriting class) (repeatWriting (repeatOf r)), class-short class, sign-short (repeatOf r))
+token-short ws W (Letter r) state = omega (arith, letter-short (classTo ws W state) (repeatOf r))
 token-short ws W Open state = omega arith
 token-short ws W Bar state = omega arith
 token-short ws W (Close Unmarked) state = omega arith

@@ -1,5 +1,5 @@
 -- HOW LONG A CLASS'S WRITING IS: a run takes at least one of the 256 bytes, and nine bytes at most to write.
-use mathlib.Core.List.{List, [], _∷_}
+use mathlib.Core.List.{List, [], _∷_, _++_}
 use Prim.Native.Nat.{ℕ, zero, suc, _+_, _-_, _*_, _≤_}
 use native.Mathlib.Omega.{arith}
 use lib.Dec.{eqb, ltb}
@@ -7,7 +7,8 @@ use lib.ListN.{length, length-append}
 use Rattle.model.specs.Bits.{bit}
 use Rattle.model.specs.Bytes.{byte}
 use Rattle.model.specs.Grammar.{every}
-use Rattle.model.specs.Writing.{classWriting, inside, outside, runWriting, sole}
+use Rattle.model.specs.Tree.{once, option, plus, Repeat, star}
+use Rattle.model.specs.Writing.{classWriting, inside, outside, repeatWriting, runWriting, sole}
 use Rattle.model.proofs.Laws.Bool.{cond-cases}
 use Rattle.writing_letters.proofs.Laws.Bytes.{byte-short, run-short}
 use Rattle.writing_letters.proofs.Laws.Classes.{chosen}
@@ -32,3 +33,13 @@ class-short c = choose (sole 256 c 0) (outside 256 c 0) (outside-short 256 c 0)
     choose b runs h =
         cond-cases (λ w. length w ≤ 2306) (ltb b 256) (λ t. omega (arith, byte-short b)) (λ t.
         cond-cases (λ w. length w ≤ 2306) (eqb c every) (λ e. omega arith) (λ e. omega (arith, length-append runs (byte "]" ∷ []))))
+
+-- ---- and a letter's, with its sign
+pub letter-short : (c : ℕ) (r : Repeat) → length (classWriting c ++ repeatWriting r) ≤ 2307
+letter-short c r = omega (arith, length-append (classWriting c) (repeatWriting r), class-short c, sign-short r)
+  where
+    sign-short : (r : Repeat) → length (repeatWriting r) ≤ 1
+    sign-short once = omega arith
+    sign-short option = omega arith
+    sign-short star = omega arith
+    sign-short plus = omega arith

@@ -8,24 +8,16 @@ use native.Mathlib.Nat.{eq-or-lt-of-le}
 use native.Mathlib.Omega.{arith}
 use borrow.Author.Tests.{eq-eqb, eqb-true, ne-eqb}
 use lib.Dec.{eqb, ltb}
-use lib.ListN.{length}
 use lib.Pow.{ones-lt, pow-lt, pow-pos}
 use Rattle.model.specs.Bits.{bit}
 use Rattle.model.specs.Bytes.{byte, bytes}
 use Rattle.model.specs.Grammar.{every}
-use Rattle.model.specs.Models.Words.{Fit, value}
 use Rattle.model.specs.Writing.{byteWriting, classWriting, outside, sole}
-use Rattle.model.proofs.Image.Rows.{wide}
 use Rattle.model.proofs.Laws.Bits.{bit-zero}
 use Rattle.model.proofs.Laws.Bool.{le-false, le-or-lt, le-true}
 use Rattle.model.proofs.Words.Bits.{bit-ext, bit-not}
-use Rattle.model.proofs.Words.Holds.{val-lt, width-is}
 use Rattle.model.proofs.Words.Put.{bit-power}
 use Rattle.writing_letters.proofs.Laws.Runs.{All}
-
--- ---- four words make a class
-pub class-of : (ws : List ℕ) → length ws ≡ 4 → Fit ws → value ws < 2 ^ 256
-class-of ws e f = subst (λ (k : ℕ). value ws < 2 ^ k) (width-is ws ∙ ap wide e) (val-lt ws f)
 
 -- ---- a class of one byte
 pub one-byte : (c b : ℕ) → c < 2 ^ 256 → b < 256 → All false c 0 b → bit c b ≡ true → All false c (b + 1) 256 → c ≡ 2 ^ b

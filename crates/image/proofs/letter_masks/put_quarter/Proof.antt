@@ -102,7 +102,7 @@ loop-again c =
       e ∙ ap (withState 64 (a .width) class (suc (l .i)) (a .at)) (l .inv .1)
           ∙ token-more (a .width) (a .tokens .now) (l .i) (s .pre .0) h cleared (a .at) (a .q) fits
           ∙ ap (λ (k : ℕ). sets cleared (a .at) (quarterPart (a .width) (a .tokens .now) k (a .q))) (sym n),
-      ⊎-elim (λ w. ap length (w .5) ∙ w .3 .given) (λ w. ap length (w .1)) (c .if1 .came) ∙ l .inv .2,
+      ⊎-elim {C = length (c .if1 .words) ≡ length (l .words)} (λ w. ap length (w .5) ∙ w .3 .given) (λ w. ap length (w .1)) (c .if1 .came) ∙ l .inv .2,
     )
 
 same-length : tie.Need-same-length Inv-loop μ-loop

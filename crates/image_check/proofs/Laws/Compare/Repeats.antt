@@ -19,7 +19,7 @@ use Rattle.image_apart.specs.Work.{wordsAt}
 use Rattle.image_check.specs.Work.{sameRepeats}
 use Rattle.image_check.proofs.Laws.Compare.{differ-here, length-there, same-all, same-more, same-none, SameTo, word-there}
 
-abbrev pub loopedRow : List ℕ → (letters W : ℕ) → List ℕ → ℕ → List ℕ
+abbrev loopedRow : List ℕ → (letters W : ℕ) → List ℕ → ℕ → List ℕ
 loopedRow ws letters W loops b = andWords (wordsAt ws (letters + W * b) W) loops
 
 module _ (ws : List ℕ) (letters W : ℕ) (loops : List ℕ) (fits : letters + W * 256 ≤ length ws) where

@@ -26,7 +26,7 @@ module _ {W : ℕ} (first count : ℕ) (ms : List ℕ) (narrow : W ≤ 8) (in-pl
   row-part : (k : ℕ) → k < 9 → AllLong W count (λ i. take W (rowIn ms (rowNumber k (first + i))))
   row-part k h i l = length-row (rowIn ms (rowNumber k (first + i))) narrow (row-long ms (rowNumber k (first + i)) (omega arith))
 
-  pub masks-long : {n : ℕ} → n ≤ 9 → AllLong (count * W) n (depthMasks W first count ms)
+  masks-long : {n : ℕ} → n ≤ 9 → AllLong (count * W) n (depthMasks W first count ms)
   masks-long few k h = length-joined W count (λ i. take W (rowIn ms (rowNumber k (first + i)))) (row-part k (omega arith)) ∙ mul-comm W count
 
   masks-word : (k which j : ℕ) → k < 9 → which < count → j < W → getD (depthMasks W first count ms k) (W * which + j) 0 ≡ getD ms (placeOf k (first + which) j) 0

@@ -3,6 +3,7 @@ use mathlib.Core.List.{List}
 use mathlib.Core.Path.{ap, _∙_}
 use Prim.Native.Nat.{ℕ, suc}
 use native.Mathlib.Numerals.{add-one}
+use Rattle.model.specs.Models.LayOut.{gather-source, number, scatter-target}
 use Rattle.tokens_masks.specs.Masks.{runIn}
 use borrow.Author.Needs.{needs}
 use Rattle.tokens_masks.proofs.stroke.mark_bar.Statement.{statement}
@@ -24,8 +25,8 @@ returns : tie.Need-returns
 returns c =
     let a = c .before .before .before .before .before .before .before .before .before .args in
     c .before .before .mark2 .ensures
-    ∙ ap (λ (ms : List ℕ). runIn ms 6 (a .depth) (a .position) (suc (a .position)))
-    (c .before .before .before .before .before .before .mark .ensures ∙ ap (λ (x : ℕ). runIn (a .masks .now) 4 (a .depth) x (suc x)) (add-one (a .position)))
+    ∙ ap (λ (ms : List ℕ). runIn ms (number gather-source) (a .depth) (a .position) (suc (a .position)))
+    (c .before .before .before .before .before .before .mark .ensures ∙ ap (λ (x : ℕ). runIn (a .masks .now) (number scatter-target) (a .depth) x (suc x)) (add-one (a .position)))
 
 pub mark-bar-spec : {M : Type 1} → statement M
 mark-bar-spec = tie.close (tie.spec add-mark mark-requires mark-requires-2 same-length returns)

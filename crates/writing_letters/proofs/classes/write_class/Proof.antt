@@ -9,16 +9,17 @@ use lib.ListN.{length}
 use Rattle.model.specs.Bytes.{byte}
 use Rattle.model.specs.Models.Words.{value}
 use Rattle.model.specs.Writing.{outside}
+use Rattle.model.proofs.Words.Holds.{val-below}
 use Rattle.mask.proofs.Laws.Bits.{fit-row}
 use Rattle.writing_letters.proofs.Laws.Bounds.{outside-short}
-use Rattle.writing_letters.proofs.Laws.Classes.{class-of, every-byte, every-written, no-byte, not-every, NotOne, one-byte, one-written, runs-written, two-bytes}
+use Rattle.writing_letters.proofs.Laws.Classes.{every-byte, every-written, no-byte, not-every, NotOne, one-byte, one-written, runs-written, two-bytes}
 use Rattle.writing_letters.proofs.Laws.Texts.{writes-as, writes-one, writes-then}
 use Rattle.writing_letters.proofs.classes.write_class.Statement.{statement}
 use Rattle.writing_letters.proofs.classes.write_class.Tie as tie
 
 -- four words make a class
 small : (c : tie.Start) → value (c .args .class) < 2 ^ 256
-small c = class-of (c .args .class) (c .good .1 .1 .0 .1 .0 .1) (fit-row (c .args .class) (λ k. search needs))
+small c = val-below 4 (c .args .class) (c .good .1 .1 .0 .1 .0 .1) (fit-row (c .args .class) (λ k. search needs))
 
 -- no byte was found, or two were
 several : (c : tie.Joined1) → NotOne (value (c .before .before .before .args .class))

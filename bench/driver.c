@@ -91,7 +91,7 @@ static void show_speed(void) {
     if (why)
         printf(" %s\n", why);
     else
-        printf(" %.2f\n", best[HYPERSCAN_ITSELF] / best[PROVED]);
+        printf(" %.3f\n", best[HYPERSCAN_ITSELF] / best[PROVED]);
 }
 
 int main(int count, char **arguments) {

@@ -33,13 +33,13 @@
  * area that another reads or writes. Every call ends: the work is bounded by the lengths that are given.
  *
  * What a call costs, in instructions on x86-64. These are counts of calls that were made, and no promise: docs/SPEED.md has them with the rules and
- * texts, and says how they were counted (callgrind, or the instructions that the emulator ran).
- *  - Every call but build checks its image: 7,400 to 16,700 for 525 words (4,200 bytes), at most 143,800 for 4,834 (38,672 bytes), the dearest images
+ * texts, and says how they were counted (by callgrind).
+ *  - Every call but build checks its image: 7,300 to 16,700 for 525 words (4,200 bytes), at most 143,800 for 4,834 (38,672 bytes), the dearest images
  *    that were found ("The check alone").
  *  - Match and step, for each byte besides: 22 for the smallest rules to 2,526 for 500 states eight deep; with repeated groups, where cycles go round
  *    at every byte, up to 5,922 ("Match and step", "Cycles").
  *  - Build of a rule of 1,024 bytes: at most 1,022,000. Read back: 21,600 for the rule `a`, at most 19,833,600 ("Build, read back ..").
- *  - Check and propose: by the bytes from start to end; for 65,535 bytes and 512 states up to some 1,500 million each ("Spellings").
+ *  - Check and propose: by the bytes from start to end; for 65,535 bytes and 512 states up to 1,460 million and 1,150 million ("Spellings").
  */
 #ifndef LAVUMBISHE_H
 #define LAVUMBISHE_H

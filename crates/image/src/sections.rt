@@ -81,7 +81,8 @@ fn put_tables(
     masks: &[u64],
 )
     requires { ⌜ (width ≤ 8) × (depths ≤ 9) × (1 ≤ at) × (at + width * (3 * depths) ≤ lengthOf (now words)) × (first + 2 < planes) × (lengthOf (now masks) ≡ 936) ⌝ }
-    ensures { λ r. ⌜ now (words .exit) ≡ sets (now (words .entry)) (at - 1) (tablesPart width depths (tableIn (now (masks .entry)) first) (tableIn (now (masks .entry)) (first + 1)) (tableIn (now (masks .entry)) (first + 2))) ⌝ }
+    ensures { λ r. ⌜ now (words .exit) ≡ sets (now (words .entry)) (at - 1)
+        (tablesPart width depths (tableIn (now (masks .entry)) first) (tableIn (now (masks .entry)) (first + 1)) (tableIn (now (masks .entry)) (first + 2))) ⌝ }
 {
     words[at - 1] = (3 * width * depths) as u64;
     let mut k: usize = 0;

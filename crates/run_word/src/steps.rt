@@ -32,7 +32,8 @@ fn gather_at(live: u64, k: usize, table: &[u64; 81]) -> u64
 
 fn along_at(live: u64, k: usize, any: bool, table: &[u64; 81]) -> u64
     requires { ⌜ k ≤ 8 ⌝ }
-    ensures { λ r. ⌜ r ∷ [] ≡ propagateWords (cond any (getD (now (table .entry)) (9 * k + 6) 0) 0 ∷ []) (wrapAdd (getD (now (table .entry)) (9 * k + 7) 0) 1 ∷ []) (wordAt (now (table .entry)) (9 * k + 8)) (live ∷ []) ⌝ }
+    ensures { λ r. ⌜ r ∷ [] ≡ propagateWords (cond any (getD (now (table .entry)) (9 * k + 6) 0) 0 ∷ [])
+        (wrapAdd (getD (now (table .entry)) (9 * k + 7) 0) 1 ∷ []) (wordAt (now (table .entry)) (9 * k + 8)) (live ∷ []) ⌝ }
 {
     along(
         live,

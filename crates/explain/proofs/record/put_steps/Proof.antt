@@ -41,7 +41,11 @@ loop-less : tie.Need-loop-less Inv-loop μ-loop
 loop-less c = search needs
 
 loop-again : tie.Need-loop-again Inv-loop μ-loop
-loop-again c = (omega (arith, c .before .before .put-step .ensures, c .before .before .before .before .before .before .before .loop .inv), omega (arith, c .before .before .before .before .before .before .loop-test .taken), c .before .text .given ∙ c .before .before .before .before .before .before .before .loop .inv .2)
+loop-again c =
+    let s = c .before .before in
+    let t = s .before .before .before .before in
+    let l = t .before .loop in
+    (omega (arith, s .put-step .ensures, l .inv), omega (arith, t .loop-test .taken), c .before .text .given ∙ l .inv .2)
 
 same-length : tie.Need-same-length Inv-loop μ-loop
 same-length c = c .before .loop .inv .2

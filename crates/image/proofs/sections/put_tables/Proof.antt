@@ -47,7 +47,10 @@ loop-holds c =
     let ms = s .args .masks .now in
     let i = s .args .first in
     parts-none
-    (depths-long (tableIn ms i) (tableIn ms (i + 1)) (tableIn ms (i + 2)) (s .pre .0) (s .pre .1) (in-eights ms i (s .pre .5) (omega (arith, s .pre .4))) (in-eights ms (i + 1) (s .pre .5) (omega (arith, s .pre .4))) (in-eights ms (i + 2) (s .pre .5) (omega (arith, s .pre .4))))
+    (depths-long (tableIn ms i) (tableIn ms (i + 1)) (tableIn ms (i + 2)) (s .pre .0) (s .pre .1)
+    (in-eights ms i (s .pre .5) (omega (arith, s .pre .4)))
+    (in-eights ms (i + 1) (s .pre .5) (omega (arith, s .pre .4)))
+    (in-eights ms (i + 2) (s .pre .5) (omega (arith, s .pre .4))))
 
 row-of-requires : tie.Need-row-of-requires Inv-loop μ-loop
 row-of-requires c κs = search needs

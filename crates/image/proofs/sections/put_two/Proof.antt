@@ -24,12 +24,15 @@ same-length c = search needs
 
 returns : tie.Need-returns
 returns c =
-    let a = c .before .before .before .before .before .before .before .before .before .args in
+    let second = c .before .before in
+    let first = second .before .before .before .before in
+    let s = first .before .before .before in
+    let a = s .args in
     let W = a .width in
-    c .before .before .put-row2 .ensures
-    ∙ ap (λ (ws : List ℕ). sets ws (a .at + W) (take W (a .target))) (c .before .before .before .before .before .before .put-row .ensures)
+    second .put-row2 .ensures
+    ∙ ap (λ (ws : List ℕ). sets ws (a .at + W) (take W (a .target))) (first .put-row .ensures)
     ∙ sets-on (a .words .now) (a .at) (take W (a .source)) (take W (a .target)) (a .at + W)
-    (ap (λ (n : ℕ). a .at + n) (sym (length-row (a .source) (c .before .before .before .before .before .before .before .before .before .pre .0) (c .before .before .before .before .before .before .before .before .before .good .1 .1 .1 .0 .1 .0 .1))))
+    (ap (λ (n : ℕ). a .at + n) (sym (length-row (a .source) (s .pre .0) (s .good .1 .1 .1 .0 .1 .0 .1))))
 
 pub put-two-spec : {M : Type 1} → statement M
 put-two-spec = tie.close (tie.spec put-row-requires add-put-row put-row-requires-2 same-length returns)

@@ -67,7 +67,18 @@ read-sequence-below t = and 2 read-sequence-kinds.ps (falls 2 read-sequence-kind
 
 -- what is asked of each callee and learnt from it
 abbrev alternatives-callees : ℕ → read-alternatives-lts.Claims
-alternatives-callees t = (read-sequence-below t, read-sequence.Post, byte-at-reads.Asked, byte-at-reads.Learnt, put-union-reads.Asked, put-union-reads.Learnt, read-alternatives-below t, read-alternatives.Post, several-reads.Asked, several-reads.Learnt)
+alternatives-callees t = (
+  read-sequence-below t,
+  read-sequence.Post,
+  byte-at-reads.Asked,
+  byte-at-reads.Learnt,
+  put-union-reads.Asked,
+  put-union-reads.Learnt,
+  read-alternatives-below t,
+  read-alternatives.Post,
+  several-reads.Asked,
+  several-reads.Learnt,
+)
 
 abbrev item-callees : ℕ → read-item-lts.Claims
 item-callees t = (byte-at-reads.Asked, byte-at-reads.Learnt, read-piece-reads.Asked, read-piece-reads.Learnt, read-alternatives-below t, read-alternatives.Post, close-item-reads.Asked, close-item-reads.Learnt)
@@ -152,7 +163,10 @@ read-sequence-returns t c =
 
 -- the item that was read
 item-read : (t : ℕ) (k : read-sequence-lts.After-known-told (sequence-callees t) (read-sequence-at t) read-sequence.Post Inv-items μ-items)
-    → let rule = k .before .before .before .before .before .before .before .args .rule .now in let l = k .before .before .before .before .before .loop in let r = k .before .before .before .read-item in let g = k .before .item .given .0 in
+    → let rule = k .before .before .before .before .before .before .before .args .rule .now in
+    let l = k .before .before .before .before .before .loop in
+    let r = k .before .before .before .read-item in
+    let g = k .before .item .given .0 in
     PartSays true rule (l .next) (item (drop (l .place) rule)) (l .tokens) (r .last .1 .1 .0) (aPart (g .0) (g .1 .0) (g .1 .1 .0))
 item-read t k = rw (k .before .item .given .1) at (k .before .before .before .read-item .ensures)
 
@@ -270,6 +284,47 @@ read-alternatives-returns-3 t c =
 pub +read-alternatives+read-item+read-sequence-spec : {M : Type 1} → statement M
 +read-alternatives+read-item+read-sequence-spec =
     close μ-read-alternatives μ-read-item μ-read-sequence
-    (λ t. read-alternatives-lts.spec (alternatives-callees t) (read-alternatives-at t) read-alternatives.Post (read-alternatives-read-sequence-requires t) (read-alternatives-enum-known-sequence t) (read-alternatives-byte-at-requires t) (read-alternatives-returns t) (read-alternatives-put-union-requires t) (read-alternatives-add-read-alternatives t) (read-alternatives-read-alternatives-requires t) (read-alternatives-several-requires t) (read-alternatives-enum-known-sequence-2 t) (read-alternatives-returns-2 t) (read-alternatives-returns-3 t))
-    (λ t. read-item-lts.spec (item-callees t) (read-item-at t) read-item.Post (read-item-byte-at-requires t) (read-item-read-piece-requires t) (read-item-returns t) (read-item-add-read-alternatives t) (read-item-read-alternatives-requires t) (read-item-close-item-requires t) (read-item-returns-2 t))
-    (λ t. read-sequence-lts.spec (sequence-callees t) (read-sequence-at t) read-sequence.Post Inv-items μ-items (read-sequence-loop-holds t) (read-sequence-read-item-requires t) (read-sequence-enum-known-item t) (read-sequence-enum-told t) (read-sequence-returns t) (read-sequence-is-over-requires t) (read-sequence-returns-2 t) (read-sequence-loop-less t) (read-sequence-loop-again t))
+    (λ t.
+    read-alternatives-lts.spec
+    (alternatives-callees t)
+    (read-alternatives-at t)
+    read-alternatives.Post
+    (read-alternatives-read-sequence-requires t)
+    (read-alternatives-enum-known-sequence t)
+    (read-alternatives-byte-at-requires t)
+    (read-alternatives-returns t)
+    (read-alternatives-put-union-requires t)
+    (read-alternatives-add-read-alternatives t)
+    (read-alternatives-read-alternatives-requires t)
+    (read-alternatives-several-requires t)
+    (read-alternatives-enum-known-sequence-2 t)
+    (read-alternatives-returns-2 t)
+    (read-alternatives-returns-3 t))
+    (λ t.
+    read-item-lts.spec
+    (item-callees t)
+    (read-item-at t)
+    read-item.Post
+    (read-item-byte-at-requires t)
+    (read-item-read-piece-requires t)
+    (read-item-returns t)
+    (read-item-add-read-alternatives t)
+    (read-item-read-alternatives-requires t)
+    (read-item-close-item-requires t)
+    (read-item-returns-2 t))
+    (λ t.
+    read-sequence-lts.spec
+    (sequence-callees t)
+    (read-sequence-at t)
+    read-sequence.Post
+    Inv-items
+    μ-items
+    (read-sequence-loop-holds t)
+    (read-sequence-read-item-requires t)
+    (read-sequence-enum-known-item t)
+    (read-sequence-enum-told t)
+    (read-sequence-returns t)
+    (read-sequence-is-over-requires t)
+    (read-sequence-returns-2 t)
+    (read-sequence-loop-less t)
+    (read-sequence-loop-again t))

@@ -22,7 +22,7 @@ use Rattle.tokens_masks.specs.declared.Tape.{Tape}
 use Rattle.image.specs.Says.{no-room, stored, StoreSays, TokensOf, too-deep, TreeSays}
 use Rattle.image.specs.Work.{imageWords, KindsAre}
 use Rattle.image.proofs.Laws.Tapes.{depth-is, on-tape, states-are, tape-of}
-use Rattle.image.proofs.Laws.Written.{image-written, length-image}
+use Rattle.image.proofs.Laws.OfSets.{image-stored, length-image}
 
 not-other : (d : ℕ) → Other ≡ Tree d → ⊥
 not-other d e = let z : _≡_ {A = ℕ} 0 1 = cc in omega arith
@@ -100,5 +100,5 @@ module _ {row : List ℕ} {n : ℕ} {tape : Tape} {laid : OnTape} (T : Taped row
         says-stored t R =
             let P = of-rule t R in
             let e = size-is t P in
-            let w = is ∙ ap (sets before 0) (words-as t P ∙ image-written row tape t P (all-tokens t R)) ∙ sets-fit before (image t) in
+            let w = is ∙ ap (sets before 0) (words-as t P ∙ image-stored row tape t P (all-tokens t R)) ∙ sets-fit before (image t) in
             stored (P .shallow) (omega (arith, e)) (λ i. record { number = 0; given = e i; lent = w i })

@@ -29,7 +29,7 @@ abbrev readAnswer : Option Tree → List ℕ → Counted
 readAnswer none before = refused 2 before
 readAnswer (some t) before = treeAnswer t before
 
-abbrev buildAnswer : List ℕ → List ℕ → Counted
+abbrev pub buildAnswer : List ℕ → List ℕ → Counted
 buildAnswer rule before = cond (leb (length rule) 1024) (readAnswer (readRule rule) before) (refused 1 before)
 
 -- ---- a check that fails, and one that passes

@@ -23,7 +23,7 @@ abbrev endsAnswer : Option Tree → List ℕ → List ℕ → Counted
 endsAnswer none text before = refused 6 before
 endsAnswer (some t) text before = cond (leb (length text) 65535) (done (treeEnds t text) before) (refused 7 before)
 
-abbrev matchAnswer : List ℕ → List ℕ → List ℕ → Counted
+abbrev pub matchAnswer : List ℕ → List ℕ → List ℕ → Counted
 matchAnswer words text before = endsAnswer (verdict words) text before
 
 -- ---- what the table says is that answer

@@ -20,7 +20,7 @@ abbrev writingAnswer : Option Tree → List ℕ → Counted
 writingAnswer none before = refused 6 before
 writingAnswer (some t) before = cond (leb (length (writing t)) (length before)) (done (writing t) before) (refused 8 before)
 
-abbrev readBackAnswer : List ℕ → List ℕ → Counted
+abbrev pub readBackAnswer : List ℕ → List ℕ → Counted
 readBackAnswer words before = writingAnswer (verdict words) before
 
 -- ---- what the table says is that answer

@@ -26,7 +26,7 @@ abbrev checkOf : Option Tree → (text : List ℕ) (start end : ℕ) (states : L
 checkOf none text start end states = refusal false 6 tt
 checkOf (some t) text start end states = cond (leb (length text) 65535) (says (isSpelled t text start end states)) (refusal false 7 tt)
 
-abbrev checkAnswer : (words text : List ℕ) (start end : ℕ) (states : List ℕ) → Judgement
+abbrev pub checkAnswer : (words text : List ℕ) (start end : ℕ) (states : List ℕ) → Judgement
 checkAnswer words = checkOf (verdict words)
 
 module _ (words text : List ℕ) (start end : ℕ) (states : List ℕ) where
@@ -84,7 +84,7 @@ abbrev proposeOf : Option Tree → (text : List ℕ) (end : ℕ) (before : List 
 proposeOf none text end before = proposes-none 6 before
 proposeOf (some t) text end before = cond (leb (length text) 65535) (proposeAt (latest t text end) end before) (proposes-none 7 before)
 
-abbrev proposeAnswer : (words text : List ℕ) (end : ℕ) (before : List ℕ) → Proposal
+abbrev pub proposeAnswer : (words text : List ℕ) (end : ℕ) (before : List ℕ) → Proposal
 proposeAnswer words = proposeOf (verdict words)
 
 module _ (words text : List ℕ) (end : ℕ) (before : List ℕ) where

@@ -47,7 +47,7 @@ abbrev beginOf : Option Tree → (mask : List ℕ) (place : ℕ) (ends : List �
 beginOf none mask place ends = stays 6 mask place ends
 beginOf (some t) mask place ends = cond (eqb (length mask) (width (states t))) (goes-on (firstOf t) 0 (zeroOf t) ends) (stays 9 mask place ends)
 
-abbrev beginAnswer : (words mask : List ℕ) (place : ℕ) (ends : List ℕ) → Watched
+abbrev pub beginAnswer : (words mask : List ℕ) (place : ℕ) (ends : List ℕ) → Watched
 beginAnswer words = beginOf (verdict words)
 
 abbrev runOf : Tree → (mask : List ℕ) (place : ℕ) (stretch ends : List ℕ) → Watched
@@ -61,7 +61,7 @@ stepOf (some t) mask place stretch ends =
     (cond (isMask (states t) mask) (cond (leb (place + length stretch) 4294967295) (runOf t mask place stretch ends) (stays 10 mask place ends)) (stays 9 mask place ends))
     (stays 7 mask place ends)
 
-abbrev stepAnswer : (words mask : List ℕ) (place : ℕ) (stretch ends : List ℕ) → Watched
+abbrev pub stepAnswer : (words mask : List ℕ) (place : ℕ) (stretch ends : List ℕ) → Watched
 stepAnswer words = stepOf (verdict words)
 
 -- ---- the masks of a tree hold its sets

@@ -11,7 +11,7 @@ use Rattle.model.specs.Tree.{Tree}
 use Rattle.model.proofs.Answers.Build.{build-one}
 use Rattle.image_sections.specs.Sections.{sectionsOf}
 use Rattle.image_sections.proofs.Laws.Within.{within-limits}
-use Rattle.image.proofs.Laws.Written.{length-image}
+use Rattle.image.proofs.Laws.OfSets.{length-image}
 use Rattle.panel.specs.Says.{Gives, itself}
 use Rattle.panel.proofs.Laws.Given.{Apart, apart, one-given}
 

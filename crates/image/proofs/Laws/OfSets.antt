@@ -121,8 +121,8 @@ module _ (row : List ℕ) (tape : Tape) (s : Tree) (O : TreeOnTape s tape) where
             in-class (tokens s []) row (tape .length) (R .long) (R .are) i b (omega (arith, length-tokens s)) h (well-fine s (rule-well (R .is-rule)))
 
     -- THE TREE'S IMAGE
-    pub image-written : imageWords (sectionsOf (states s) (depth s)) row tape ≡ image s
-    image-written =
+    pub image-stored : imageWords (sectionsOf (states s) (depth s)) row tape ≡ image s
+    image-stored =
         written
         ∙ assemble-same m W (depth s) (leads row) looped (letters s) (repeats s) (edgeSet s) (edgeSet s) letters-lead
         (λ b x h l. ap (λ (a : Bool). a && bit (value loops) x) (letters-lead b x h l) ∙ loops-say tape s O b x l) (λ w k x. refl)

@@ -34,6 +34,7 @@ fn show_three(label: &[u8], image: &[u64; 4834], at: usize)
     io::write_all(1, b"\n");
 }
 
+// The same of back edges, which have no block.
 fn show_two(label: &[u8], image: &[u64; 4834], at: usize)
     requires { ⌜ at + 2 ≤ 4834 ⌝ }
 {

@@ -30,7 +30,7 @@ sectionsIn ws = sectionsOf (stateWord ws) (depthWord ws)
 abbrev pub widthOf : List ℕ → ℕ
 widthOf ws = width (stateWord ws)
 
--- the words to a mask as the shape says it, of a mask of at most eight
+-- how many words a mask has, as the shape of any words says it, and at most eight
 abbrev pub maskWords : List ℕ → ℕ
 maskWords ws = min (widthWord ws) 8
 

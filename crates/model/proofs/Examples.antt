@@ -15,10 +15,11 @@ use Rattle.model.specs.Writing.{writing}
 use Rattle.model.specs.Edges.{states}
 use Rattle.model.specs.Ends.{EndsAre}
 use Rattle.model.specs.Image.{backSource, backTarget, gatherBlock, gatherSource, gatherTarget, image, propagateBlock, propagateSource, propagateTarget, scatterBlock, scatterSource, scatterTarget}
+use Rattle.model.specs.Place.{PlaceIs}
 use Rattle.model.specs.Answers.{not-a-rule}
 use Rattle.model.specs.Spelling.{Latest}
-use Rattle.model.specs.Worked.{_⊨_, Claim, further, gatherAt, hasEnds, hasImage, hasLatest, hasNoStart, hasStates, Holds, isNotSpelledBy, isSpelledBy, isWritten, marked, Masks, optionalGroups, propagateAt, refusedWith2, repeatedGroups, returnAt, Right, Row, scatterAt, spellings}
-use Rattle.model.specs.Models.Reader.{readRule}
+use Rattle.model.specs.Worked.{_⊨_, Claim, further, gatherAt, hasEnds, hasImage, hasLatest, hasNoStart, hasStates, Holds, isNotSpelledBy, isSpelledBy, isWritten, marked, Masks, optionalGroups, places, propagateAt, refusedWith2, repeatedGroups, returnAt, Right, Row, scatterAt, spellings}
+use Rattle.model.specs.Models.Reader.{readPlace, readRule}
 use Rattle.model.specs.Models.Spelling.{isSpelled, latest}
 use Rattle.model.specs.Models.Verdict.{sameWords}
 use Rattle.model.proofs.Definitions.TreeEnds.{tree-ends, treeEnds}
@@ -26,6 +27,7 @@ use Rattle.model.proofs.Image.Decided.{rule-full}
 use Rattle.model.proofs.Image.Verdict.{same-words}
 use Rattle.model.proofs.Laws.Bool.{and-split, is-false}
 use Rattle.model.proofs.Reading.Decides.{reads}
+use Rattle.model.proofs.Reading.Place.{place-is}
 use Rattle.model.proofs.Spelling.Decided.{Found, latest-is, NoSpelling, spelled-is}
 use Rattle.model.proofs.Words.Full.{Full}
 use Rattle.model.proofs.Words.Run.{Bytes}
@@ -66,7 +68,7 @@ acceptedTest (some t) c = claimTest t c
 
 abbrev rowTest : Row → Bool
 rowTest (rule ⊨ claim) = acceptedTest (readRule (bytes rule)) claim
-rowTest (refusedWith2 rule) = leb (length (bytes rule)) 1024 && isNone (readRule (bytes rule))
+rowTest (refusedWith2 rule p) = eqb (readPlace (bytes rule)) p && (leb (length (bytes rule)) 1024 && isNone (readRule (bytes rule)))
 
 abbrev tableTest : List Row → Bool
 tableTest [] = true
@@ -116,10 +118,15 @@ row-right (rule ⊨ claim) h = go (readRule (bytes rule)) refl h
     go : (o : Option Tree) → readRule (bytes rule) ≡ o → T (acceptedTest o claim) → Right (rule ⊨ claim)
     go none e k = absurd k
     go (some t) e k = let d = reads (bytes rule) t .1 e in (t, d, claim-right t (rule-full t d) claim k)
-row-right (refusedWith2 rule) h = λ before. not-a-rule (leb→le (length (bytes rule)) 1024 (k .0)) (λ t d. go (readRule (bytes rule)) (k .1) t (reads (bytes rule) t .0 d)) refl
+row-right (refusedWith2 rule p) h =
+    λ before. not-a-rule p (leb→le (length (bytes rule)) 1024 (k .0)) (λ t d. go (readRule (bytes rule)) (k .1) t (reads (bytes rule) t .0 d))
+    (subst (PlaceIs (bytes rule)) (eqb→eq (readPlace (bytes rule)) p (q .0)) (place-is (bytes rule))) refl
   where
+    q : T (eqb (readPlace (bytes rule)) p) × T (leb (length (bytes rule)) 1024 && isNone (readRule (bytes rule)))
+    q = and-split (eqb (readPlace (bytes rule)) p) (leb (length (bytes rule)) 1024 && isNone (readRule (bytes rule))) h
+
     k : T (leb (length (bytes rule)) 1024) × T (isNone (readRule (bytes rule)))
-    k = and-split (leb (length (bytes rule)) 1024) (isNone (readRule (bytes rule))) h
+    k = and-split (leb (length (bytes rule)) 1024) (isNone (readRule (bytes rule))) (q .1)
 
     go : (o : Option Tree) → T (isNone o) → (t : Tree) → o ≡ some t → ⊥
     go none n t e = let z : _≡_ {A = ℕ} 0 1 = cc in omega arith
@@ -138,6 +145,9 @@ optional-groups-right = table-right optionalGroups tt
 
 pub repeated-groups-right : All Right repeatedGroups
 repeated-groups-right = table-right repeatedGroups tt
+
+pub places-right : All Right places
+places-right = table-right places tt
 
 pub further-right : All Right further
 further-right = table-right further tt

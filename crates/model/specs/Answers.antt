@@ -1,4 +1,4 @@
--- NUMBERS GIVEN BACK (document 01): for each operation the table's rows in their order, each with number, count and the whole content of what was lent.
+-- NUMBERS GIVEN BACK (document 01): for each operation the table's rows in their order, each with number, place, count and the whole content of what was lent.
 use mathlib.Core.Path.{_≡_}
 use mathlib.Core.List.{List, _++_}
 use Prim.Native.Nat.{ℕ, _≤_, _<_}
@@ -9,18 +9,31 @@ use Rattle.model.specs.Writing.{writing}
 use Rattle.model.specs.Edges.{depth, states}
 use Rattle.model.specs.Ends.{EndsAre}
 use Rattle.model.specs.Image.{image}
+use Rattle.model.specs.Place.{PlaceIs}
 
--- an answer: its number, what it gives by value, and all that was lent as it is afterwards
+-- an answer: its number, its place, what it gives by value, and all that was lent as it is afterwards
 pub record Answer (Given Lent : Type 0) : Type 0 where
   pub number : ℕ
+  pub place : ℕ
   pub given : Given
   pub lent : Lent
 
+-- "With 2 the builder shall also give a place .. All other answers carry place 0" (document 02, Wish 2).
+-- done gives something, and what was lent is changed
+abbrev pub gives : {Given Lent : Type 0} → Given → Lent → Answer Given Lent
+gives given after = record { number = 0; place = 0; given = given; lent = after }
+
 -- a refusal gives nothing, and what was lent stays as it was
+abbrev pub refusalAt : {Given Lent : Type 0} → (nothing : Given) → (place : ℕ) → ℕ → Lent → Answer Given Lent
+refusalAt nothing p n before = record { number = n; place = p; given = nothing; lent = before }
+
 abbrev pub refusal : {Given Lent : Type 0} → (nothing : Given) → ℕ → Lent → Answer Given Lent
-refusal nothing n before = record { number = n; given = nothing; lent = before }
+refusal nothing = refusalAt nothing 0
 
 -- "Any refusal gives count 0 and changes nothing."
+abbrev pub refusedAt : {Lent : Type 0} → (place : ℕ) → ℕ → Lent → Answer ℕ Lent
+refusedAt p n before = refusalAt 0 p n before
+
 abbrev pub refused : {Lent : Type 0} → ℕ → Lent → Answer ℕ Lent
 refused n before = refusal 0 n before
 
@@ -30,7 +43,7 @@ Counted = Answer ℕ (List ℕ)
 
 -- "Done" gives the length of the whole; what fits of it is written. "Words or bytes past what is written stay as they were."
 abbrev pub done : List ℕ → List ℕ → Counted
-done whole before = record { number = 0; given = length whole; lent = take (length before) whole ++ drop (length whole) before }
+done whole before = gives (length whole) (take (length before) whole ++ drop (length whole) before)
 
 -- and so much of what was lent is its result
 abbrev pub resultOf : Counted → List ℕ
@@ -39,7 +52,7 @@ resultOf a = take (a .given) (a .lent)
 -- BUILD, from rule bytes into lent words
 pub data BuildSays (rule before : List ℕ) (a : Counted) : Type 0 where
   rule-too-long : 1024 < length rule → a ≡ refused 1 before → BuildSays rule before a
-  not-a-rule : length rule ≤ 1024 → ((t : Tree) → IsRule rule t → ⊥) → a ≡ refused 2 before → BuildSays rule before a
+  not-a-rule : (p : ℕ) → length rule ≤ 1024 → ((t : Tree) → IsRule rule t → ⊥) → PlaceIs rule p → a ≡ refusedAt p 2 before → BuildSays rule before a
   too-many-states : (t : Tree) → length rule ≤ 1024 → IsRule rule t → 512 < states t → a ≡ refused 3 before → BuildSays rule before a
   too-deep : (t : Tree) → length rule ≤ 1024 → IsRule rule t → states t ≤ 512 → 8 < depth t → a ≡ refused 4 before → BuildSays rule before a
   no-room : (t : Tree) → length rule ≤ 1024 → IsRule rule t → states t ≤ 512 → depth t ≤ 8 → length before < length (image t)

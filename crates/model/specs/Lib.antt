@@ -9,8 +9,9 @@ pub mod Edges
 pub mod Live
 pub mod Ends
 pub mod Image
+pub mod Place
 pub mod Answers
--- Change requests: the watch (Wish 1), spellings (Wish 9).
+-- Change requests: the watch (Wish 1), spellings (Wish 9); a rule's place (Wish 2) stands before the answers, which have it.
 pub mod Watch
 pub mod Spelling
 -- The worked examples, every one proved.

@@ -8,7 +8,7 @@ use Rattle.model.specs.Tree.{Tree}
 use Rattle.model.specs.Edges.{accepting}
 use Rattle.model.specs.Live.{Free, Reached, Takes}
 use Rattle.model.specs.Ends.{End}
-use Rattle.model.specs.Answers.{Answer, ImageOf, NoImage, refusal}
+use Rattle.model.specs.Answers.{Answer, gives, ImageOf, NoImage, refusal}
 
 -- a state "reached so", without a letter, from q
 abbrev pub Reaches : Tree → ℕ → ℕ → Type 0
@@ -43,7 +43,7 @@ abbrev pub Judgement : Type 0
 Judgement = Answer Bool (Unit {0})
 
 abbrev pub says : Bool → Judgement
-says b = record { number = 0; given = b; lent = tt }
+says b = gives b tt
 
 pub data CheckSays (words text : List ℕ) (start end : ℕ) (states : List ℕ) (a : Judgement) : Type 0 where
   not-an-image : NoImage words → a ≡ refusal false 6 tt → CheckSays words text start end states a
@@ -65,7 +65,7 @@ abbrev pub proposes-none : ℕ → List ℕ → Proposal
 proposes-none = refusal (record { start = 0; count = 0 })
 
 abbrev pub proposes : (start count : ℕ) → List ℕ → Proposal
-proposes start count after = record { number = 0; given = record { start = start; count = count }; lent = after }
+proposes start count after = gives (record { start = start; count = count }) after
 
 -- PROPOSE: "After 6 and 7 it refuses a place that is no end with 16, then a lent list shorter than the stretch with 17, and nothing else."
 -- "its choice of states is free": any that get yes; the list's other places stay as they were.

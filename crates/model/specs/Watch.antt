@@ -14,7 +14,7 @@ use Rattle.model.specs.Edges.{accepting, states}
 use Rattle.model.specs.Live.{Before, Live, LiveFrom}
 use Rattle.model.specs.Ends.{EndsAre, Rising}
 use Rattle.model.specs.Image.{row, width}
-use Rattle.model.specs.Answers.{Answer, done, ImageOf, NoImage, refused}
+use Rattle.model.specs.Answers.{Answer, done, gives, ImageOf, NoImage, refused}
 
 -- ---- MASKS
 -- "State i is bit i mod 64 of word i/64 (whole part)": state q is in the mask
@@ -59,7 +59,7 @@ stays n mask place ends = refused n (watch mask place ends)
 
 -- done: the new mask and place, the total of what was found, and as much of it written as fits
 abbrev pub goes-on : (mask : List ℕ) (place : ℕ) (found ends : List ℕ) → Watched
-goes-on mask place found ends = record { number = 0; given = length found; lent = watch mask place (done found ends .lent) }
+goes-on mask place found ends = gives (length found) (watch mask place (done found ends .lent))
 
 -- BEGIN: "beginning gives 6, then 9 by the words lent"; "Place 0 is reported by the beginning call only."
 pub data BeginSays (words mask : List ℕ) (place : ℕ) (ends : List ℕ) (a : Watched) : Type 0 where

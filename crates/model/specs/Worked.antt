@@ -1,4 +1,4 @@
--- THE WORKED EXAMPLES OF DOCUMENT 01 ("Measured examples"), and some of document 02's optional and repeated groups (Wishes 3 and 12) and spellings (Wish 9),
+-- THE WORKED EXAMPLES OF DOCUMENT 01 ("Measured examples"), and some of document 02's optional and repeated groups (Wishes 3 and 12), places (Wish 2) and spellings (Wish 9),
 -- as rows of a rule and what is claimed of it.
 -- Nothing here is believed: proofs/Examples.antt proves every row.
 use mathlib.Core.Path.{_≡_}
@@ -15,7 +15,7 @@ use Rattle.model.specs.Writing.{writing}
 use Rattle.model.specs.Edges.{states}
 use Rattle.model.specs.Ends.{EndsAre}
 use Rattle.model.specs.Image.{backSource, backTarget, gatherBlock, gatherSource, gatherTarget, image, propagateBlock, propagateSource, propagateTarget, scatterBlock, scatterSource, scatterTarget}
-use Rattle.model.specs.Answers.{BuildSays, refused}
+use Rattle.model.specs.Answers.{BuildSays, refusedAt}
 use Rattle.model.specs.Spelling.{Latest, Spelled}
 
 -- what a row may claim of the tree of an accepted rule; masks as numbers: block, source, target at depth k; of back edges source and target
@@ -50,12 +50,12 @@ Holds t (hasNoStart text end) = (start : ℕ) (list : List ℕ) → Spelled t (b
 infix 90 _⊨_
 pub data Row : Type 0 where
   _⊨_ : String → Claim → Row
-  refusedWith2 : String → Row
+  refusedWith2 : String → (place : ℕ) → Row
 
--- a row is right: its rule has a tree of which the claim holds, or build refuses it with 2, whatever was lent
+-- a row is right: its rule has a tree of which the claim holds, or build refuses it with 2 at this place, whatever was lent
 abbrev pub Right : Row → Type 0
 Right (rule ⊨ claim) = (t : Tree) × IsRule (bytes rule) t × Holds t claim
-Right (refusedWith2 rule) = (before : List ℕ) → BuildSays (bytes rule) before (refused 2 before)
+Right (refusedWith2 rule p) = (before : List ℕ) → BuildSays (bytes rule) before (refusedAt p 2 before)
 
 -- the examples that document 01 marks P, in its order; `(a)*`, the last but one of them, is a rule since Wish 12 (`repeatedGroups`)
 abbrev pub marked : List Row
@@ -81,10 +81,10 @@ marked =
     ∷ "a|b" ⊨ hasStates 6
     ∷ "((a|b)|c)" ⊨ isWritten "((a|b)|c)"
     ∷ "[ba]" ⊨ isWritten "[a-b]"
-    ∷ refusedWith2 ""
-    ∷ refusedWith2 "()"
-    ∷ refusedWith2 "a||b"
-    ∷ refusedWith2 "[c-ab]"
+    ∷ refusedWith2 "" 0
+    ∷ refusedWith2 "()" 1
+    ∷ refusedWith2 "a||b" 2
+    ∷ refusedWith2 "[c-ab]" 3
     ∷ []
 
 -- document 02, Wish 3: which groups keep their `?`, and what the edge over them does
@@ -116,7 +116,7 @@ optionalGroups =
     ∷ "((ab)?)?" ⊨ isWritten "(ab)?"
     ∷ "((ab)?|c)?" ⊨ isWritten "((ab)?|c)"
     ∷ "(a{,2})?" ⊨ isWritten "a?a?"
-    ∷ refusedWith2 "(a)??"
+    ∷ refusedWith2 "(a)??" 4
     ∷ []
 
 -- document 02, Wish 12: groups with `*` and `+`, their states, and what their back edges do
@@ -160,10 +160,56 @@ repeatedGroups =
     ∷ "((ab)*)?" ⊨ isWritten "(ab)*"
     ∷ "((ab)?)*" ⊨ isWritten "((ab)?)*"
     ∷ "(((((((a)+)+)+)+)+)+)+" ⊨ hasStates 383
-    ∷ refusedWith2 "(a)**"
-    ∷ refusedWith2 "(a)*?"
-    ∷ refusedWith2 "(a)+?"
-    ∷ refusedWith2 "(a){2}"
+    ∷ refusedWith2 "(a)**" 4
+    ∷ refusedWith2 "(a)*?" 4
+    ∷ refusedWith2 "(a)+?" 4
+    ∷ refusedWith2 "(a){2}" 3
+    ∷ []
+
+-- document 02, Wish 2: places, its own three first; then what numbers, ranges, escapes and groups can still become
+abbrev pub places : List Row
+places =
+    refusedWith2 "" 0
+    ∷ refusedWith2 "a||b" 2
+    ∷ refusedWith2 "(a" 2
+    ∷ refusedWith2 "a{0}" 3
+    ∷ refusedWith2 "a{0,0" 4
+    ∷ refusedWith2 "a{,0" 3
+    ∷ refusedWith2 "a{00}" 3
+    ∷ refusedWith2 "a{3,2}" 5
+    ∷ refusedWith2 "a{30,20}" 7
+    ∷ refusedWith2 "a{300,2" 6
+    ∷ refusedWith2 "a{300,3" 7
+    ∷ refusedWith2 "a{10,0" 5
+    ∷ refusedWith2 "a{10,1" 6
+    ∷ refusedWith2 "a{999,98" 7
+    ∷ refusedWith2 "a{999,99" 8
+    ∷ refusedWith2 "a{1000}" 5
+    ∷ refusedWith2 "a{12x" 4
+    ∷ refusedWith2 "a{999" 5
+    ∷ refusedWith2 "[c-a" 3
+    ∷ refusedWith2 "[c-ab]" 3
+    ∷ refusedWith2 "[c-\\" 4
+    ∷ refusedWith2 "[c-\\-" 4
+    ∷ refusedWith2 "[c-\\|" 5
+    ∷ refusedWith2 "[c-\\x5" 5
+    ∷ refusedWith2 "[c-\\x6" 6
+    ∷ refusedWith2 "[c-\\x62]" 6
+    ∷ refusedWith2 "[\\xFF-\\" 7
+    ∷ refusedWith2 "[\\xFF-\\xE" 8
+    ∷ refusedWith2 "\\" 1
+    ∷ refusedWith2 "\\x" 2
+    ∷ refusedWith2 "\\x4" 3
+    ∷ refusedWith2 "\\xg" 2
+    ∷ refusedWith2 "\\X" 1
+    ∷ refusedWith2 "a??" 2
+    ∷ refusedWith2 "a{2" 3
+    ∷ refusedWith2 "[a" 2
+    ∷ refusedWith2 "a|" 2
+    ∷ refusedWith2 "(a)??" 4
+    ∷ refusedWith2 "(a){" 3
+    ∷ refusedWith2 "a)" 1
+    ∷ refusedWith2 "a\n" 1
     ∷ []
 
 -- further examples: those that document 01 lists without the mark and a checker can compute, and doubtful points
@@ -176,13 +222,13 @@ further =
     ∷ "[z-\\xFF\\-b-ea]" ⊨ isWritten "[\\-a-ez-\\xFF]"
     ∷ "\\x0a-\\x41[\\x00-\\xff]" ⊨ isWritten "\\x0A\\-A."
     ∷ "[^a]{1}$" ⊨ isWritten "[^a]$"
-    ∷ refusedWith2 "a{0}"
-    ∷ refusedWith2 "a{3,}"
-    ∷ refusedWith2 "a\n"
-    ∷ refusedWith2 "[a-]"
-    ∷ refusedWith2 "[.]"
-    ∷ refusedWith2 "\\X41"
-    ∷ refusedWith2 "a?*"
+    ∷ refusedWith2 "a{0}" 3
+    ∷ refusedWith2 "a{3,}" 4
+    ∷ refusedWith2 "a\n" 1
+    ∷ refusedWith2 "[a-]" 3
+    ∷ refusedWith2 "[.]" 1
+    ∷ refusedWith2 "\\X41" 1
+    ∷ refusedWith2 "a?*" 2
     ∷ []
 
 -- spellings: a text, a start, an end and the states that the bytes between them enter, right and wrong; and for an end the latest start

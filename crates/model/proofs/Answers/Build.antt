@@ -1,6 +1,6 @@
 -- Build's table gives every rule and every lent room exactly one answer: the one that reading the rule and comparing four numbers decides.
 use mathlib.Core.Path.{_≡_, refl, sym, ap, _∙_}
-use mathlib.Core.Logic.{_⊎_, inl, inr}
+use mathlib.Core.Logic.{_⊎_, inl, inr, _≢_}
 use mathlib.Core.Bool.{cond}
 use mathlib.Core.List.{List}
 use mathlib.Core.Option.{Option, none, some}
@@ -12,11 +12,13 @@ use Rattle.model.specs.Tree.{Tree}
 use Rattle.model.specs.Grammar.{IsRule}
 use Rattle.model.specs.Edges.{depth, states}
 use Rattle.model.specs.Image.{image}
-use Rattle.model.specs.Answers.{BuildSays, built, Counted, done, no-room, not-a-rule, refused, rule-too-long, too-deep, too-many-states}
-use Rattle.model.specs.Models.Reader.{readRule}
+use Rattle.model.specs.Place.{PlaceIs}
+use Rattle.model.specs.Answers.{BuildSays, built, Counted, done, no-room, not-a-rule, refused, refusedAt, rule-too-long, too-deep, too-many-states}
+use Rattle.model.specs.Models.Reader.{readPlace, readRule}
 use Rattle.model.proofs.Answers.One.{one-answer}
 use Rattle.model.proofs.Laws.Bool.{le-or-lt, pick-gt, pick-le}
 use Rattle.model.proofs.Reading.Decides.{reads}
+use Rattle.model.proofs.Reading.Place.{one-place, place-is}
 
 -- ---- the answer, computed: checks 3 to 5 on a tree, check 2 on what was read, check 1 on the rule
 abbrev treeAnswer : Tree → List ℕ → Counted
@@ -25,12 +27,12 @@ treeAnswer t before =
     (cond (leb (depth t) 8) (cond (leb (length (image t)) (length before)) (done (image t) before) (refused 5 before)) (refused 4 before))
     (refused 3 before)
 
-abbrev readAnswer : Option Tree → List ℕ → Counted
-readAnswer none before = refused 2 before
-readAnswer (some t) before = treeAnswer t before
+abbrev readAnswer : (place : ℕ) → Option Tree → List ℕ → Counted
+readAnswer p none before = refusedAt p 2 before
+readAnswer p (some t) before = treeAnswer t before
 
 abbrev pub buildAnswer : List ℕ → List ℕ → Counted
-buildAnswer rule before = cond (leb (length rule) 1024) (readAnswer (readRule rule) before) (refused 1 before)
+buildAnswer rule before = cond (leb (length rule) 1024) (readAnswer (readPlace rule) (readRule rule) before) (refused 1 before)
 
 -- ---- a check that fails, and one that passes
 module _ (t : Tree) (before : List ℕ) where
@@ -57,14 +59,14 @@ module _ (t : Tree) (before : List ℕ) where
 
 -- ---- what the table says is that answer
 module _ (rule before : List ℕ) where
-  short : length rule ≤ 1024 → buildAnswer rule before ≡ readAnswer (readRule rule) before
-  short l = pick-le (length rule) 1024 (readAnswer (readRule rule) before) (refused 1 before) l
+  short : length rule ≤ 1024 → buildAnswer rule before ≡ readAnswer (readPlace rule) (readRule rule) before
+  short l = pick-le (length rule) 1024 (readAnswer (readPlace rule) (readRule rule) before) (refused 1 before) l
 
   long : 1024 < length rule → buildAnswer rule before ≡ refused 1 before
-  long l = pick-gt (length rule) 1024 (readAnswer (readRule rule) before) (refused 1 before) l
+  long l = pick-gt (length rule) 1024 (readAnswer (readPlace rule) (readRule rule) before) (refused 1 before) l
 
   read : (t : Tree) → length rule ≤ 1024 → IsRule rule t → buildAnswer rule before ≡ treeAnswer t before
-  read t l d = short l ∙ ap (λ (o : Option Tree). readAnswer o before) (reads rule t .0 d)
+  read t l d = short l ∙ ap (λ (o : Option Tree). readAnswer (readPlace rule) o before) (reads rule t .0 d)
 
   unread : ((t : Tree) → IsRule rule t → ⊥) → readRule rule ≡ none
   unread f = go (readRule rule) refl
@@ -75,7 +77,9 @@ module _ (rule before : List ℕ) where
 
   build-is : (a : Counted) → BuildSays rule before a → a ≡ buildAnswer rule before
   build-is a (rule-too-long l e) = e ∙ sym (long l)
-  build-is a (not-a-rule l f e) = e ∙ sym (short l ∙ ap (λ (o : Option Tree). readAnswer o before) (unread f))
+  build-is a (not-a-rule p l f P e) =
+      e ∙ ap (λ (k : ℕ). refusedAt k 2 before) (one-place rule p (readPlace rule) P (place-is rule))
+      ∙ sym (short l ∙ ap (λ (o : Option Tree). readAnswer (readPlace rule) o before) (unread f))
   build-is a (too-many-states t l d m e) = e ∙ sym (read t l d ∙ many t before m)
   build-is a (too-deep t l d m k e) = e ∙ sym (read t l d ∙ deep t before m k)
   build-is a (no-room t l d m k r e) = e ∙ sym (read t l d ∙ wide t before m k r)
@@ -102,7 +106,9 @@ module _ (rule before : List ℕ) where
       few t l d (inr m) = too-many-states t l d m (read t l d ∙ many t before m)
 
       known : length rule ≤ 1024 → (o : Option Tree) → readRule rule ≡ o → Said
-      known l none e = not-a-rule l (λ t d. no-tree t (sym e ∙ reads rule t .0 d)) (short l ∙ ap (λ (o : Option Tree). readAnswer o before) e)
+      known l none e =
+          not-a-rule (readPlace rule) l (λ t d. no-tree t (sym e ∙ reads rule t .0 d)) (place-is rule)
+          (short l ∙ ap (λ (o : Option Tree). readAnswer (readPlace rule) o before) e)
         where
           no-tree : (t : Tree) → none ≡ some t → ⊥
           no-tree t p = let z : _≡_ {A = ℕ} 0 1 = cc in omega arith
@@ -115,3 +121,21 @@ module _ (rule before : List ℕ) where
 -- TWO ANSWERS THAT MEET BUILD'S TABLE FOR ONE INPUT ARE EQUAL
 pub build-one : (rule before : List ℕ) (a b : Counted) → BuildSays rule before a → BuildSays rule before b → a ≡ b
 build-one rule before = one-answer (build-is rule before)
+
+-- "WITH 2 THE BUILDER SHALL ALSO GIVE A PLACE"
+pub place-with-2 : (rule before : List ℕ) (a : Counted) → BuildSays rule before a → a .number ≡ 2 → PlaceIs rule (a .place)
+place-with-2 rule before a (rule-too-long l e) z = absurd (omega (arith, ap (λ (x : Counted). x .number) e))
+place-with-2 rule before a (not-a-rule p l f P e) z = rw e P
+place-with-2 rule before a (too-many-states t l d m e) z = absurd (omega (arith, ap (λ (x : Counted). x .number) e))
+place-with-2 rule before a (too-deep t l d m k e) z = absurd (omega (arith, ap (λ (x : Counted). x .number) e))
+place-with-2 rule before a (no-room t l d m k r e) z = absurd (omega (arith, ap (λ (x : Counted). x .number) e))
+place-with-2 rule before a (built t l d m k r e) z = absurd (omega (arith, ap (λ (x : Counted). x .number) e))
+
+-- "ALL OTHER ANSWERS CARRY PLACE 0"
+pub no-place-else : (rule before : List ℕ) (a : Counted) → BuildSays rule before a → a .number ≢ 2 → a .place ≡ 0
+no-place-else rule before a (rule-too-long l e) z = rw e
+no-place-else rule before a (not-a-rule p l f P e) z = absurd (z (rw e))
+no-place-else rule before a (too-many-states t l d m e) z = rw e
+no-place-else rule before a (too-deep t l d m k e) z = rw e
+no-place-else rule before a (no-room t l d m k r e) z = rw e
+no-place-else rule before a (built t l d m k r e) z = rw e

@@ -27,7 +27,7 @@ first-words whole before l =
 -- AN ACCEPTED RULE'S WORDS ARE THE IMAGE OF ITS TREE, within the limits
 pub accepted : (rule before : List ℕ) (a : Counted) → BuildSays rule before a → a .number ≡ 0 → (t : Tree) → IsRule rule t → ImageOf (resultOf a) t
 accepted rule before a (rule-too-long l e) z t d = absurd (omega (arith, ap (λ (x : Counted). x .number) e))
-accepted rule before a (not-a-rule l f e) z t d = absurd (f t d)
+accepted rule before a (not-a-rule p l f P e) z t d = absurd (f t d)
 accepted rule before a (too-many-states u l d m e) z t c = absurd (omega (arith, ap (λ (x : Counted). x .number) e))
 accepted rule before a (too-deep u l d m k e) z t c = absurd (omega (arith, ap (λ (x : Counted). x .number) e))
 accepted rule before a (no-room u l d m k r e) z t c = absurd (omega (arith, ap (λ (x : Counted). x .number) e))

@@ -9,6 +9,7 @@ use lib.Dec.{T, T-not, not-T, eqb, eqb→eq}
 use lib.ListN.{length}
 use Rattle.model.specs.Lists.{any, within}
 use Rattle.model.specs.Bytes.{byte, bytes}
+use Rattle.model.specs.Models.Places.{closes, free}
 use Rattle.model.specs.Models.Reader.{bad, bind, case, got, over, past, Read}
 use Rattle.model.proofs.Laws.Bool.{cond-cases, is-false, not-not, unequal}
 use Rattle.model.proofs.Laws.Lists.{any-in, any-out}
@@ -84,17 +85,7 @@ among f x ys w k = not-not (f x) (λ n. T-not (any (λ y. not (f y)) ys) k (with
 pub past-other : (f : ℕ → Bool) (x y : ℕ) (ys : List ℕ) → T (f y) → T (not (f x)) → past x (y ∷ ys) ≡ bad (y ∷ ys)
 past-other f x y ys h k = rw (unequal y x (λ e. T-not (f x) k (subst (λ (z : ℕ). T (f z)) e h)))
 
--- ---- what may come next
--- after alternatives, unless `|` goes on with them
-abbrev pub closes : List ℕ → Bool
-closes [] = true
-closes (x ∷ xs) = within x (bytes ")")
-
--- no repeat sign comes next
-abbrev pub free : List ℕ → Bool
-free [] = true
-free (x ∷ xs) = not (within x (bytes "?*+{"))
-
+-- ---- what may come next (`closes`, `free`: specs/Models/Places)
 -- an item may begin so
 abbrev pub opens : List ℕ → Bool
 opens [] = false

@@ -32,7 +32,7 @@ item-short : (l u r : List ℕ) {s : Seq} → l ≡ u ++ r → IsItem u s → le
 item-short l u r e d = omega (arith, ap length e, length-append u r, opens-long u (item-opens d))
 
 -- ---- a body gives the same where what it calls agrees on shorter lists
-bind-same : {A B : Type 0} {X : List ℕ → A → Type 0} {l : List ℕ} {m : Read A} {f g : A → List ℕ → Read B}
+pub bind-same : {A B : Type 0} {X : List ℕ → A → Type 0} {l : List ℕ} {m : Read A} {f g : A → List ℕ → Read B}
     → Sound X l m → ((u : List ℕ) (a : A) (r : List ℕ) → l ≡ u ++ r → X u a → f a r ≡ g a r) → bind m f ≡ bind m g
 bind-same (took u {a} {r} e d) h = h u a r e d
 bind-same stopped h = refl

@@ -11,20 +11,21 @@ use lib.ListN.{length, length-append}
 use Rattle.model.specs.Bytes.{byte, bytes}
 use Rattle.model.specs.Tree.{Alts, once, Repeat, Seq}
 use Rattle.model.specs.Grammar.{also, any-number, bracket, group, IsAlts, IsItem, IsMark, IsRule, IsSeq, item, lone, nothing, only, query, rule, some-number, then}
+use Rattle.model.specs.Models.Places.{closes, free}
 use Rattle.model.specs.Models.Reader.{bad, got, over, Read, readAlts, readItem, readMark, readPiece, readRule, readSeq, whole}
 use Rattle.model.proofs.Laws.Bool.{is-true}
-use Rattle.model.proofs.Reading.Answers.{begins-append, begins-opens, begins-past, bind-past-sound, bind-sound, case-past-sound, closes, closes-over, closes-past, cond-sound, equal-sound, free, free-other, opens, opens-append, opens-free, opens-long, opens-over, over-free, parted, Sound, stopped, took}
+use Rattle.model.proofs.Reading.Answers.{begins-append, begins-opens, begins-past, bind-past-sound, bind-sound, case-past-sound, closes-over, closes-past, cond-sound, equal-sound, free-other, opens, opens-append, opens-free, opens-long, opens-over, over-free, parted, Sound, stopped, took}
 use Rattle.model.proofs.Reading.Letters.{complete-letter, letter-begins, sound-letter}
 use Rattle.model.proofs.Reading.Signs.{complete-sign, sound-sign}
 
 -- ---- what is read is in the grammar
-sound-piece : (l : List ℕ) → Sound IsItem l (readPiece l)
+pub sound-piece : (l : List ℕ) → Sound IsItem l (readPiece l)
 sound-piece l =
     bind-sound (sound-letter l) (λ u c r e d.
     bind-sound (sound-sign r) (λ v q r′ f b.
     took (u ++ v) (cc (append-assoc u v r′)) (lone refl refl d b)))
 
-sound-mark : (l : List ℕ) → Sound IsMark l (readMark l)
+pub sound-mark : (l : List ℕ) → Sound IsMark l (readMark l)
 sound-mark [] = took [] refl (nothing refl refl)
 sound-mark (x ∷ xs) =
     equal-sound x (byte "?") (λ e. took (bytes "?") (ap (λ (y : ℕ). y ∷ xs) e) (query refl refl))
@@ -32,7 +33,7 @@ sound-mark (x ∷ xs) =
     (equal-sound x (byte "+") (λ e. took (bytes "+") (ap (λ (y : ℕ). y ∷ xs) e) (some-number refl refl)) (took [] refl (nothing refl refl))))
 
 mutual
-  sound-alts : (n : ℕ) (l : List ℕ) → Sound IsAlts l (readAlts n l)
+  pub sound-alts : (n : ℕ) (l : List ℕ) → Sound IsAlts l (readAlts n l)
   sound-alts zero l = stopped
   sound-alts (suc n) l =
       bind-sound (sound-seq n l) (λ u s r e d.
@@ -81,14 +82,14 @@ free-mark [] h = refl
 free-mark (x ∷ xs) h =
     rw (free-other x xs (byte "?") h tt, free-other x xs (byte "*") h tt, free-other x xs (byte "+") h tt)
 
-complete-mark : {w : List ℕ} {q : Repeat} → IsMark w q → (r : List ℕ) → T (free r) → readMark (w ++ r) ≡ got q r
+pub complete-mark : {w : List ℕ} {q : Repeat} → IsMark w q → (r : List ℕ) → T (free r) → readMark (w ++ r) ≡ got q r
 complete-mark (nothing p q) r c = rw (p, q) (free-mark r c)
 complete-mark (query p q) r c = rw (p, q)
 complete-mark (any-number p q) r c = rw (p, q)
 complete-mark (some-number p q) r c = rw (p, q)
 
 mutual
-  complete-alts : {w : List ℕ} {a : Alts} → IsAlts w a → (n : ℕ) (r : List ℕ) → T (closes r) → 3 * length (w ++ r) + 3 ≤ n → readAlts n (w ++ r) ≡ got a r
+  pub complete-alts : {w : List ℕ} {a : Alts} → IsAlts w a → (n : ℕ) (r : List ℕ) → T (closes r) → 3 * length (w ++ r) + 3 ≤ n → readAlts n (w ++ r) ≡ got a r
   complete-alts (only d) zero r c k = absurd (omega arith)
   complete-alts (only d) (suc n) r c k = rw (complete-seq d n r (closes-over r c) (omega arith), closes-past r c)
   complete-alts (also p d b) zero r c k = absurd (omega arith)
@@ -97,7 +98,7 @@ mutual
       let size = ap length e in
       rw (e, complete-seq d n (byte "|" ∷ (v ++ r)) tt (omega arith), complete-alts b n r c (omega (arith, length-append u (byte "|" ∷ (v ++ r)))))
 
-  complete-seq : {w : List ℕ} {s : Seq} → IsSeq w s → (n : ℕ) (r : List ℕ) → T (over r) → 3 * length (w ++ r) + 2 ≤ n → readSeq n (w ++ r) ≡ got s r
+  pub complete-seq : {w : List ℕ} {s : Seq} → IsSeq w s → (n : ℕ) (r : List ℕ) → T (over r) → 3 * length (w ++ r) + 2 ≤ n → readSeq n (w ++ r) ≡ got s r
   complete-seq (item d) zero r c k = absurd (omega arith)
   complete-seq (item d) (suc n) r c k = rw (complete-item d n r (over-free r c) (omega arith), is-true (over r) c)
   complete-seq (then p q d b) zero r c k = absurd (omega arith)
@@ -113,7 +114,7 @@ mutual
         q,
       )
 
-  complete-item : {w : List ℕ} {s : Seq} → IsItem w s → (n : ℕ) (r : List ℕ) → T (free r) → 3 * length (w ++ r) + 1 ≤ n → readItem n (w ++ r) ≡ got s r
+  pub complete-item : {w : List ℕ} {s : Seq} → IsItem w s → (n : ℕ) (r : List ℕ) → T (free r) → 3 * length (w ++ r) + 1 ≤ n → readItem n (w ++ r) ≡ got s r
   complete-item (lone p q d b) zero r c k = absurd (omega arith)
   complete-item (lone {w} {u} {v} p q d b) (suc n) r c k =
       rw (parted w u v r p, begins-past (u ++ (v ++ r)) (begins-append u (v ++ r) (letter-begins d)), complete-letter d (v ++ r), complete-sign b r c, q)

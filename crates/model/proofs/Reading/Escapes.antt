@@ -40,7 +40,7 @@ capital x = leb (byte "A") x && leb x (byte "F")
 abbrev small : ℕ → Bool
 small x = leb (byte "a") x && leb x (byte "f")
 
-hex-of : (x : ℕ) → T (hexadecimal x) → IsHex x (hexValue x)
+pub hex-of : (x : ℕ) → T (hexadecimal x) → IsHex x (hexValue x)
 hex-of x h = go (or-split (digital x) (capital x || small x) h)
   where
     letter : T (capital x) ⊎ T (small x) → IsHex x (hexValue x)

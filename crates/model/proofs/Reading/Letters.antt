@@ -20,22 +20,22 @@ use Rattle.model.proofs.Reading.Escapes.{complete-escape, escape-tail, 
 use Rattle.model.proofs.Words.Bits.{bit-ext, bit-or}
 
 -- ---- singles
-sound-single : (lo : ℕ) (l : List ℕ) → Sound (Least lo IsSingle) l (readSingle lo l)
+pub sound-single : (lo : ℕ) (l : List ℕ) → Sound (Least lo IsSingle) l (readSingle lo l)
 sound-single lo [] = stopped
 sound-single lo (x ∷ xs) =
     cond-sound (bare x)
     (λ h. cond-sound (leb lo x) (λ k. took (x ∷ []) refl (itself refl h, leb→le lo x k)) (λ k. stopped))
     (λ g. equal-sound x (byte "\\") (λ e. map-sound (sound-escape lo xs) (λ u b r f d. took u (ap (λ (y : ℕ). y ∷ xs) e ∙ f) (escaped (d .0), d .1))) stopped)
 
-complete-single : {w : List ℕ} {b : ℕ} (lo : ℕ) → lo ≤ b → IsSingle w b → (r : List ℕ) → readSingle lo (w ++ r) ≡ got b r
+pub complete-single : {w : List ℕ} {b : ℕ} (lo : ℕ) → lo ≤ b → IsSingle w b → (r : List ℕ) → readSingle lo (w ++ r) ≡ got b r
 complete-single lo g (itself {b} p h) r = rw (p, is-true (bare b) h, le-true lo b g)
 complete-single lo g (escaped d) r = rw (escape-tail d .1, complete-escape lo g d r)
 
 -- a member may begin with this byte; so
-abbrev inner : ℕ → Bool
+abbrev pub inner : ℕ → Bool
 inner x = not (within x (bytes "-]"))
 
-abbrev inside : List ℕ → Bool
+abbrev pub inside : List ℕ → Bool
 inside [] = false
 inside (x ∷ xs) = inner x
 
@@ -47,7 +47,7 @@ inside-past : (l : List ℕ) (y : ℕ) → T (inside l) → T (not (inner y)) �
 inside-past [] y h k = absurd h
 inside-past (x ∷ xs) y h k = past-other inner y x xs h k
 
-inside-long : (u : List ℕ) → T (inside u) → 1 ≤ length u
+pub inside-long : (u : List ℕ) → T (inside u) → 1 ≤ length u
 inside-long [] h = absurd h
 inside-long (x ∷ xs) h = omega arith
 
@@ -56,7 +56,7 @@ single-inside (itself {b} p h) = rw p (not-among bare b (bytes "-]") h tt)
 single-inside (escaped d) = rw (escape-tail d .1) tt
 
 -- ---- members
-sound-member : (l : List ℕ) → Sound IsMember l (readMember l)
+pub sound-member : (l : List ℕ) → Sound IsMember l (readMember l)
 sound-member l =
     bind-sound (sound-single 0 l) (λ u lo r e d.
     case-past-sound (byte "-") r
@@ -78,11 +78,11 @@ module _ (between : ℕ → ℕ → ℕ) where
   between-range {w} {u} {v} {lo = lo} p q k d b r =
       rw (parted w u (byte "-" ∷ v) r p, complete-single 0 (omega arith) d (byte "-" ∷ (v ++ r)), complete-single lo k b r, q)
 
-complete-member : {w : List ℕ} {c : ℕ} → IsMember w c → (r : List ℕ) → past (byte "-") r ≡ bad r → readMember (w ++ r) ≡ got c r
+pub complete-member : {w : List ℕ} {c : ℕ} → IsMember w c → (r : List ℕ) → past (byte "-") r ≡ bad r → readMember (w ++ r) ≡ got c r
 complete-member (single q d) r f = between-single span q d r f
 complete-member (range p q k d b) r f = between-range span p q k d b r
 
-member-inside : {w : List ℕ} {c : ℕ} → IsMember w c → T (inside w)
+pub member-inside : {w : List ℕ} {c : ℕ} → IsMember w c → T (inside w)
 member-inside (single q d) = single-inside d
 member-inside (range {u} {v} p q k d b) = rw p (inside-append u (byte "-" ∷ v) (single-inside d))
 
@@ -113,14 +113,14 @@ or-regroup a b c =
     z = omega (arith, below-power k)
 
 -- w is members and `]`, and z is what c and those members make
-data Closed (c : ℕ) : List ℕ → ℕ → Type 0 where
+pub data Closed (c : ℕ) : List ℕ → ℕ → Type 0 where
   closed : {w u : List ℕ} {z d : ℕ} → w ≡ u ++ bytes "]" → z ≡ bitOr c d → IsMembers u d → Closed c w z
 
-one-more : (c : ℕ) {u v : List ℕ} {d z : ℕ} → IsMember u d → Closed (bitOr c d) v z → Closed c (u ++ v) z
+pub one-more : (c : ℕ) {u v : List ℕ} {d z : ℕ} → IsMember u d → Closed (bitOr c d) v z → Closed c (u ++ v) z
 one-more c {u} {d} m (closed {u = t} {d = e} p q b) =
     closed (ap (λ (x : List ℕ). u ++ x) p ∙ sym (append-assoc u t (bytes "]"))) (q ∙ or-regroup c d e) (beside refl refl m b)
 
-sound-members : (n c : ℕ) (l : List ℕ) → Sound (Closed c) l (readMembers n c l)
+pub sound-members : (n c : ℕ) (l : List ℕ) → Sound (Closed c) l (readMembers n c l)
 sound-members zero c l = stopped
 sound-members (suc n) c l =
     bind-sound (sound-member l) (λ u d r e m.
@@ -128,7 +128,7 @@ sound-members (suc n) c l =
     (λ z r′ p. took (u ++ bytes "]") (cc (append-assoc u (bytes "]") r′)) (closed refl refl (member m)))
     (map-sound (sound-members n (bitOr c d) r) (λ v z r′ f b. took (u ++ v) (cc (append-assoc u v r′)) (one-more c m b))))
 
-complete-members : {w : List ℕ} {d : ℕ} → IsMembers w d → (n c : ℕ) (r : List ℕ) → length w ≤ n → readMembers n c (w ++ (byte "]" ∷ r)) ≡ got (bitOr c d) r
+pub complete-members : {w : List ℕ} {d : ℕ} → IsMembers w d → (n c : ℕ) (r : List ℕ) → length w ≤ n → readMembers n c (w ++ (byte "]" ∷ r)) ≡ got (bitOr c d) r
 complete-members (member {w} d) zero c r k = absurd (omega (arith, inside-long w (member-inside d)))
 complete-members (member d) (suc n) c r k = rw (complete-member d (byte "]" ∷ r) refl)
 complete-members (beside {w} p q d b) zero c r k = absurd (omega (arith, inside-long w (members-inside (beside p q d b))))
@@ -144,6 +144,9 @@ complete-members (beside {w} {u} {v} {d = y} {e = z} p q d b) (suc n) c r k =
     )
 
 -- ---- letters
+pub all-of : {u : List ℕ} {c : ℕ} → Closed 0 u c → IsLetter (byte "[" ∷ u) c
+all-of (closed {d} p q b) = rw (p, q, or-zero-l d) (class refl b)
+
 pub sound-letter : (l : List ℕ) → Sound IsLetter l (readLetter l)
 sound-letter [] = stopped
 sound-letter (x ∷ xs) =
@@ -151,9 +154,6 @@ sound-letter (x ∷ xs) =
     equal-sound x (byte ".") (λ e. took (bytes ".") (cc) (dot refl refl))
     (equal-sound x (byte "[") (λ e. map-sound (sound-members (suc (length xs)) 0 xs) (λ u c r f d. took (byte "[" ∷ u) (cc) (all-of d)))
     (equal-sound x (byte "\\") (λ e. bind-sound (sound-escape 0 xs) (λ u b r f d. took u (cc) (escape refl (d .0)))) stopped)))
-  where
-    all-of : {u : List ℕ} {c : ℕ} → Closed 0 u c → IsLetter (byte "[" ∷ u) c
-    all-of (closed {d} p q b) = rw (p, q, or-zero-l d) (class refl b)
 
 pub complete-letter : {w : List ℕ} {c : ℕ} → IsLetter w c → (r : List ℕ) → readLetter (w ++ r) ≡ got c r
 complete-letter (plain-byte {b} p q h) r = rw (p, is-true (plain b) h, q)

@@ -1,7 +1,8 @@
 -- Repeat signs: the reader and the grammar agree. A number goes on as long as digits come, `,` and `}` are no digits, and a letter's sign is
 -- absent exactly if none of `? * + {` comes next.
 use mathlib.Core.Path.{_≡_, refl, subst}
-use mathlib.Core.Bool.{Bool, true, false, not}
+use mathlib.Core.Logic.{_⊎_, inl, inr}
+use mathlib.Core.Bool.{false, not}
 use mathlib.Core.List.{List, [], _∷_, _++_, append-assoc}
 use Prim.Native.Nat.{ℕ, zero, suc, _+_, _-_, _*_, _≤_, max}
 use native.Mathlib.Omega.{arith}
@@ -10,9 +11,10 @@ use Rattle.model.specs.Lists.{within}
 use Rattle.model.specs.Bytes.{byte, bytes, digit, digital, IsDigit}
 use Rattle.model.specs.Tree.{once}
 use Rattle.model.specs.Grammar.{absent, asterisk, both, braces, cross, IsBounds, IsNumber, IsSign, one, plainly, question, same, Sign, three, two, upto}
+use Rattle.model.specs.Models.Places.{free, halts}
 use Rattle.model.specs.Models.Reader.{bad, got, past, reach, readBounds, readBraces, readDigits, readNumber, readSign, stop}
 use Rattle.model.proofs.Laws.Bool.{is-false, is-true, le-true, unequal}
-use Rattle.model.proofs.Reading.Answers.{bind-past-sound, bind-sound, case-past-sound, cond-sound, equal-sound, free, parted, past-other, Sound, stopped, took}
+use Rattle.model.proofs.Reading.Answers.{bind-past-sound, bind-sound, case-past-sound, cond-sound, equal-sound, parted, past-other, Sound, stopped, took}
 use Rattle.model.proofs.Reading.Escapes.{digit-of, digit-value, digital-of, Least}
 
 -- ---- numbers
@@ -38,14 +40,14 @@ module _ (m x : ℕ) (h : T (digital x)) (k : 1 ≤ x - byte "0") where
       (λ g. sound-stop m _ _ (x ∷ []) (y ∷ ys) refl (one refl (digit-of x h)))
 
 -- a digit that is not `0` means at least 1
-not-nought : (x : ℕ) → T (digital x) → T (not (eqb x (byte "0"))) → 1 ≤ x - byte "0"
+pub not-nought : (x : ℕ) → T (digital x) → T (not (eqb x (byte "0"))) → 1 ≤ x - byte "0"
 not-nought x h k = go (digit-of x h) (x - byte "0") refl
   where
     go : IsDigit x (x - byte "0") → (d : ℕ) → x - byte "0" ≡ d → 1 ≤ x - byte "0"
     go (digit p q) zero e = let z : x ≡ byte "0" = omega arith in absurd (rw z at k)
     go (digit p q) (suc d) e = omega arith
 
-sound-number : (m : ℕ) (l : List ℕ) → Sound (Least m IsNumber) l (readNumber m l)
+pub sound-number : (m : ℕ) (l : List ℕ) → Sound (Least m IsNumber) l (readNumber m l)
 sound-number m [] = stopped
 sound-number m (x ∷ xs) =
     cond-sound (digital x)
@@ -53,11 +55,6 @@ sound-number m (x ∷ xs) =
     (λ g. cond-sound (leb m 0) (λ i. took (x ∷ []) refl (one refl (digit (omega (arith, eqb→eq)) (omega arith)), leb→le m 0 i)) (λ i. stopped))
     (λ g. cond-sound (leb m (reach 2 (x - byte "0"))) (λ i. sound-second m x h (not-nought x h g) xs) (λ i. stopped)))
     (λ h. stopped)
-
--- no digit comes next
-abbrev halts : List ℕ → Bool
-halts [] = true
-halts (x ∷ xs) = not (digital x)
 
 -- a number ends where no digit comes next
 digits-halt : (k m v : ℕ) (r : List ℕ) → m ≤ v → T (halts r) → readDigits k m v r ≡ got v r
@@ -72,7 +69,7 @@ leading (digit {x} p q) h = unequal x (byte "0") (omega arith)
 digit-small : {x d : ℕ} → IsDigit x d → d ≤ 9
 digit-small (digit p h) = h
 
-complete-number : {w : List ℕ} {n : ℕ} (m : ℕ) → m ≤ n → IsNumber w n → (r : List ℕ) → T (halts r) → readNumber m (w ++ r) ≡ got n r
+pub complete-number : {w : List ℕ} {n : ℕ} (m : ℕ) → m ≤ n → IsNumber w n → (r : List ℕ) → T (halts r) → readNumber m (w ++ r) ≡ got n r
 complete-number m g (one {n = zero} {x} p (digit q h)) r f = rw (p, q, le-true m 0 g)
 complete-number m g (one {n = suc n} {x} p d) r f =
     rw (p, is-true (digital x) (digital-of d), leading d (omega arith), digit-value d, le-true m (10 * (10 * suc n + 9) + 9) (omega arith))
@@ -114,22 +111,29 @@ number-past (two {x} {y} p q k a b) r = rw p (past-other digital (byte ",") x (y
 number-past (three {x} {y} {z} p q k a b c) r = rw p (past-other digital (byte ",") x (y ∷ z ∷ r) (digital-of a) tt)
 
 -- ---- bounds
--- in order
-record Bounds (w : List ℕ) (b : ℕ × ℕ) : Type 0 where
-  is : IsBounds w (b .0) (b .1)
-  ordered : b .0 ≤ b .1
+-- in order, and at least 1 or just the number 0
+pub record Bounds (w : List ℕ) (b : ℕ × ℕ) : Type 0 where
+  pub is : IsBounds w (b .0) (b .1)
+  pub ordered : b .0 ≤ b .1
+  pub some-or-nought : (1 ≤ b .1) ⊎ IsNumber w 0
 
-sound-bounds : (l : List ℕ) → Sound Bounds l (readBounds l)
+some-or : {u : List ℕ} (x : ℕ) → IsNumber u x → (1 ≤ x) ⊎ IsNumber u 0
+some-or zero d = inr d
+some-or (suc x) d = inl (omega arith)
+
+pub sound-bounds : (l : List ℕ) → Sound Bounds l (readBounds l)
 sound-bounds l =
     case-past-sound (byte ",") l
-    (λ z r p. bind-sound (sound-number 1 r) (λ v y r′ f b. took (byte "," ∷ v) (cc) (record { is = upto refl refl (b .0); ordered = omega arith })))
+    (λ z r p. bind-sound (sound-number 1 r) (λ v y r′ f b. took (byte "," ∷ v) (cc)
+    (record { is = upto refl refl (b .0); ordered = omega arith; some-or-nought = inl (b .1) })))
     (bind-sound (sound-number 0 l) (λ u x r e a.
     case-past-sound (byte ",") r
     (λ z r′ p. bind-sound (sound-number (max x 1) r′) (λ v y r″ f b.
-    took (u ++ (byte "," ∷ v)) (cc (append-assoc u (byte "," ∷ v) r″)) (record { is = both refl (a .0) (b .0); ordered = omega (arith, b .1) })))
-    (took u e (record { is = same refl (a .0); ordered = omega arith }))))
+    took (u ++ (byte "," ∷ v)) (cc (append-assoc u (byte "," ∷ v) r″))
+    (record { is = both refl (a .0) (b .0); ordered = omega (arith, b .1); some-or-nought = inl (omega (arith, b .1)) })))
+    (took u e (record { is = same refl (a .0); ordered = omega arith; some-or-nought = some-or x (a .0) }))))
 
-complete-bounds : {w : List ℕ} {x y : ℕ} → x ≤ y → 1 ≤ y → IsBounds w x y → (r : List ℕ) → readBounds (w ++ (byte "}" ∷ r)) ≡ got (x, y) (byte "}" ∷ r)
+pub complete-bounds : {w : List ℕ} {x y : ℕ} → x ≤ y → 1 ≤ y → IsBounds w x y → (r : List ℕ) → readBounds (w ++ (byte "}" ∷ r)) ≡ got (x, y) (byte "}" ∷ r)
 complete-bounds i j (both {w} {u} {v} {x} p a b) r =
     let s = byte "," ∷ (v ++ (byte "}" ∷ r)) in
     rw (
@@ -142,7 +146,7 @@ complete-bounds i j (same p a) r = rw (number-past a (byte "}" ∷ r), complete-
 complete-bounds i j (upto p q b) r = rw (p, complete-number 1 j b (byte "}" ∷ r) tt, q)
 
 -- ---- signs
-sound-braces : (l : List ℕ) → Sound IsSign (byte "{" ∷ l) (readBraces l)
+pub sound-braces : (l : List ℕ) → Sound IsSign (byte "{" ∷ l) (readBraces l)
 sound-braces l =
     bind-sound (sound-bounds l) (λ u b r e d.
     cond-sound (leb 1 (b .1))

@@ -68,7 +68,7 @@ escape-small : {w : List ℕ} {b : ℕ} → IsEscape w b → b < 256
 escape-small (sign {b} p h) = ltb→lt b 256 (among (λ y. ltb y 256) b (byte "-" ∷ signs) h tt)
 escape-small (number p q h k) = omega (arith, hex-small h, hex-small k)
 
-single-small : {w : List ℕ} {b : ℕ} → IsSingle w b → b < 256
+pub single-small : {w : List ℕ} {b : ℕ} → IsSingle w b → b < 256
 single-small (itself {b} p h) = plain-small b (and-split (plain b) (not (eqb b (byte "-"))) h .0)
 single-small (escaped d) = escape-small d
 

@@ -73,7 +73,7 @@ module _ (words text : List ℕ) (start end : ℕ) (states : List ℕ) where
 
 -- ---- PROPOSE, computed: all but the states, which are free; of the lent list the places after them
 abbrev pub settled : Proposal → Proposal
-settled a = record { number = a .number; given = a .given; lent = drop (a .given .count) (a .lent) }
+settled a = record { number = a .number; place = a .place; given = a .given; lent = drop (a .given .count) (a .lent) }
 
 abbrev proposeAt : Option ℕ → (end : ℕ) (before : List ℕ) → Proposal
 proposeAt none end before = proposes-none 16 before

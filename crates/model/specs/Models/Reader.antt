@@ -181,3 +181,11 @@ whole (got a (x ∷ xs)) = none
 -- THE READER OF RULES: the tree of a rule, if the bytes are one
 abbrev pub readRule : List ℕ → Option Seq
 readRule w = whole (alts w)
+
+-- AND OF PLACES: how many bytes were passed before the reader of alternatives stopped
+abbrev pub left : {A : Type 0} → Read A → List ℕ
+left (got a r) = r
+left (bad r) = r
+
+abbrev pub readPlace : List ℕ → ℕ
+readPlace w = length w - length (left (alts w))

@@ -1,7 +1,7 @@
 -- READING AND WRITING RULES. The model of the readers (specs/Models/Reader) decides the grammar, so a rule has one tree (Answers to Decides, in
 -- this order, with the readers' equations for code in Cycle); and the plain writing of a tree is a rule with that tree (WellFormed to Written).
 -- Where a rule went wrong (document 02, Wish 2), Firm to Place: a reader looks no further than the byte at which it stops (Firm), what it has
--- passed can be completed (Opens, OpensItems), so it stops at its place (Local; Positions for code), and the reader of rules at the rule's.
+-- passed can be completed (Opens, OpensItems), so it stops at its place (Placed; Positions for code), and the reader of rules at the rule's.
 pub mod Answers
 pub mod Escapes
 pub mod Letters
@@ -11,7 +11,7 @@ pub mod Cycle
 pub mod Firm
 pub mod Opens
 pub mod OpensItems
-pub mod Local
+pub mod Placed
 pub mod Positions
 pub mod Place
 pub mod WellFormed

@@ -8,6 +8,7 @@ use native.Mathlib.Omega.{arith}
 use lib.Dec.{T, leb, leb→le, le→leb}
 use Rattle.model.specs.Lists.{within}
 use Rattle.model.specs.Bytes.{byte, decimal, digit, digital, hexadecimal, IsDigit, IsEscape, IsHex, lower, number, sign, signs, upper}
+use Rattle.model.specs.Models.Places.{Least}
 use Rattle.model.specs.Models.Reader.{got, hexValue, readEscape, readHex, readHexes}
 use Rattle.model.proofs.Laws.Bool.{and-both, and-split, is-true, le-false, le-true, or-left, or-right, or-split}
 use Rattle.model.proofs.Reading.Answers.{cond-sound, equal-sound, Sound, stopped, took}
@@ -73,10 +74,6 @@ hex-small (upper p h k) = k
 hex-small (lower p h k) = k
 
 -- ---- escapes
--- u means a number of at least lo
-abbrev pub Least : ℕ → (List ℕ → ℕ → Type 0) → List ℕ → ℕ → Type 0
-Least lo X u b = X u b × (lo ≤ b)
-
 sound-hex : (lo x : ℕ) → IsHex x (hexValue x) → (l : List ℕ) → Sound (Least lo IsEscape) (byte "\\" ∷ byte "x" ∷ x ∷ l) (readHex lo (hexValue x) l)
 sound-hex lo x d [] = stopped
 sound-hex lo x d (y ∷ ys) =

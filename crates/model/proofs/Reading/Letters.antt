@@ -13,10 +13,11 @@ use Rattle.model.specs.Lists.{within}
 use Rattle.model.specs.Bits.{bit}
 use Rattle.model.specs.Bytes.{byte, bytes, plain}
 use Rattle.model.specs.Grammar.{bare, beside, class, dot, escape, escaped, IsLetter, IsMember, IsMembers, IsSingle, itself, member, plain-byte, range, single, span}
+use Rattle.model.specs.Models.Places.{Least}
 use Rattle.model.specs.Models.Reader.{bad, bind, case, got, past, Read, readLetter, readMember, readMembers, readSingle}
 use Rattle.model.proofs.Laws.Bool.{is-true, le-true}
 use Rattle.model.proofs.Reading.Answers.{begins, bind-sound, case-past-sound, cond-sound, equal-sound, map-sound, not-among, parted, past-other, Sound, stopped, took}
-use Rattle.model.proofs.Reading.Escapes.{complete-escape, escape-tail, Least, sound-escape}
+use Rattle.model.proofs.Reading.Escapes.{complete-escape, escape-tail, sound-escape}
 use Rattle.model.proofs.Words.Bits.{bit-ext, bit-or}
 
 -- ---- singles

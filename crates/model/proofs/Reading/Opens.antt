@@ -10,10 +10,11 @@ use lib.ListN.{length, length-append}
 use Rattle.model.specs.Lists.{within}
 use Rattle.model.specs.Bytes.{byte, bytes, hexadecimal, IsEscape, IsHex, number, plain, signs, upper}
 use Rattle.model.specs.Grammar.{bare, escape, escaped, IsLetter, IsMember, IsSingle, member, plain-byte, range, single, span}
+use Rattle.model.specs.Models.Places.{Least}
 use Rattle.model.specs.Models.Reader.{bad, bind, case, got, hexValue, past, Read, readEscape, readHex, readHexes, readLetter, readMember, readMembers, readSingle}
 use Rattle.model.proofs.Laws.Bool.{and-split, cond-cases}
 use Rattle.model.proofs.Reading.Answers.{past-cases, Sound, stopped, took}
-use Rattle.model.proofs.Reading.Escapes.{hex-of, Least, sound-escape}
+use Rattle.model.proofs.Reading.Escapes.{hex-of, sound-escape}
 use Rattle.model.proofs.Reading.Letters.{all-of, Closed, closed, inside-long, member-inside, one-more, sound-member, sound-single}
 use Rattle.model.proofs.Reading.WellFormed.{single-small}
 

@@ -9,10 +9,11 @@ use lib.ListN.{length, length-append}
 use Rattle.model.specs.Bytes.{byte, bytes, digit, digital, IsDigit}
 use Rattle.model.specs.Tree.{glue, last, more, once}
 use Rattle.model.specs.Grammar.{absent, also, both, braces, group, grouped, IsAlts, IsBounds, IsItem, IsNumber, IsSeq, IsSign, item, lone, nothing, one, only, plainly, repeated, same, then, three, times, two, upto}
+use Rattle.model.specs.Models.Places.{Least}
 use Rattle.model.specs.Models.Reader.{bad, over, reach, readAlts, readBounds, readBraces, readDigits, readItem, readMark, readNumber, readPiece, readSeq, readSign, stop}
 use Rattle.model.proofs.Reading.Answers.{opens-long}
 use Rattle.model.proofs.Reading.Decides.{item-opens, sound-alts, sound-item, sound-mark, sound-seq}
-use Rattle.model.proofs.Reading.Escapes.{digit-of, Least}
+use Rattle.model.proofs.Reading.Escapes.{digit-of}
 use Rattle.model.proofs.Reading.Letters.{sound-letter}
 use Rattle.model.proofs.Reading.Opens.{bind-opens, bind-past-opens, case-past-opens, cond-opens, equal-opens, open-letter, Opens, reads, unended}
 use Rattle.model.proofs.Reading.Signs.{Bounds, not-nought, sound-bounds, sound-number, sound-sign}

@@ -17,7 +17,7 @@ use Rattle.model.specs.Models.Reader.{alts, left, Read, readPlace}
 use Rattle.model.proofs.Laws.Bool.{le-or-lt}
 use Rattle.model.proofs.Reading.Decides.{complete-alts, sound-alts}
 use Rattle.model.proofs.Reading.Firm.{firm-alts}
-use Rattle.model.proofs.Reading.Local.{placed}
+use Rattle.model.proofs.Reading.Placed.{placed}
 use Rattle.model.proofs.Reading.OpensItems.{open-alts}
 use Rattle.model.proofs.Reading.Positions.{take-beyond}
 
@@ -30,7 +30,7 @@ end-nil : (t : List ℕ) → T (at-end t) → t ≡ []
 end-nil [] h = refl
 end-nil (x ∷ xs) h = absurd h
 
-pub rule-placed : (l : List ℕ) → Placed IsAlts IsAlts at-end l (alts l)
+pub rule-placed : (l : List ℕ) → Placed IsAlts at-end l (alts l)
 rule-placed l =
     placed alts (λ w b d t g. complete-alts d (3 * length (w ++ t) + 3) t (end-closes t g) (omega arith)) [] tt
     (sound-alts (3 * length l + 3) l) (open-alts (3 * length l + 3) l (omega arith)) (firm-alts l)
@@ -74,7 +74,7 @@ place-is w = go (rule-placed w)
     at : (u r : List ℕ) → w ≡ u ++ r → PlaceIs (u ++ r) (length u) → PlaceIs w (length w - length r)
     at u r e P = rw (passes w u r e) (subst (λ (z : List ℕ). PlaceIs z (length u)) (sym e) P)
 
-    go : {m : Read Alts} → Placed IsAlts IsAlts at-end w m → PlaceIs w (length w - length (left m))
+    go : {m : Read Alts} → Placed IsAlts at-end w m → PlaceIs w (length w - length (left m))
     go (taken u {a} {r} e d f) = at u r e (cut-here u r B stop)
       where
         B : Beginning u

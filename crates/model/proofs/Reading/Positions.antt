@@ -43,7 +43,7 @@ module _ (rule : List ℕ) (at p : ℕ) (h : at ≤ length rule) (i : p ≤ leng
       record { x = getD rule p 0; s = drop (suc p) rule; v = t .0; byte-there = c; longer = rw (e, c) (t .1) }
 
 -- what can still become something could so before its last bytes, and it is the same
-abbrev sooner : {A : Type 0} {Z : List ℕ → A → Type 0} {F : List ℕ → Bool} (w u v : List ℕ) → w ≡ u ++ v → Becomes Z F w → Becomes Z F u
+abbrev sooner : {A : Type 0} {X : List ℕ → A → Type 0} {F : List ℕ → Bool} (w u v : List ℕ) → w ≡ u ++ v → Becomes X F w → Becomes X F u
 sooner w u v e B = record {
   rest = v ++ B .rest;
   part = B .part;
@@ -54,9 +54,9 @@ sooner w u v e B = record {
   follows = B .follows;
 }
 
-module _ {A : Type 0} {X Z : List ℕ → A → Type 0} {F : List ℕ → Bool} (rule : List ℕ) (at p : ℕ) (h : at ≤ length rule) (i : p ≤ length rule) where
+module _ {A : Type 0} {X : List ℕ → A → Type 0} {F : List ℕ → Bool} (rule : List ℕ) (at p : ℕ) (h : at ≤ length rule) (i : p ≤ length rule) where
   -- A READER THAT STOPS
-  pub stops-at : {m : Read A} → Placed X Z F (drop at rule) m → m ≡ bad (drop p rule) → StopsAt Z F rule at p
+  pub stops-at : {m : Read A} → Placed X F (drop at rule) m → m ≡ bad (drop p rule) → StopsAt X F rule at p
   stops-at (taken u e d f) q = let z : _≡_ {A = ℕ} 0 1 = cc in absurd (omega arith)
   stops-at (passed u {r} e b f) q = record { forward = omega (arith, size rule at p h i u c); inside = i; can = rw (up-to rule at p h i u c) b; longest = last }
     where
@@ -66,7 +66,7 @@ module _ {A : Type 0} {X Z : List ℕ → A → Type 0} {F : List ℕ → Bool} 
       c : drop at rule ≡ u ++ drop p rule
       c = e ∙ ap (λ (z : List ℕ). u ++ z) r-is
 
-      last : (k : ℕ) → k ≤ length rule → Becomes Z F (between rule at k) → k ≤ p
+      last : (k : ℕ) → k ≤ length rule → Becomes X F (between rule at k) → k ≤ p
       last k j B = go (le-or-lt k p)
         where
           go : (k ≤ p) ⊎ (p < k) → k ≤ p
@@ -76,7 +76,7 @@ module _ {A : Type 0} {X Z : List ℕ → A → Type 0} {F : List ℕ → Bool} 
               absurd (f (n .x) (n .s) (r-is ∙ n .byte-there) (sooner (between rule at k) (u ++ (n .x ∷ [])) (n .v) (n .longer) B))
 
   -- AND ONE THAT TAKES SOMETHING
-  pub takes-at : {m : Read A} {a : A} → Placed X Z F (drop at rule) m → m ≡ got a (drop p rule) → TakesAt X Z F rule at p a
+  pub takes-at : {m : Read A} {a : A} → Placed X F (drop at rule) m → m ≡ got a (drop p rule) → TakesAt X F rule at p a
   takes-at (passed u e b f) q = let z : _≡_ {A = ℕ} 0 1 = cc in absurd (omega arith)
   takes-at {a = a′} (taken u {a} {r} e d f) q = record {
     forward = omega (arith, size rule at p h i u c);
@@ -94,7 +94,7 @@ module _ {A : Type 0} {X Z : List ℕ → A → Type 0} {F : List ℕ → Bool} 
       c : drop at rule ≡ u ++ drop p rule
       c = e ∙ ap (λ (z : List ℕ). u ++ z) r-is
 
-      alone : (k : ℕ) → p < k → k ≤ length rule → (B : Becomes Z F (between rule at k)) → (B .part ≡ between rule at p) × (B .what ≡ a′)
+      alone : (k : ℕ) → p < k → k ≤ length rule → (B : Becomes X F (between rule at k)) → (B .part ≡ between rule at p) × (B .what ≡ a′)
       alone k l j B =
           let n = next rule at p h i u c k l j in
           let b = f (n .x) (n .s) (r-is ∙ n .byte-there) (sooner (between rule at k) (u ++ (n .x ∷ [])) (n .v) (n .longer) B) in

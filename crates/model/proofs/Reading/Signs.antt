@@ -11,11 +11,11 @@ use Rattle.model.specs.Lists.{within}
 use Rattle.model.specs.Bytes.{byte, bytes, digit, digital, IsDigit}
 use Rattle.model.specs.Tree.{once}
 use Rattle.model.specs.Grammar.{absent, asterisk, both, braces, cross, IsBounds, IsNumber, IsSign, one, plainly, question, same, Sign, three, two, upto}
-use Rattle.model.specs.Models.Places.{free, halts}
+use Rattle.model.specs.Models.Places.{free, halts, Least}
 use Rattle.model.specs.Models.Reader.{bad, got, past, reach, readBounds, readBraces, readDigits, readNumber, readSign, stop}
 use Rattle.model.proofs.Laws.Bool.{is-false, is-true, le-true, unequal}
 use Rattle.model.proofs.Reading.Answers.{bind-past-sound, bind-sound, case-past-sound, cond-sound, equal-sound, parted, past-other, Sound, stopped, took}
-use Rattle.model.proofs.Reading.Escapes.{digit-of, digit-value, digital-of, Least}
+use Rattle.model.proofs.Reading.Escapes.{digit-of, digit-value, digital-of}
 
 -- ---- numbers
 -- the digits u mean v, and no digit follows them

@@ -1,34 +1,36 @@
--- WHERE A READER STOPS, in terms of what the bytes that it passed can still become. Nothing here is believed: proofs/Reading/Local has each reader's.
+-- WHERE A READER STOPS, in terms of what the bytes that it passed can still become: what the readers' contracts promise of the place.
+-- Nothing here is believed: proofs/Reading/Placed has it of each reader, proofs/Reading/Place of the rule.
 use mathlib.Core.Path.{_≡_}
 use mathlib.Core.Bool.{Bool, true, false, not}
 use mathlib.Core.List.{List, [], _∷_, _++_}
 use Prim.Native.Nat.{ℕ, _≤_, _<_}
-use lib.Dec.{T, eqb}
+use lib.Dec.{T}
 use lib.ListN.{length}
 use Rattle.model.specs.Lists.{within}
-use Rattle.model.specs.Bytes.{byte, bytes, digital}
+use Rattle.model.specs.Bytes.{bytes, digital}
+use Rattle.model.specs.Tree.{Seq}
+use Rattle.model.specs.Grammar.{IsLetter, IsSign, repeated, Sign}
 use Rattle.model.specs.Spelling.{between}
 use Rattle.model.specs.Models.Reader.{bad, got, Read}
 
+-- ---- what is read, where the grammar has no name for it
+-- a byte or a number of at least m
+abbrev pub Least : (m : ℕ) → (List ℕ → ℕ → Type 0) → List ℕ → ℕ → Type 0
+Least m X w n = X w n × (m ≤ n)
+
+-- a letter with its repeat sign
+pub data Piece (w : List ℕ) (s : Seq) : Type 0 where
+  piece : {u v : List ℕ} {c : ℕ} {q : Sign} → w ≡ u ++ v → s ≡ repeated c q → IsLetter u c → IsSign v q → Piece w s
+
 -- ---- what may follow, as tests on the next byte (`over`, after a sequence, is in Reader)
--- anything, after an escape, a single, a class, a letter
+-- anything, after a single, a class, a letter
 abbrev pub anything : List ℕ → Bool
 anything l = true
-
--- no `-`, after a member of a class
-abbrev pub no-range : List ℕ → Bool
-no-range [] = true
-no-range (x ∷ xs) = not (eqb x (byte "-"))
 
 -- no digit, after a number
 abbrev pub halts : List ℕ → Bool
 halts [] = true
 halts (x ∷ xs) = not (digital x)
-
--- `}`, after bounds
-abbrev pub closing : List ℕ → Bool
-closing [] = false
-closing (x ∷ xs) = eqb x (byte "}")
 
 -- no repeat sign, after an item
 abbrev pub free : List ℕ → Bool
@@ -56,24 +58,25 @@ pub record Becomes {A : Type 0} (X : List ℕ → A → Type 0) (F : List ℕ �
   pub follows : T (F after)
 
 -- from l a reader took u, a text of X, and with the byte after it nothing but that can come first;
--- or it passed u, which can still become a text of Z, but with the byte after it it can not
-pub data Placed {A : Type 0} (X Z : List ℕ → A → Type 0) (F : List ℕ → Bool) (l : List ℕ) : Read A → Type 0 where
+-- or it passed u, which can still become a text of X, but with the byte after it it can not
+pub data Placed {A : Type 0} (X : List ℕ → A → Type 0) (F : List ℕ → Bool) (l : List ℕ) : Read A → Type 0 where
   taken : (u : List ℕ) {a : A} {r : List ℕ} → l ≡ u ++ r → X u a
-      → ((x : ℕ) (s : List ℕ) → r ≡ x ∷ s → (B : Becomes Z F (u ++ (x ∷ []))) → (B .part ≡ u) × (B .what ≡ a)) → Placed X Z F l (got a r)
-  passed : (u : List ℕ) {r : List ℕ} → l ≡ u ++ r → Becomes Z F u
-      → ((x : ℕ) (s : List ℕ) → r ≡ x ∷ s → Becomes Z F (u ++ (x ∷ [])) → ⊥) → Placed X Z F l (bad r)
+      → ((x : ℕ) (s : List ℕ) → r ≡ x ∷ s → (B : Becomes X F (u ++ (x ∷ []))) → (B .part ≡ u) × (B .what ≡ a)) → Placed X F l (got a r)
+  passed : (u : List ℕ) {r : List ℕ} → l ≡ u ++ r → Becomes X F u
+      → ((x : ℕ) (s : List ℕ) → r ≡ x ∷ s → Becomes X F (u ++ (x ∷ [])) → ⊥) → Placed X F l (bad r)
 
 -- ---- the same by places of a rule, as code has them
--- a reader that began at the place at stops at p: the last place up to which the bytes can still become a text of Z
-pub record StopsAt {A : Type 0} (Z : List ℕ → A → Type 0) (F : List ℕ → Bool) (rule : List ℕ) (at p : ℕ) : Type 0 where
-  pub forward : at ≤ p
-  pub inside : p ≤ length rule
-  pub can : Becomes Z F (between rule at p)
-  pub longest : (k : ℕ) → k ≤ length rule → Becomes Z F (between rule at k) → k ≤ p
+module _ {A : Type 0} (X : List ℕ → A → Type 0) (F : List ℕ → Bool) (rule : List ℕ) (at p : ℕ) where
+  -- a reader that began at the place at stops at p: the last place up to which the bytes can still become a text of X
+  pub record StopsAt : Type 0 where
+    pub forward : at ≤ p
+    pub inside : p ≤ length rule
+    pub can : Becomes X F (between rule at p)
+    pub longest : (k : ℕ) → k ≤ length rule → Becomes X F (between rule at k) → k ≤ p
 
--- or it takes the bytes up to p for a text of X, and whatever goes on past p, nothing else can come first
-pub record TakesAt {A : Type 0} (X Z : List ℕ → A → Type 0) (F : List ℕ → Bool) (rule : List ℕ) (at p : ℕ) (a : A) : Type 0 where
-  pub forward : at ≤ p
-  pub inside : p ≤ length rule
-  pub is : X (between rule at p) a
-  pub alone : (k : ℕ) → p < k → k ≤ length rule → (B : Becomes Z F (between rule at k)) → (B .part ≡ between rule at p) × (B .what ≡ a)
+  -- or it takes the bytes up to p for a text of X, and whatever goes on past p, nothing else can come first
+  pub record TakesAt (a : A) : Type 0 where
+    pub forward : at ≤ p
+    pub inside : p ≤ length rule
+    pub is : X (between rule at p) a
+    pub alone : (k : ℕ) → p < k → k ≤ length rule → (B : Becomes X F (between rule at k)) → (B .part ≡ between rule at p) × (B .what ≡ a)

@@ -2,10 +2,10 @@
 ghost use mathlib.Core.Path.{_≡_};
 ghost use Rattle.answers.specs.Answers.{numberOf};
 
-// In the order of their numbers: document 01's, those of a watch, and those of a proposal.
+// In the order of their numbers: document 01's, those of a watch, and those of a proposal. What is no rule comes with its place (document 02, Wish 2).
 pub enum Refusal {
     RuleTooLong,
-    NotARule,
+    NotARule(usize),
     TooManyStates,
     TooDeep,
     NoRoomForImage,
@@ -43,7 +43,7 @@ pub fn number(refusal: Refusal) -> u64
 {
     match refusal {
         Refusal::RuleTooLong => 1,
-        Refusal::NotARule => 2,
+        Refusal::NotARule(_) => 2,
         Refusal::TooManyStates => 3,
         Refusal::TooDeep => 4,
         Refusal::NoRoomForImage => 5,

@@ -1,12 +1,14 @@
--- WHAT THE THREE READERS' ANSWERS SAY: what the model read, the place after it, its tokens, written from token n on, and whether it can be empty.
+-- WHAT THE THREE READERS' ANSWERS SAY: what the model read, the place after it, its tokens, written from token n on, and whether it can be empty; and what
+-- the place means for the texts that are read (`TakesAt`, `StopsAt`).
 use mathlib.Core.Path.{_≡_}
 use mathlib.Core.Bool.{Bool, true, _&&_, _||_}
 use mathlib.Core.List.{List, []}
 use Prim.Native.Nat.{ℕ, _≤_}
-use lib.ListN.{length}
+use lib.ListN.{drop, length}
 use Rattle.model.specs.Edges.{altsEmpty, seqEmpty}
-use Rattle.model.specs.Grammar.{repeated}
-use Rattle.model.specs.Models.Reader.{bind, got, Read, readSign}
+use Rattle.model.specs.Grammar.{IsAlts, repeated}
+use Rattle.model.specs.Models.Places.{closes, StopsAt, TakesAt}
+use Rattle.model.specs.Models.Reader.{alts, bind, got, Read, readSign}
 use Rattle.model.specs.Models.Tokens.{several, Token, tokens}
 use Rattle.model.specs.Tree.{Alts, Seq}
 use Rattle.rule_bytes.specs.Places.{Stopped, Took}
@@ -51,3 +53,22 @@ severalOf c (noAlternatives p) = noAlternatives p
 -- what is read after the letter c
 abbrev pub afterLetter : ℕ → List ℕ → Read Seq
 afterLetter c l = bind (readSign l) (λ q r. got (repeated c q) r)
+
+-- ---- where they stop
+-- the reader of texts X, each before bytes that pass the test F
+abbrev pub PartPlaced : (X : List ℕ → Seq → Type 0) (F : List ℕ → Bool) → List ℕ → (at : ℕ) → Part → Type 0
+PartPlaced X F rule at (aPart p next e) = (s : Seq) × TakesAt X F rule at p s
+PartPlaced X F rule at (noPart p) = StopsAt X F rule at p
+
+pub record PartTells (X : List ℕ → Seq → Type 0) (F : List ℕ → Bool) (reader : List ℕ → Read Seq) (rule : List ℕ) (at n : ℕ) (before after : List ℕ)
+    (r : Part) : Type 0 where
+  pub reads : PartSays true rule n (reader (drop at rule)) before after r
+  pub place : PartPlaced X F rule at r
+
+abbrev pub AlternativesPlaced : List ℕ → (at : ℕ) → Alternatives → Type 0
+AlternativesPlaced rule at (someAlternatives p next v e) = (a : Alts) × TakesAt IsAlts closes rule at p a
+AlternativesPlaced rule at (noAlternatives p) = StopsAt IsAlts closes rule at p
+
+pub record AlternativesTell (rule : List ℕ) (at n : ℕ) (before after : List ℕ) (r : Alternatives) : Type 0 where
+  pub reads : AlternativesSay rule n (alts (drop at rule)) before after r
+  pub place : AlternativesPlaced rule at r

@@ -14,7 +14,7 @@ use crate::parts::Part;
 use crate::readers::read_alternatives;
 use answers::Refusal;
 
-// What a rule is: refused with 1, 2 or 3 (document 01, "Numbers given back"), or the rule of a tree of so many states.
+// What a rule is: refused with 1, 2 and its place, or 3 (document 01, "Numbers given back"), or the rule of a tree of so many states.
 pub enum Outcome {
     Refused(Refusal),
     Tree(usize),
@@ -26,21 +26,21 @@ pub struct Reading {
     pub tokens: [u64; 2555],
 }
 
-// Of what a rule's alternatives are, as one item, and the whole rule's length.
+// Of what a rule's alternatives are, as one item, and the whole rule's length. Bytes after them are refused where the alternatives end: no rule goes on there.
 fn outcome_of(whole: Part, length: usize) -> Outcome
     ensures { λ r. ⌜ r ≡ outcomeOf whole length ⌝ }
 {
     match whole {
         Part::Got(p, next, _) => {
             if p < length {
-                return Outcome::Refused(Refusal::NotARule);
+                return Outcome::Refused(Refusal::NotARule(p));
             }
             if next > 511 {
                 return Outcome::Refused(Refusal::TooManyStates);
             }
             Outcome::Tree(next + 1)
         }
-        Part::Bad(_) => Outcome::Refused(Refusal::NotARule),
+        Part::Bad(p) => Outcome::Refused(Refusal::NotARule(p)),
     }
 }
 

@@ -19,11 +19,12 @@ ghost use mathlib.Core.Path.{_≡_};
 ghost use Prim.Native.Nat.{ℕ};
 ghost use lib.ListN.{drop};
 ghost use Rattle.model.specs.Edges.{seqEmpty};
-ghost use Rattle.model.specs.Grammar.{repeated};
-ghost use Rattle.model.specs.Models.Reader.{alts, item as itemOf, over, readPiece, seq};
+ghost use Rattle.model.specs.Grammar.{IsItem, IsSeq, repeated};
+ghost use Rattle.model.specs.Models.Places.{free, Piece};
+ghost use Rattle.model.specs.Models.Reader.{item as itemOf, over, readPiece, seq};
 ghost use Rattle.rule_letters.specs.Classes.{bytesOf};
 ghost use Rattle.rule_signs.specs.Answers.{signOf};
-ghost use Rattle.rule.specs.Parts.{afterLetter, AlternativesSay, PartSays, Ready, severalOf};
+ghost use Rattle.rule.specs.Parts.{afterLetter, AlternativesTell, PartSays, PartTells, Ready, severalOf};
 
 // Whether a letter with this sign may be left out: `{0,y}` is options alone.
 fn can_be_left_out(how_often: HowOften) -> bool
@@ -53,7 +54,7 @@ fn read_repeated(rule: &[u8], at: usize, class: Class, tokens: &mut [u64; 2555],
 // A letter with at most one repeat sign.
 fn read_piece(rule: &[u8], at: usize, tokens: &mut [u64; 2555], n: usize) -> Part
     requires { ⌜ Ready (now rule) at (now tokens) n ⌝ }
-    ensures { λ r. ⌜ PartSays true (now (rule .entry)) n (readPiece (drop at (now (rule .entry)))) (now (tokens .entry)) (now (tokens .exit)) r ⌝ }
+    ensures { λ r. ⌜ PartTells Piece free readPiece (now (rule .entry)) at n (now (tokens .entry)) (now (tokens .exit)) r ⌝ }
 {
     let letter = read_letter(rule, at);
     match letter {
@@ -86,7 +87,7 @@ fn several(empty: bool, rest: Alternatives) -> Alternatives
 // A letter with at most one repeat sign, or bracketed alternatives, with `?`, `*` or `+` or without.
 fn read_item(rule: &[u8], at: usize, tokens: &mut [u64; 2555], n: usize) -> Part
     requires { ⌜ Ready (now rule) at (now tokens) n ⌝ }
-    ensures { λ r. ⌜ PartSays true (now (rule .entry)) n (itemOf (drop at (now (rule .entry)))) (now (tokens .entry)) (now (tokens .exit)) r ⌝ }
+    ensures { λ r. ⌜ PartTells IsItem free itemOf (now (rule .entry)) at n (now (tokens .entry)) (now (tokens .exit)) r ⌝ }
 {
     if byte_at(rule, at) != b'(' {
         return read_piece(rule, at, tokens, n);
@@ -98,7 +99,7 @@ fn read_item(rule: &[u8], at: usize, tokens: &mut [u64; 2555], n: usize) -> Part
 // One or more items. "An item that isn't read ends the whole reading at once."
 fn read_sequence(rule: &[u8], at: usize, tokens: &mut [u64; 2555], n: usize) -> Part
     requires { ⌜ Ready (now rule) at (now tokens) n ⌝ }
-    ensures { λ r. ⌜ PartSays true (now (rule .entry)) n (seq (drop at (now (rule .entry)))) (now (tokens .entry)) (now (tokens .exit)) r ⌝ }
+    ensures { λ r. ⌜ PartTells IsSeq over seq (now (rule .entry)) at n (now (tokens .entry)) (now (tokens .exit)) r ⌝ }
 {
     let mut place = at;
     let mut next = n;
@@ -120,7 +121,7 @@ fn read_sequence(rule: &[u8], at: usize, tokens: &mut [u64; 2555], n: usize) -> 
 // One or more sequences, with `|` between them.
 pub fn read_alternatives(rule: &[u8], at: usize, tokens: &mut [u64; 2555], n: usize) -> Alternatives
     requires { ⌜ Ready (now rule) at (now tokens) n ⌝ }
-    ensures { λ r. ⌜ AlternativesSay (now (rule .entry)) n (alts (drop at (now (rule .entry)))) (now (tokens .entry)) (now (tokens .exit)) r ⌝ }
+    ensures { λ r. ⌜ AlternativesTell (now (rule .entry)) at n (now (tokens .entry)) (now (tokens .exit)) r ⌝ }
 {
     let sequence = read_sequence(rule, at, tokens, n);
     match sequence {

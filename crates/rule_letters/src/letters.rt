@@ -12,14 +12,14 @@ use rule_bytes::is_bare;
 use rule_bytes::is_plain;
 ghost use Prim.Native.Nat.{_≤_};
 ghost use lib.ListN.{drop, length};
-ghost use Rattle.model.specs.Models.Reader.{readLetter, readMember, readSingle};
-ghost use Rattle.rule_letters.specs.Answers.{ByteSays, LetterSays};
-ghost use Rattle.rule_letters.specs.Classes.{afterBracket, afterEscape, afterLower};
+ghost use Rattle.model.specs.Models.Reader.{readMember};
+ghost use Rattle.rule_letters.specs.Answers.{ClassTells, LetterSays, LetterTells, SingleTells};
+ghost use Rattle.rule_letters.specs.Classes.{afterEscape, afterLower};
 
 // A single of a class, at least lo: an escape, or a plain byte other than `-`.
 fn read_single(rule: &[u8], at: usize, lo: u8) -> Byte
     requires { ⌜ at ≤ length (now rule) ⌝ }
-    ensures { λ r. ⌜ ByteSays (now (rule .entry)) (readSingle lo (drop at (now (rule .entry)))) r ⌝ }
+    ensures { λ r. ⌜ SingleTells lo (now (rule .entry)) at r ⌝ }
 {
     let x = byte_at(rule, at);
     if is_bare(x) {
@@ -64,7 +64,7 @@ fn read_member(rule: &[u8], at: usize) -> Letter
 // A class, after its `[`: one or more members and `]`.
 fn read_members(rule: &[u8], at: usize) -> Letter
     requires { ⌜ at ≤ length (now rule) ⌝ }
-    ensures { λ r. ⌜ LetterSays (now (rule .entry)) (afterBracket (drop at (now (rule .entry)))) r ⌝ }
+    ensures { λ r. ⌜ ClassTells (now (rule .entry)) at r ⌝ }
 {
     let mut class = none();
     let mut p = at;
@@ -96,7 +96,7 @@ fn read_escaped(rule: &[u8], at: usize) -> Letter
 
 // A letter; at the rule's end there is none, and past it neither.
 pub fn read_letter(rule: &[u8], at: usize) -> Letter
-    ensures { λ r. ⌜ LetterSays (now (rule .entry)) (readLetter (drop at (now (rule .entry)))) r ⌝ }
+    ensures { λ r. ⌜ LetterTells (now (rule .entry)) at r ⌝ }
 {
     if at >= rule.len() {
         return Letter::Bad(rule.len());

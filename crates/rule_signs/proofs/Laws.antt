@@ -2,3 +2,4 @@
 -- Repeats says what the models make of a list by its first byte; Progress how far numbers go.
 pub mod Repeats
 pub mod Progress
+pub mod Placed

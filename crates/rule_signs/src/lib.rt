@@ -9,8 +9,8 @@ ghost use mathlib.Core.Path.{_≡_};
 ghost use Prim.Native.Nat.{_-_, _≤_};
 ghost use lib.ListN.{drop, length};
 ghost use Rattle.model.specs.Bytes.{byte, digital};
-ghost use Rattle.model.specs.Models.Reader.{close as closeOf, readBounds, readBraces, readDigits, readNumber, readSign};
-ghost use Rattle.rule_signs.specs.Answers.{BoundsSays, NumberSays, SignSays};
+ghost use Rattle.model.specs.Models.Reader.{close as closeOf, readBounds, readBraces, readDigits};
+ghost use Rattle.rule_signs.specs.Answers.{BoundsSays, NumberSays, NumberTells, SignSays, SignTells};
 ghost use Rattle.rule_signs.specs.Repeats.{afterFirst, lastBound};
 
 // A number in braces.
@@ -85,7 +85,7 @@ fn read_second(rule: &[u8], at: usize, least: usize, v: usize) -> Number
 // A number of at least `least`: 1 to 3 digits, and no leading zero except `0` itself.
 fn read_number(rule: &[u8], at: usize, least: usize) -> Number
     requires { ⌜ at ≤ length (now rule) ⌝ }
-    ensures { λ r. ⌜ NumberSays (now (rule .entry)) (readNumber least (drop at (now (rule .entry)))) r ⌝ }
+    ensures { λ r. ⌜ NumberTells least (now (rule .entry)) at r ⌝ }
 {
     let x = byte_at(rule, at);
     if !is_digit(x) {
@@ -173,7 +173,7 @@ fn read_braces(rule: &[u8], at: usize) -> Sign
 
 // At most one repeat sign; at the rule's end there is none, and past it neither.
 pub fn read_sign(rule: &[u8], at: usize) -> Sign
-    ensures { λ r. ⌜ SignSays (now (rule .entry)) (readSign (drop at (now (rule .entry)))) r ⌝ }
+    ensures { λ r. ⌜ SignTells (now (rule .entry)) at r ⌝ }
 {
     if at >= rule.len() {
         return Sign::Got(HowOften::Plainly(Repeat::Once), rule.len());

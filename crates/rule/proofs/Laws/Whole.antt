@@ -1,4 +1,4 @@
--- A RULE IS ITS ALTERNATIVES, READ TO THE LAST BYTE, AS ONE ITEM: the model's reader decides the grammar, so the outcome is the table's.
+-- A RULE IS ITS ALTERNATIVES, READ TO THE LAST BYTE, AS ONE ITEM: the model's reader decides the grammar and stops at the place, so the outcome is the table's.
 use mathlib.Core.Path.{_≡_, refl, sym, ap, _∙_}
 use mathlib.Core.Logic.{_⊎_, inl, inr}
 use mathlib.Core.Bool.{Bool}
@@ -10,11 +10,12 @@ use lib.ListN.{drop-of-length-le, length}
 use lib.Seq.{drop-cons}
 use Rattle.model.specs.Edges.{states}
 use Rattle.model.specs.Grammar.{bracket, IsRule}
-use Rattle.model.specs.Models.Reader.{alts, readRule, whole}
+use Rattle.model.specs.Models.Reader.{alts, left, readRule, whole}
 use Rattle.model.specs.Tree as tree
 use Rattle.model.proofs.Image.Tokens.{length-tokens}
 use Rattle.model.proofs.Laws.Bool.{le-false, le-or-lt, le-true}
 use Rattle.model.proofs.Reading.Decides.{reads}
+use Rattle.model.proofs.Reading.Place.{place-at}
 use Rattle.rule_bytes.specs.Places.{Took}
 use Rattle.rule.specs.Groups.{WholeSays}
 use Rattle.rule.specs.Parts.{seqTokens}
@@ -41,7 +42,7 @@ module _ (rule row : List ℕ) (short : length rule ≤ 1024) where
   module _ {a : tree.Alts} {p next : ℕ} (e : Bool) (t : Took rule (alts rule) a p) (s : Stands noTokens row 0 next (seqTokens (bracket a))) where
     -- bytes are left
     left-over : p < length rule → ReadSays rule (answered (outcomeOf (aPart p next e) (length rule)) row)
-    left-over h = rw (le-true (suc p) (length rule) h) (not-a-rule short (unread (ap whole (t .reads) ∙ rw (drop-cons rule p 0 h))) refl)
+    left-over h = rw (le-true (suc p) (length rule) h) (not-a-rule p short (unread (ap whole (t .reads) ∙ rw (drop-cons rule p 0 h))) (place-at rule p (t .inside) (ap left (t .reads))) refl)
 
     -- all bytes are read
     module _ (h : length rule ≤ p) where
@@ -61,7 +62,7 @@ module _ (rule row : List ℕ) (short : length rule ≤ 1024) where
               (too-many-states (bracket a) short is-rule (omega (arith, length-tokens (bracket a), s .count)) refl)
 
   pub whole-says : (item : Part) → WholeSays rule (alts rule) noTokens row item → ReadSays rule (answered (outcomeOf item (length rule)) row)
-  whole-says (noPart p) s = not-a-rule short (unread (ap whole (s .reads))) refl
+  whole-says (noPart p) s = not-a-rule p short (unread (ap whole (s .reads))) (place-at rule p (s .inside) (ap left (s .reads))) refl
   whole-says (aPart p next e) (a, t, s) = go (le-or-lt (length rule) p)
     where
       go : (length rule ≤ p) ⊎ (p < length rule) → ReadSays rule (answered (outcomeOf (aPart p next e) (length rule)) row)

@@ -21,11 +21,11 @@ returns-2 c =
     let g = c .before .before .before .whole .given in
     rw (g .1, le-false (suc (g .0 .0)) (c .before .before .before .before .before .args .length) (omega (arith, c .before .if1 .left)), le-true 512 (g .0 .1 .0) (c .if2 .taken))
 
-add-t9 : tie.Need-add-t9
-add-t9 c = search needs
+add-t10 : tie.Need-add-t10
+add-t10 c = search needs
 
-enum-told : tie.Need-enum-told
-enum-told c = search needs
+enum-known-whole-2 : tie.Need-enum-known-whole-2
+enum-known-whole-2 c = search needs
 
 returns-3 : tie.Need-returns-3
 returns-3 c =
@@ -37,7 +37,7 @@ returns-3 c =
     )
 
 returns-4 : tie.Need-returns-4
-returns-4 c = ap (λ w. outcomeOf w (c .before .before .args .length)) (sym (c .enum-told .given .1))
+returns-4 c = ap (λ w. outcomeOf w (c .before .before .before .args .length)) (sym (c .before .whole2 .given .1))
 
 pub outcome-of-spec : {M : Type 1} → statement M
-outcome-of-spec = tie.close (tie.spec enum-known-whole returns returns-2 add-t9 enum-told returns-3 returns-4)
+outcome-of-spec = tie.close (tie.spec enum-known-whole returns returns-2 add-t10 enum-known-whole-2 returns-3 returns-4)

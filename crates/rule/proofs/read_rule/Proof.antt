@@ -29,7 +29,7 @@ outcome-says c o q =
     let k = c .before in
     let r = k .before .before in
     let rule = r .before .before .before .before .args .rule .now in
-    says rule (k .bracket .last .0) (k .bracket .result) o (r .before .before .if1 .left) (k .bracket .ensures rule (alts rule) noTokens (r .read-alternatives .ensures))
+    says rule (k .bracket .last .0) (k .bracket .result) o (r .before .before .if1 .left) (k .bracket .ensures rule (alts rule) noTokens (r .read-alternatives .ensures .reads))
     (q ∙ c .outcome-of .ensures)
 
 refuse-requires : tie.Need-refuse-requires
@@ -45,7 +45,7 @@ bracket-requires : tie.Need-bracket-requires
 bracket-requires c κs =
     let rule = c .before .before .before .before .before .args .rule .now in
     let r = c .before .read-alternatives in
-    says-counted rule 0 (alts rule) noTokens (r .last .1 .1 .0) (r .result) (omega arith) (r .ensures)
+    says-counted rule 0 (alts rule) noTokens (r .last .1 .1 .0) (r .result) (omega arith) (r .ensures .reads)
 
 outcome-of-requires : tie.Need-outcome-of-requires
 outcome-of-requires c = search needs

@@ -19,7 +19,7 @@ comma c = let a = c .before .before .before .args in inside (a .rule .now) (a .a
 
 first : (c : tie.After-known-told) → let a = c .before .before .before .before .before .before .before .args in let g = c .before .first .given .0 in
     Took (a .rule .now) (readNumber 0 (drop (a .at) (a .rule .now))) (g .0) (g .1 .0)
-first c = rw (c .before .first .given .1) at (c .before .before .before .read-number .ensures)
+first c = rw (c .before .first .given .1) at (c .before .before .before .read-number .ensures .reads)
 
 byte-at-requires : tie.Need-byte-at-requires
 byte-at-requires c κs = search needs
@@ -65,7 +65,7 @@ returns-3 c =
     let s = b .before .before in
     turns (s .args .rule .now) (s .args .at) (b .byte-at .ensures) readBounds (s .pre) (λ l. bind (readNumber 0 l) afterFirst)
     (λ m. Stopped (s .args .rule .now) m (c .before .first2 .given .0 .0)) refl (λ xs. bounds-first (b .byte-at .result) xs (e .if1 .left))
-    (bind-stops afterFirst (rw (c .before .first2 .given .1) at (c .before .before .before .read-number .ensures)))
+    (bind-stops afterFirst (rw (c .before .first2 .given .1) at (c .before .before .before .read-number .ensures .reads)))
 
 pub read-bounds-spec : {M : Type 1} → statement M
 read-bounds-spec =

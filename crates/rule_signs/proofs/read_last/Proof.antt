@@ -19,12 +19,12 @@ enum-known-last-2 c = search needs
 returns : tie.Need-returns
 returns c =
     let n = c .before .before .before in
-    bind-gives (rw (c .before .last .given .1) at (n .read-number .ensures)) (λ (y : ℕ). (n .before .before .args .x, y)) refl
+    bind-gives (rw (c .before .last .given .1) at (n .read-number .ensures .reads)) (λ (y : ℕ). (n .before .before .args .x, y)) refl
 
 returns-2 : tie.Need-returns-2
 returns-2 c =
     let n = c .before .before .before in
-    bind-stops (λ y r. got (n .before .before .args .x, y) r) (rw (c .before .last2 .given .1) at (n .read-number .ensures))
+    bind-stops (λ y r. got (n .before .before .args .x, y) r) (rw (c .before .last2 .given .1) at (n .read-number .ensures .reads))
 
 pub read-last-spec : {M : Type 1} → statement M
 read-last-spec = tie.close (tie.spec read-number-requires enum-known-last enum-known-last-2 returns returns-2)

@@ -11,6 +11,7 @@ use Rattle.model.specs.Models.Reader.{readDigits, readNumber}
 use Rattle.rule_signs.specs.Answers.{NumberSays}
 use Rattle.rule_bytes.proofs.Laws.Places.{goes, passes, stops, takes}
 use Rattle.rule_signs.proofs.Laws.Repeats.{number-go, number-low, number-nought, number-nought-low, number-other}
+use Rattle.rule_signs.proofs.Laws.Placed.{number-tells}
 use Rattle.rule_signs.proofs.read_number.Statement.{statement}
 use Rattle.rule_signs.proofs.read_number.Tie as tie
 
@@ -30,15 +31,17 @@ returns : tie.Need-returns
 returns c =
     let b = c .before .before in
     let s = b .before .before in
-    stops (s .args .rule .now) (s .args .at) (b .byte-at .ensures) (readNumber (s .args .least)) (s .pre) refl
-    (λ xs. number-other (s .args .least) (b .byte-at .result) xs (sym (c .before .is-digit .ensures) ∙ not-true _ (c .if1 .taken)))
+    number-tells _ _ _ _ (s .pre)
+    (stops (s .args .rule .now) (s .args .at) (b .byte-at .ensures) (readNumber (s .args .least)) (s .pre) refl
+    (λ xs. number-other (s .args .least) (b .byte-at .result) xs (sym (c .before .is-digit .ensures) ∙ not-true _ (c .if1 .taken))))
 
 returns-2 : tie.Need-returns-2
 returns-2 c =
     let b = c .before .before .before .before in
     let s = b .before .before in
-    stops (s .args .rule .now) (s .args .at) (b .byte-at .ensures) (readNumber (s .args .least)) (s .pre) refl
-    (λ xs. number-nought-low (s .args .least) (b .byte-at .result) xs (c .before .if2 .taken) (c .if3 .taken))
+    number-tells _ _ _ _ (s .pre)
+    (stops (s .args .rule .now) (s .args .at) (b .byte-at .ensures) (readNumber (s .args .least)) (s .pre) refl
+    (λ xs. number-nought-low (s .args .least) (b .byte-at .result) xs (c .before .if2 .taken) (c .if3 .taken)))
 
 add-t9 : tie.Need-add-t9
 add-t9 c = search needs
@@ -48,8 +51,9 @@ returns-3 c =
     let e = c .before .before in
     let b = e .before .before in
     let a = b .before .before .args in
-    takes (a .rule .now) (a .at) (b .byte-at .ensures) (readNumber (a .least)) (inside e)
-    (λ xs. number-nought (a .least) (b .byte-at .result) xs (c .before .if2 .taken) (c .if3 .left))
+    number-tells _ _ _ _ (b .before .before .pre)
+    (takes (a .rule .now) (a .at) (b .byte-at .ensures) (readNumber (a .least)) (inside e)
+    (λ xs. number-nought (a .least) (b .byte-at .result) xs (c .before .if2 .taken) (c .if3 .left)))
 
 digit-value-requires : tie.Need-digit-value-requires
 digit-value-requires c κs = is-digit (c .before)
@@ -65,8 +69,9 @@ returns-4 c =
     let e = c .before .before .before in
     let b = e .before .before in
     let s = b .before .before in
-    stops (s .args .rule .now) (s .args .at) (b .byte-at .ensures) (readNumber (s .args .least)) (s .pre) refl
-    (λ xs. number-low (s .args .least) (b .byte-at .result) xs (is-digit e) (c .before .before .if2 .left) (c .before .digit-value .ensures .0) (c .if4 .taken))
+    number-tells _ _ _ _ (s .pre)
+    (stops (s .args .rule .now) (s .args .at) (b .byte-at .ensures) (readNumber (s .args .least)) (s .pre) refl
+    (λ xs. number-low (s .args .least) (b .byte-at .result) xs (is-digit e) (c .before .before .if2 .left) (c .before .digit-value .ensures .0) (c .if4 .taken)))
 
 add-read-second : tie.Need-add-read-second
 add-read-second c = search needs
@@ -80,10 +85,11 @@ returns-5 c =
     let e = v .before .before in
     let b = e .before .before in
     let a = b .before .before .args in
-    goes (a .rule .now) (a .at) (b .byte-at .ensures) (readNumber (a .least)) (readDigits 2 (a .least) (v .digit-value .result))
+    number-tells _ _ _ _ (b .before .before .pre)
+    (goes (a .rule .now) (a .at) (b .byte-at .ensures) (readNumber (a .least)) (readDigits 2 (a .least) (v .digit-value .result))
     (λ m. NumberSays (a .rule .now) m (c .read-second .result)) (inside e)
     (λ xs. number-go (a .least) (b .byte-at .result) xs (is-digit e) (v .before .if2 .left) (v .digit-value .ensures .0) (c .before .if4 .left))
-    (c .read-second .ensures)
+    (c .read-second .ensures))
 
 pub read-number-spec : {M : Type 1} → statement M
 read-number-spec =

@@ -15,6 +15,7 @@ use Rattle.rule.specs.declared.parts.Part.{Part}
 use Rattle.rule.specs.declared.parts.Part.the-variants.{Got as aPart}
 use Rattle.rule.proofs.Laws.Cycle.{alternatives-end, alternatives-go, alternatives-stop, item-bracket, item-letter, item-on, sequence-ends, sequence-goes, sequence-on, sequence-stops}
 use Rattle.rule.proofs.Laws.Groups.{says-counted}
+use Rattle.rule.proofs.Laws.Placed.{alternatives-tell, item-tells, sequence-tells}
 use Rattle.rule.proofs.Laws.Stands.{room-after, stands-one}
 use Rattle.rule_bytes.proofs.Laws.Places.{inside}
 use borrow.Fn.Kinds.{In}
@@ -96,8 +97,10 @@ read-item-read-piece-requires t c κs = c .before .before .before .before .pre .
 read-item-returns : (t : ℕ) → read-item-lts.Need-returns (item-callees t) (read-item-at t) read-item.Post
 read-item-returns t c =
     let a = c .before .before .before .before .before .args in
-    item-letter (a .rule .now) (a .at) (a .n) (a .tokens .now) (c .read-piece .last .1 .1 .0) (c .read-piece .result) (c .before .before .before .byte-at .ensures)
-    (c .before .before .before .before .before .pre .1 .inside) (c .before .before .if1 .taken) (c .read-piece .ensures)
+    let h = c .before .before .before .before .before .pre .1 .inside in
+    item-tells _ _ _ _ _ h _
+    (item-letter (a .rule .now) (a .at) (a .n) (a .tokens .now) (c .read-piece .last .1 .1 .0) (c .read-piece .result) (c .before .before .before .byte-at .ensures)
+    h (c .before .before .if1 .taken) (c .read-piece .ensures .reads))
 
 read-item-add-read-alternatives : (t : ℕ) → read-item-lts.Need-add-read-alternatives (item-callees t) (read-item-at t) read-item.Post
 read-item-add-read-alternatives t c =
@@ -117,14 +120,16 @@ read-item-close-item-requires t c κs =
     let s = c .before .before .before .before .before .before in
     let r = c .before .read-alternatives in
     let a = s .args in
-    (s .pre .1 .short, says-counted (a .rule .now) (a .n) (alts (drop (a .at + 1) (a .rule .now))) (a .tokens .now) (r .last .1 .1 .0) (r .result) (s .pre .1 .few) (r .ensures))
+    (s .pre .1 .short, says-counted (a .rule .now) (a .n) (alts (drop (a .at + 1) (a .rule .now))) (a .tokens .now) (r .last .1 .1 .0) (r .result) (s .pre .1 .few) (r .ensures .reads))
 
 read-item-returns-2 : (t : ℕ) → read-item-lts.Need-returns-2 (item-callees t) (read-item-at t) read-item.Post
 read-item-returns-2 t c =
-    let a = c .before .before .before .before .before .before .before .args in
+    let s = c .before .before .before .before .before .before .before in
+    let a = s .args in
     let r = c .before .before .read-alternatives in
-    item-bracket (a .rule .now) (a .at) (a .n) (a .tokens .now) (c .close-item .last .1 .0) (c .close-item .result) (c .before .before .before .before .before .byte-at .ensures)
-    (c .before .before .before .before .if1 .left) (c .close-item .ensures (alts (drop (a .at + 1) (a .rule .now))) (a .tokens .now) (r .ensures))
+    item-tells _ _ _ _ _ (s .pre .1 .inside) _
+    (item-bracket (a .rule .now) (a .at) (a .n) (a .tokens .now) (c .close-item .last .1 .0) (c .close-item .result) (c .before .before .before .before .before .byte-at .ensures)
+    (c .before .before .before .before .if1 .left) (c .close-item .ensures (alts (drop (a .at + 1) (a .rule .now))) (a .tokens .now) (r .ensures .reads)))
 
 -- ---- sequences
 -- before an item, which begins at a place of its own: whatever the items from here on say, the whole sequence says
@@ -154,12 +159,14 @@ read-sequence-enum-told t c = search needs
 read-sequence-returns : (t : ℕ) → read-sequence-lts.Need-returns (sequence-callees t) (read-sequence-at t) read-sequence.Post Inv-items μ-items
 read-sequence-returns t c =
     let l = c .before .before .before .before .loop in
-    let rule = c .before .before .before .before .before .before .args .rule .now in
+    let s = c .before .before .before .before .before .before in
+    let rule = s .args .rule .now in
     let r = c .before .before .read-item in
     let e = c .enum-told .given .1 in
-    l .inv .goes (r .last .1 .1 .0) (r .result)
+    sequence-tells _ _ _ _ _ (s .pre .1 .inside) _
+    (l .inv .goes (r .last .1 .1 .0) (r .result)
     (subst (PartSays (l .can-be-empty) rule (l .next) (seq (drop (l .place) rule)) (l .tokens) (r .last .1 .1 .0)) (sym e)
-    (sequence-stops rule (l .place) (rw e at (r .ensures))))
+    (sequence-stops rule (l .place) (rw e at (r .ensures .reads)))))
 
 -- the item that was read
 item-read : (t : ℕ) (k : read-sequence-lts.After-known-told (sequence-callees t) (read-sequence-at t) read-sequence.Post Inv-items μ-items)
@@ -168,7 +175,7 @@ item-read : (t : ℕ) (k : read-sequence-lts.After-known-told (sequence-callees 
     let r = k .before .before .before .read-item in
     let g = k .before .item .given .0 in
     PartSays true rule (l .next) (item (drop (l .place) rule)) (l .tokens) (r .last .1 .1 .0) (aPart (g .0) (g .1 .0) (g .1 .1 .0))
-item-read t k = rw (k .before .item .given .1) at (k .before .before .before .read-item .ensures)
+item-read t k = rw (k .before .item .given .1) at (k .before .before .before .read-item .ensures .reads)
 
 read-sequence-is-over-requires : (t : ℕ) → read-sequence-lts.Need-is-over-requires (sequence-callees t) (read-sequence-at t) read-sequence.Post Inv-items μ-items
 read-sequence-is-over-requires t c κs = search needs
@@ -177,11 +184,12 @@ read-sequence-returns-2 : (t : ℕ) → read-sequence-lts.Need-returns-2 (sequen
 read-sequence-returns-2 t c =
     let k = c .before .before in
     let l = k .before .before .before .before .before .loop in
-    let rule = k .before .before .before .before .before .before .before .args .rule .now in
+    let s = k .before .before .before .before .before .before .before in
     let r = k .before .before .before .read-item in
     let g = k .before .item .given .0 in
-    l .inv .goes (r .last .1 .1 .0) (aPart (g .0) (g .1 .0) (l .can-be-empty && g .1 .1 .0))
-    (sequence-ends rule (l .place) (l .next) (item-read t k .1) (l .can-be-empty) (sym (c .before .is-over .ensures) ∙ c .if1 .taken))
+    sequence-tells _ _ _ _ _ (s .pre .1 .inside) _
+    (l .inv .goes (r .last .1 .1 .0) (aPart (g .0) (g .1 .0) (l .can-be-empty && g .1 .1 .0))
+    (sequence-ends (s .args .rule .now) (l .place) (l .next) (item-read t k .1) (l .can-be-empty) (sym (c .before .is-over .ensures) ∙ c .if1 .taken)))
 
 read-sequence-loop-less : (t : ℕ) → read-sequence-lts.Need-loop-less (sequence-callees t) (read-sequence-at t) read-sequence.Post Inv-items μ-items
 read-sequence-loop-less t c =
@@ -215,7 +223,7 @@ read-alternatives-enum-known-sequence t c = search needs
 sequence-read : (t : ℕ) (k : read-alternatives-lts.After-known-told (alternatives-callees t) (read-alternatives-at t) read-alternatives.Post)
     → let a = k .before .before .before .before .before .before .args in let r = k .before .before .before .read-sequence in let g = k .before .sequence .given .0 in
     PartSays true (a .rule .now) (a .n) (seq (drop (a .at) (a .rule .now))) (a .tokens .now) (r .last .1 .1 .0) (aPart (g .0) (g .1 .0) (g .1 .1 .0))
-sequence-read t k = rw (k .before .sequence .given .1) at (k .before .before .before .read-sequence .ensures)
+sequence-read t k = rw (k .before .sequence .given .1) at (k .before .before .before .read-sequence .ensures .reads)
 
 read-alternatives-byte-at-requires : (t : ℕ) → read-alternatives-lts.Need-byte-at-requires (alternatives-callees t) (read-alternatives-at t) read-alternatives.Post
 read-alternatives-byte-at-requires t c κs = search needs
@@ -223,8 +231,9 @@ read-alternatives-byte-at-requires t c κs = search needs
 read-alternatives-returns : (t : ℕ) → read-alternatives-lts.Need-returns (alternatives-callees t) (read-alternatives-at t) read-alternatives.Post
 read-alternatives-returns t c =
     let k = c .before .before in
-    let a = k .before .before .before .before .before .before .args in
-    alternatives-end (a .rule .now) (a .at) (a .n) (sequence-read t k .1) (c .before .byte-at .ensures) (c .if1 .taken)
+    let s = k .before .before .before .before .before .before in
+    alternatives-tell _ _ _ _ _ (s .pre .1 .inside) _
+    (alternatives-end (s .args .rule .now) (s .args .at) (s .args .n) (sequence-read t k .1) (c .before .byte-at .ensures) (c .if1 .taken))
 
 read-alternatives-put-union-requires : (t : ℕ) → read-alternatives-lts.Need-put-union-requires (alternatives-callees t) (read-alternatives-at t) read-alternatives.Post
 read-alternatives-put-union-requires t c κs = search needs
@@ -268,18 +277,21 @@ read-alternatives-returns-2 t c =
     let u = c .before .before .before in
     let b = u .before .before .before in
     let k = b .before in
-    let a = k .before .before .before .before .before .before .args in
+    let s = k .before .before .before .before .before .before in
+    let a = s .args in
     let g = k .before .sequence .given .0 in
     let r = c .before .read-alternatives in
     rw (c .several .ensures)
+    (alternatives-tell _ _ _ _ _ (s .pre .1 .inside) _
     (alternatives-go (a .rule .now) (a .at) (a .n) (sequence-read t k .1) (b .byte-at .ensures) (u .before .before .if1 .left) (r .last .1 .1 .0) (r .result)
     (subst₂ (λ (l : List ℕ) (n : ℕ). AlternativesSay (a .rule .now) n (alts (drop (g .0 + 1) (a .rule .now))) l (r .last .1 .1 .0) (r .result))
-    (u .put-union .ensures .1) (u .put-union .ensures .0) (r .ensures)))
+    (u .put-union .ensures .1) (u .put-union .ensures .0) (r .ensures .reads))))
 
 read-alternatives-returns-3 : (t : ℕ) → read-alternatives-lts.Need-returns-3 (alternatives-callees t) (read-alternatives-at t) read-alternatives.Post
 read-alternatives-returns-3 t c =
-    let a = c .before .before .before .before .before .before .args in
-    alternatives-stop (a .rule .now) (a .at) (rw (c .before .sequence2 .given .1) at (c .before .before .before .read-sequence .ensures))
+    let s = c .before .before .before .before .before .before in
+    alternatives-tell _ _ _ _ _ (s .pre .1 .inside) _
+    (alternatives-stop (s .args .rule .now) (s .args .at) (rw (c .before .sequence2 .given .1) at (c .before .before .before .read-sequence .ensures .reads)))
 
 pub +read-alternatives+read-item+read-sequence-spec : {M : Type 1} → statement M
 +read-alternatives+read-item+read-sequence-spec =

@@ -20,7 +20,7 @@ put-letter-requires : tie.Need-put-letter-requires
 put-letter-requires c κs =
     let s = c .before .before .before .before .before .before in
     let a = s .args in
-    let t = rw (c .before .before .sign .given .1) at (c .before .before .before .before .read-sign .ensures) in
+    let t = rw (c .before .before .sign .given .1) at (c .before .before .before .before .read-sign .ensures .reads) in
     (s .pre .room, s .pre .few, sign-bounded (a .rule .now) (a .at) t)
 
 can-be-left-out-requires : tie.Need-can-be-left-out-requires
@@ -38,7 +38,7 @@ returns c =
     let q = signOf (g .0 .0) in (
       repeated (bytesOf (a .class)) q,
       record {
-        took = bind-gives (rw (g .1) at (l .before .before .before .before .before .read-sign .ensures)) (repeated (bytesOf (a .class))) refl;
+        took = bind-gives (rw (g .1) at (l .before .before .before .before .before .read-sign .ensures .reads)) (repeated (bytesOf (a .class))) refl;
         stands = l .put-letter .ensures;
         empties = c .can-be-left-out .ensures (bytesOf (a .class));
       },
@@ -47,7 +47,7 @@ returns c =
 returns-2 : tie.Need-returns-2
 returns-2 c =
     let a = c .before .before .before .before .before .args in
-    bind-stops (λ q r. got (repeated (bytesOf (a .class)) q) r) (rw (c .before .sign2 .given .1) at (c .before .before .before .read-sign .ensures))
+    bind-stops (λ q r. got (repeated (bytesOf (a .class)) q) r) (rw (c .before .sign2 .given .1) at (c .before .before .before .read-sign .ensures .reads))
 
 pub read-repeated-spec : {M : Type 1} → statement M
 read-repeated-spec = tie.close (tie.spec read-sign-requires enum-known-sign put-letter-requires can-be-left-out-requires enum-known-sign-2 returns returns-2)

@@ -8,11 +8,12 @@ use Rattle.rule_letters.specs.Answers.{LetterSays}
 use Rattle.rule_letters.specs.Classes.{afterBracket, afterEscape}
 use Rattle.rule_letters.proofs.Laws.Letters.{letter-class, letter-dot, letter-escape, letter-other, letter-plain}
 use Rattle.rule_bytes.proofs.Laws.Places.{goes, over-stops, stops, takes, took-as}
+use Rattle.rule_letters.proofs.Laws.Placed.{letter-tells}
 use Rattle.rule_letters.proofs.letters.read_letter.Statement.{statement}
 use Rattle.rule_letters.proofs.letters.read_letter.Tie as tie
 
 returns : tie.Need-returns
-returns c = let a = c .before .before .args in over-stops (a .rule .now) (a .at) (c .if1 .taken) readLetter refl
+returns c = let a = c .before .before .args in letter-tells _ _ _ (over-stops (a .rule .now) (a .at) (c .if1 .taken) readLetter refl)
 
 shared-slice-read-x : tie.Need-shared-slice-read-x
 shared-slice-read-x c = search needs
@@ -30,8 +31,9 @@ returns-2 : tie.Need-returns-2
 returns-2 c =
     let b = c .before .before .before .before in
     let a = b .before .before .args in
-    took-as (c .one .ensures) (takes (a .rule .now) (a .at) refl readLetter (b .if1 .left)
-    (λ xs. letter-plain (getD (a .rule .now) (a .at) 0) xs (sym (c .before .before .is-plain .ensures) ∙ c .before .if2 .taken)))
+    letter-tells _ _ _
+    (took-as (c .one .ensures) (takes (a .rule .now) (a .at) refl readLetter (b .if1 .left)
+    (λ xs. letter-plain (getD (a .rule .now) (a .at) 0) xs (sym (c .before .before .is-plain .ensures) ∙ c .before .if2 .taken))))
 
 every-requires : tie.Need-every-requires
 every-requires c κs = search needs
@@ -43,8 +45,9 @@ returns-3 : tie.Need-returns-3
 returns-3 c =
     let b = c .before .before .before .before .before in
     let a = b .before .before .args in
-    took-as (c .every .ensures) (takes (a .rule .now) (a .at) refl readLetter (b .if1 .left)
-    (λ xs. letter-dot (getD (a .rule .now) (a .at) 0) xs (c .before .if3 .taken)))
+    letter-tells _ _ _
+    (took-as (c .every .ensures) (takes (a .rule .now) (a .at) refl readLetter (b .if1 .left)
+    (λ xs. letter-dot (getD (a .rule .now) (a .at) 0) xs (c .before .if3 .taken))))
 
 add-read-members : tie.Need-add-read-members
 add-read-members c = search needs
@@ -56,16 +59,18 @@ returns-4 : tie.Need-returns-4
 returns-4 c =
     let b = c .before .before .before .before .before .before in
     let a = b .before .before .args in
-    goes (a .rule .now) (a .at) refl readLetter afterBracket (λ m. LetterSays (a .rule .now) m (c .read-members .result)) (b .if1 .left)
-    (λ xs. letter-class (getD (a .rule .now) (a .at) 0) xs (c .before .if4 .taken)) (c .read-members .ensures)
+    letter-tells _ _ _
+    (goes (a .rule .now) (a .at) refl readLetter afterBracket (λ m. LetterSays (a .rule .now) m (c .read-members .result)) (b .if1 .left)
+    (λ xs. letter-class (getD (a .rule .now) (a .at) 0) xs (c .before .if4 .taken)) (c .read-members .ensures .reads))
 
 returns-5 : tie.Need-returns-5
 returns-5 c =
     let b = c .before .before .before .before .before .before in
     let a = b .before .before .args in
-    stops (a .rule .now) (a .at) refl readLetter (omega arith) refl
+    letter-tells _ _ _
+    (stops (a .rule .now) (a .at) refl readLetter (omega arith) refl
     (λ xs. letter-other (getD (a .rule .now) (a .at) 0) xs (sym (c .before .before .before .before .is-plain .ensures) ∙ c .before .before .before .if2 .left)
-    (c .before .before .if3 .left) (c .before .if4 .left) (c .if5 .taken))
+    (c .before .before .if3 .left) (c .before .if4 .left) (c .if5 .taken)))
 
 add-read-escaped : tie.Need-add-read-escaped
 add-read-escaped c = search needs
@@ -77,8 +82,9 @@ returns-6 : tie.Need-returns-6
 returns-6 c =
     let b = c .before .before .before .before .before .before .before in
     let a = b .before .before .args in
-    goes (a .rule .now) (a .at) refl readLetter afterEscape (λ m. LetterSays (a .rule .now) m (c .read-escaped .result)) (b .if1 .left)
-    (λ xs. letter-escape (getD (a .rule .now) (a .at) 0) xs (c .before .if5 .left)) (c .read-escaped .ensures)
+    letter-tells _ _ _
+    (goes (a .rule .now) (a .at) refl readLetter afterEscape (λ m. LetterSays (a .rule .now) m (c .read-escaped .result)) (b .if1 .left)
+    (λ xs. letter-escape (getD (a .rule .now) (a .at) 0) xs (c .before .if5 .left)) (c .read-escaped .ensures))
 
 pub read-letter-spec : {M : Type 1} → statement M
 read-letter-spec =

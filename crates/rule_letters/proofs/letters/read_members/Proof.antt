@@ -7,6 +7,7 @@ use Rattle.model.specs.Models.Reader.{readMember}
 use Rattle.rule_bytes.specs.Places.{Took}
 use Rattle.rule_letters.specs.Classes.{bytesOf}
 use Rattle.rule_letters.proofs.Laws.Members.{Members, members-closed, members-more, members-on, members-stop, no-members}
+use Rattle.rule_letters.proofs.Laws.Placed.{class-tells}
 use Rattle.rule_letters.proofs.letters.read_members.Statement.{statement}
 use Rattle.rule_letters.proofs.letters.read_members.Tie as tie
 
@@ -38,7 +39,8 @@ enum-told c = search needs
 
 returns : tie.Need-returns Inv-loop μ-loop
 returns c =
-    rw (c .enum-told .given .1) (members-stop (c .before .before .before .loop .inv) (rw (c .enum-told .given .1) at (c .before .before .read-member .ensures)))
+    class-tells _ _ _ (c .before .before .before .before .before .before .pre)
+    (rw (c .enum-told .given .1) (members-stop (c .before .before .before .loop .inv) (rw (c .enum-told .given .1) at (c .before .before .read-member .ensures))))
 
 or-requires : tie.Need-or-requires Inv-loop μ-loop
 or-requires c κs = search needs
@@ -52,7 +54,8 @@ add-t11 c = let t = member (c .before .before .before) in let i = t .inside in s
 returns-2 : tie.Need-returns-2 Inv-loop μ-loop
 returns-2 c =
     let k = c .before .before .before in
-    members-closed (k .before .before .before .before .loop .inv) (member k) (c .before .byte-at .ensures) (c .before .before .or .ensures) (c .if1 .taken)
+    class-tells _ _ _ (k .before .before .before .before .before .before .before .pre)
+    (members-closed (k .before .before .before .before .loop .inv) (member k) (c .before .byte-at .ensures) (c .before .before .or .ensures) (c .if1 .taken))
 
 loop-less : tie.Need-loop-less Inv-loop μ-loop
 loop-less c =

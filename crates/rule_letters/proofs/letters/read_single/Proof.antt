@@ -10,6 +10,7 @@ use Rattle.model.specs.Models.Reader.{readEscape, readSingle}
 use Rattle.rule_letters.specs.Answers.{ByteSays}
 use Rattle.rule_letters.proofs.Laws.Letters.{single-bare, single-escape, single-low, single-other}
 use Rattle.rule_bytes.proofs.Laws.Places.{goes, inside, passes, stops, takes}
+use Rattle.rule_letters.proofs.Laws.Placed.{single-tells}
 use Rattle.rule_letters.proofs.letters.read_single.Statement.{statement}
 use Rattle.rule_letters.proofs.letters.read_single.Tie as tie
 
@@ -31,8 +32,9 @@ returns : tie.Need-returns
 returns c =
     let s = c .before .before .before .before .before in
     let b = c .before .before .before .byte-at in
-    stops (s .args .rule .now) (s .args .at) (b .ensures) (readSingle (s .args .lo)) (s .pre) refl
-    (λ xs. single-low (s .args .lo) (b .result) xs (is-bare (c .before)) (c .if2 .taken))
+    single-tells _ _ _ _ (omega arith) (s .pre)
+    (stops (s .args .rule .now) (s .args .at) (b .ensures) (readSingle (s .args .lo)) (s .pre) refl
+    (λ xs. single-low (s .args .lo) (b .result) xs (is-bare (c .before)) (c .if2 .taken)))
 
 add-t7 : tie.Need-add-t7
 add-t7 c = search needs
@@ -42,15 +44,17 @@ returns-2 c =
     let a = c .before .before .before .before .before .args in
     let b = c .before .before .before .byte-at in
     let k = is-bare (c .before) in
-    takes (a .rule .now) (a .at) (b .ensures) (readSingle (a .lo)) (passes (a .rule .now) (a .at) (b .ensures) bare refl k)
-    (λ xs. single-bare (a .lo) (b .result) xs k (c .if2 .left))
+    single-tells _ _ _ _ (omega arith) (c .before .before .before .before .before .pre)
+    (takes (a .rule .now) (a .at) (b .ensures) (readSingle (a .lo)) (passes (a .rule .now) (a .at) (b .ensures) bare refl k)
+    (λ xs. single-bare (a .lo) (b .result) xs k (c .if2 .left)))
 
 returns-3 : tie.Need-returns-3
 returns-3 c =
     let s = c .before .before .before .before .before in
     let b = c .before .before .before .byte-at in
-    stops (s .args .rule .now) (s .args .at) (b .ensures) (readSingle (s .args .lo)) (s .pre) refl
-    (λ xs. single-other (s .args .lo) (b .result) xs (sym (c .before .before .is-bare .ensures) ∙ c .before .if1 .left) (c .if3 .taken))
+    single-tells _ _ _ _ (omega arith) (s .pre)
+    (stops (s .args .rule .now) (s .args .at) (b .ensures) (readSingle (s .args .lo)) (s .pre) refl
+    (λ xs. single-other (s .args .lo) (b .result) xs (sym (c .before .before .is-bare .ensures) ∙ c .before .if1 .left) (c .if3 .taken)))
 
 add-read-escape : tie.Need-add-read-escape
 add-read-escape c = search needs
@@ -62,8 +66,9 @@ returns-4 : tie.Need-returns-4
 returns-4 c =
     let a = c .before .before .before .before .before .before .args in
     let b = c .before .before .before .before .byte-at in
-    goes (a .rule .now) (a .at) (b .ensures) (readSingle (a .lo)) (readEscape (a .lo)) (λ m. ByteSays (a .rule .now) m (c .read-escape .result))
-    (is-escape (c .before)) (λ xs. single-escape (a .lo) (b .result) xs (c .before .if3 .left)) (c .read-escape .ensures)
+    single-tells _ _ _ _ (omega arith) (c .before .before .before .before .before .before .pre)
+    (goes (a .rule .now) (a .at) (b .ensures) (readSingle (a .lo)) (readEscape (a .lo)) (λ m. ByteSays (a .rule .now) m (c .read-escape .result))
+    (is-escape (c .before)) (λ xs. single-escape (a .lo) (b .result) xs (c .before .if3 .left)) (c .read-escape .ensures))
 
 pub read-single-spec : {M : Type 1} → statement M
 read-single-spec =

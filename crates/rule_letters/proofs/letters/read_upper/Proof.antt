@@ -53,7 +53,7 @@ returns-2 c =
     let b = e .before .byte-at in
     goes (a .rule .now) (a .at) (b .ensures) (afterLower (a .lo)) (afterMinus (a .lo)) (λ m. Took (a .rule .now) m (bytesOf (c .span2 .result)) (u .0 .1 .0))
     (in-range e) (λ xs. lower-range (a .lo) (b .result) xs (e .if1 .left))
-    (bind-gives (rw (u .1) at (c .before .before .before .before .read-single .ensures)) (span (a .lo)) (c .span2 .ensures))
+    (bind-gives (rw (u .1) at (c .before .before .before .before .read-single .ensures .reads)) (span (a .lo)) (c .span2 .ensures))
 
 returns-3 : tie.Need-returns-3
 returns-3 c =
@@ -63,7 +63,7 @@ returns-3 c =
     let b = e .before .byte-at in
     goes (a .rule .now) (a .at) (b .ensures) (afterLower (a .lo)) (afterMinus (a .lo)) (λ m. Stopped (a .rule .now) m (u .0 .0))
     (in-range e) (λ xs. lower-range (a .lo) (b .result) xs (e .if1 .left))
-    (bind-stops _ (rw (u .1) at (c .before .before .before .read-single .ensures)))
+    (bind-stops _ (rw (u .1) at (c .before .before .before .read-single .ensures .reads)))
 
 pub read-upper-spec : {M : Type 1} → statement M
 read-upper-spec =

@@ -1,6 +1,6 @@
 // What the operations answer: done, with what they give by value, or a refusal. The numbers of the documents' tables stand here, and nowhere else in code.
 ghost use mathlib.Core.Path.{_≡_};
-ghost use Rattle.answers.specs.Answers.{numberOf};
+ghost use Rattle.answers.specs.Answers.{numberOf, placeOf};
 
 // In the order of their numbers: document 01's, those of a watch, and those of a proposal. What is no rule comes with its place (document 02, Wish 2).
 pub enum Refusal {
@@ -54,5 +54,25 @@ pub fn number(refusal: Refusal) -> u64
         Refusal::PlaceTooFar => 10,
         Refusal::NotAnEnd => 16,
         Refusal::NoRoomForStates => 17,
+    }
+}
+
+// The place of a refusal: only what is no rule has one.
+pub fn place(refusal: Refusal) -> usize
+    ensures { λ r. ⌜ r ≡ placeOf refusal ⌝ }
+{
+    match refusal {
+        Refusal::RuleTooLong => 0,
+        Refusal::NotARule(place) => place,
+        Refusal::TooManyStates => 0,
+        Refusal::TooDeep => 0,
+        Refusal::NoRoomForImage => 0,
+        Refusal::NotAnImage => 0,
+        Refusal::TextTooLong => 0,
+        Refusal::NoRoomForWriting => 0,
+        Refusal::NotAMask => 0,
+        Refusal::PlaceTooFar => 0,
+        Refusal::NotAnEnd => 0,
+        Refusal::NoRoomForStates => 0,
     }
 }

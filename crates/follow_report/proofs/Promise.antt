@@ -5,7 +5,7 @@ use mathlib.Core.List.{List, [], _++_, append-nil}
 use Prim.Native.Nat.{ℕ, _<_}
 use native.Mathlib.Omega.{arith}
 use lib.ListN.{length, replicate, take}
-use Rattle.model.specs.Answers.{BuildSays, Counted, done}
+use Rattle.model.specs.Answers.{BuildSays, Counted, done, gives}
 use Rattle.model.specs.Image.{image}
 use Rattle.model.specs.Tree.{Tree}
 use Rattle.model.proofs.Answers.Build.{build-one}
@@ -22,7 +22,7 @@ use Rattle.follow_report.proofs.Laws.Whole.{begun-writes}
 pub followed : {rule journal text : List ℕ} {stretches : List (List ℕ)} (t : Tree) → Acceptable rule (replicate 4834 0) t → Arrives journal stretches → FollowSays rule stretches text
     → Followed t journal text
 followed {rule} {stretches = stretches} t A J (follows {n} {after} (built B b) W) =
-    begun-writes (take n after) t (accepted rule (replicate 4834 0) (record { number = 0; given = n; lent = after }) B refl t (A .is-rule)) stretches J b W
+    begun-writes (take n after) t (accepted rule (replicate 4834 0) (gives n after) B refl t (A .is-rule)) stretches J b W
 followed {rule} t A J (follows (Opens.refused a B z k n e) W) =
     let whole = done (image t) (replicate 4834 0) in
     let D : BuildSays rule (replicate 4834 0) whole = BuildSays.built t (A .short) (A .is-rule) (A .few) (A .shallow) (A .room) refl in
@@ -37,7 +37,7 @@ quiet nothing e = refl
 unfollowed : {rule text : List ℕ} {stretches : List (List ℕ)} (a : Counted) → BuildSays rule (replicate 4834 0) a → 0 < a .number → FollowSays rule stretches text
     → text ≡ refusedText (a .number)
 unfollowed {rule} a B z (follows {n} {after} (built C b) W) =
-    absurd (omega (arith, z, ap (λ (x : Counted). x .number) (build-one rule (replicate 4834 0) a (record { number = 0; given = n; lent = after }) B C)))
+    absurd (omega (arith, z, ap (λ (x : Counted). x .number) (build-one rule (replicate 4834 0) a (gives n after) B C)))
 unfollowed {rule} a B z (follows {first = first} (Opens.refused c C y k n e) W) =
     ap (λ (x : List ℕ). first ++ x) (quiet W n) ∙ append-nil first ∙ e ∙ ap (λ (x : Counted). refusedText (x .number)) (build-one rule (replicate 4834 0) c a C B)
 

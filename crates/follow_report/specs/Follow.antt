@@ -4,7 +4,7 @@ use mathlib.Core.Path.{_≡_}
 use mathlib.Core.List.{List, [], _∷_, _++_}
 use Prim.Native.Nat.{ℕ, _+_, _%_, _^_, _≤_, _<_}
 use lib.ListN.{length, replicate, take}
-use Rattle.model.specs.Answers.{BuildSays, Counted}
+use Rattle.model.specs.Answers.{BuildSays, Counted, gives}
 use Rattle.model.specs.Ends.{EndsAre}
 use Rattle.model.specs.Lists.{All, each}
 use Rattle.model.specs.Tree.{Tree}
@@ -36,7 +36,7 @@ pub record Begins (words : List ℕ) (next : Next) (text : List ℕ) : Type 0 wh
 
 -- OPENING, before anything of the journal is read: the rule is built, n words into those lent, which are `after` then, and a watch begun
 pub data Opens (rule lent : List ℕ) (n : ℕ) (after : List ℕ) (next : Next) (text : List ℕ) : Type 0 where
-  built : BuildSays rule lent (record { number = 0; given = n; lent = after }) → Begins (take n after) next text → Opens rule lent n after next text
+  built : BuildSays rule lent (gives n after) → Begins (take n after) next text → Opens rule lent n after next text
   refused : (a : Counted) → BuildSays rule lent a → 0 < a .number → after ≡ a .lent → next ≡ stopped → text ≡ refusedText (a .number) → Opens rule lent n after next text
 
 -- "takes one stretch of bytes at a time", with room for 4,096 ends

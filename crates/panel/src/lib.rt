@@ -1,9 +1,10 @@
 // The watcher's operations as a library for C and firmware: a symbol for each, which trusts no caller. Each gives one 64-bit number, that of the
-// documents' tables times 2^32 plus the count.
+// documents' tables times 2^32 plus the count, or with number 2 the place.
 use answers::Answer;
 use answers::Judged;
 use answers::Proposed;
 use answers::number;
+use answers::place;
 use watcher::begin;
 use watcher::build;
 use watcher::check_spelling;
@@ -16,16 +17,16 @@ ghost use Prim.Native.Nat.{_+_, _*_, _^_, _<_};
 ghost use Rattle.model.specs.Answers.{BuildSays, MatchSays, ReadBackSays};
 ghost use Rattle.model.specs.Spelling.{CheckSays, ProposeSays};
 ghost use Rattle.model.specs.Watch.{BeginSays, StepSays, watch};
-ghost use Rattle.answers.specs.Answers.{countIn, judgement, numberIn, proposedNumber, proposedStretch};
+ghost use Rattle.answers.specs.Answers.{countIn, judgement, numberIn, placeIn, proposedNumber, proposedPlace, proposedStretch};
 ghost use Rattle.panel.specs.Says.{Gives, itsCount, itself, oneIfYes, StartsBefore};
 
-// An answer's number and count, in one.
+// An answer's number, and its place or its count, in one.
 fn pack(answer: Answer) -> u64
-    requires { ⌜ countIn answer < 2 ^ 32 ⌝ }
-    ensures { λ r. ⌜ r ≡ numberIn answer * 2 ^ 32 + countIn answer ⌝ }
+    requires { ⌜ placeIn answer + countIn answer < 2 ^ 32 ⌝ }
+    ensures { λ r. ⌜ r ≡ numberIn answer * 2 ^ 32 + (placeIn answer + countIn answer) ⌝ }
 {
     match answer {
-        Answer::Refused(refusal) => number(refusal) * 0x1_0000_0000,
+        Answer::Refused(refusal) => { number(refusal) * 0x1_0000_0000 + place(refusal) as u64 }
         Answer::Done(count) => count as u64,
     }
 }
@@ -90,7 +91,8 @@ pub extern "C" fn lavumbishe_step(
 
 // The same of the check of a spelling, with 1 for yes.
 fn pack_judged(judged: Judged) -> u64
-    ensures { λ r. ⌜ r ≡ judgement judged .number * 2 ^ 32 + oneIfYes (judgement judged .given) ⌝ }
+    requires { ⌜ judgement judged .place < 2 ^ 32 ⌝ }
+    ensures { λ r. ⌜ r ≡ judgement judged .number * 2 ^ 32 + (judgement judged .place + oneIfYes (judgement judged .given)) ⌝ }
 {
     match judged {
         Judged::Refused(refusal) => pack(Answer::Refused(refusal)),
@@ -116,8 +118,8 @@ pub extern "C" fn lavumbishe_check_spelling(
 
 // The same of the proposer, with the number of states.
 fn pack_proposed(proposed: Proposed) -> u64
-    requires { ⌜ proposedStretch proposed .count < 2 ^ 32 ⌝ }
-    ensures { λ r. ⌜ r ≡ proposedNumber proposed * 2 ^ 32 + proposedStretch proposed .count ⌝ }
+    requires { ⌜ proposedPlace proposed + proposedStretch proposed .count < 2 ^ 32 ⌝ }
+    ensures { λ r. ⌜ r ≡ proposedNumber proposed * 2 ^ 32 + (proposedPlace proposed + proposedStretch proposed .count) ⌝ }
 {
     match proposed {
         Proposed::Refused(refusal) => pack(Answer::Refused(refusal)),

@@ -50,7 +50,7 @@ accepts {rule} {before} r after B = (λ d. taken (ap numberIn (d .1)) B, λ a. d
   where
     taken : {a : Counted} → a .number ≡ 0 → BuildSays rule before a → (t : Tree) × Acceptable rule before t
     taken z (BuildSays.rule-too-long l e) = absurd (omega (arith, ap (λ (x : Counted). x .number) e))
-    taken z (BuildSays.not-a-rule l f e) = absurd (omega (arith, ap (λ (x : Counted). x .number) e))
+    taken z (BuildSays.not-a-rule p l f P e) = absurd (omega (arith, ap (λ (x : Counted). x .number) e))
     taken z (BuildSays.too-many-states u l d m e) = absurd (omega (arith, ap (λ (x : Counted). x .number) e))
     taken z (BuildSays.too-deep u l d m k e) = absurd (omega (arith, ap (λ (x : Counted). x .number) e))
     taken z (BuildSays.no-room u l d m k n e) = absurd (omega (arith, ap (λ (x : Counted). x .number) e))

@@ -4,13 +4,13 @@ use mathlib.Core.List.{List, [], _∷_}
 use Prim.Native.Nat.{ℕ, _≤_}
 use native.Mathlib.Omega.{arith}
 use lib.ListN.{length, length-replicate, length-take, replicate}
-use Rattle.model.specs.Answers.{done}
+use Rattle.model.specs.Answers.{done, gives}
 use Rattle.model.specs.Watch.{BeginSays, begun, foundBy, stepped, StepSays, stretch-too-long, text-too-long, watch, Watched}
 use Rattle.watcher.proofs.Laws.Ends.{ends-few, stretch-ends-few}
 use Rattle.program_lines.proofs.Laws.Room.{room-kept}
 
 -- as many are shown as are counted
-shown : (found : List ℕ) (k : ℕ) → length found ≤ k → length (foundBy (record { number = 0; given = length found; lent = watch [] 0 (done found (replicate k 0) .lent) })) ≡ length found
+shown : (found : List ℕ) (k : ℕ) → length found ≤ k → length (foundBy (gives (length found) (watch [] 0 (done found (replicate k 0) .lent)))) ≡ length found
 shown found k l =
     let lent = done found (replicate k 0) .lent in
     omega (arith, length-take (length found) lent, room-kept found (replicate k 0), length-replicate {A = ℕ} k 0)

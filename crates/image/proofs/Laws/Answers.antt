@@ -7,7 +7,7 @@ use Prim.Native.Nat.{ℕ, _+_, _≤_, _<_}
 use native.Mathlib.Omega.{arith}
 use lib.ListN.{length, length-map}
 use lib.Seq.{sets}
-use Rattle.model.specs.Answers.{refused}
+use Rattle.model.specs.Answers.{gives, refused}
 use Rattle.model.specs.Edges.{depth, states}
 use Rattle.model.specs.Image.{image}
 use Rattle.model.specs.Tree as tree
@@ -96,9 +96,9 @@ module _ {row : List ℕ} {n : ℕ} {tape : Tape} {laid : OnTape} (T : Taped row
 
       -- DONE
       module _ {after : List ℕ} (fits : p .length ≤ length before) (is : after ≡ sets before 0 (imageWords p row tape)) where
-        pub says-stored : StoreSays row n before (record { number = 0; given = p .length; lent = after })
+        pub says-stored : StoreSays row n before (gives (p .length) after)
         says-stored t R =
             let P = of-rule t R in
             let e = size-is t P in
             let w = is ∙ ap (sets before 0) (words-as t P ∙ image-stored row tape t P (all-tokens t R)) ∙ sets-fit before (image t) in
-            stored (P .shallow) (omega (arith, e)) (λ i. record { number = 0; given = e i; lent = w i })
+            stored (P .shallow) (omega (arith, e)) (λ i. gives (e i) (w i))

@@ -37,15 +37,15 @@ writing-small t i =
     omega (arith, ap (λ (w : List ℕ). length w) e, tokens-short own, length-owns (tokens t []) begin, length-tokens t, i .few)
 
 module _ {words before : List ℕ} where
-  pub count-small : {a : Counted} → ReadBackSays words before a → a .given ≤ 1178877
-  count-small (not-an-image n e) = omega (arith, ap (λ (a : Counted). a .given) e)
-  count-small (no-room t i l e) = omega (arith, ap (λ (a : Counted). a .given) e)
-  count-small (written t i l e) = omega (arith, ap (λ (a : Counted). a .given) e, writing-small t i)
+  pub count-small : {a : Counted} → ReadBackSays words before a → (a .place ≡ 0) × (a .given ≤ 1178877)
+  count-small (not-an-image n e) = (ap (λ (a : Counted). a .place) e, omega (arith, ap (λ (a : Counted). a .given) e))
+  count-small (no-room t i l e) = (ap (λ (a : Counted). a .place) e, omega (arith, ap (λ (a : Counted). a .given) e))
+  count-small (written t i l e) = (ap (λ (a : Counted). a .place) e, omega (arith, ap (λ (a : Counted). a .given) e, writing-small t i))
 
   -- WHAT A CALLER TAKES FROM THE NUMBER GIVEN is the table's number and count; and there is one number to be given
   module _ {r : ℕ} {after : List ℕ} (G : Gives itself (ReadBackSays words before) r after) where
     pub read-back-apart : Apart G
-    read-back-apart = apart G (omega (arith, count-small (G .says)))
+    read-back-apart = let k = count-small (G .says) in apart G (k .0) (omega (arith, k .1))
 
     pub read-back-given : {q : ℕ} {later : List ℕ} → Gives itself (ReadBackSays words before) q later → (r ≡ q) × (after ≡ later)
     read-back-given = one-given G (read-back-one words before)

@@ -1,7 +1,7 @@
 -- The proposer's answer is the table's, and its number and count are packed.
 use native.Mathlib.Omega.{arith}
 use borrow.Author.Needs.{needs}
-use Rattle.answers.specs.Answers.{proposedNumber, proposedStretch}
+use Rattle.answers.specs.Answers.{proposedNumber, proposedPlace, proposedStretch}
 use Rattle.panel.proofs.Laws.Spelling.{proposed-small, proposed-start}
 use Rattle.panel.proofs.lavumbishe_propose_spelling.Statement.{statement}
 use Rattle.panel.proofs.lavumbishe_propose_spelling.Tie as tie
@@ -10,7 +10,7 @@ propose-spelling-requires : tie.Need-propose-spelling-requires
 propose-spelling-requires c κs = search needs
 
 pack-proposed-requires : tie.Need-pack-proposed-requires
-pack-proposed-requires c κs = omega (arith, proposed-small (c .before .before .propose-spelling .ensures))
+pack-proposed-requires c κs = let k = proposed-small (c .before .before .propose-spelling .ensures) in omega (arith, k .0, k .1)
 
 same-length : tie.Need-same-length
 same-length c = search needs
@@ -20,6 +20,7 @@ returns c =
     let p = c .before .before .before .propose-spelling in
     record {
       number = proposedNumber (p .result);
+      place = proposedPlace (p .result);
       given = proposedStretch (p .result);
       says = (p .ensures, proposed-start (p .ensures));
       packed = c .pack-proposed .ensures;

@@ -1,4 +1,5 @@
 -- What is packed for each answer is its number, and 1 for yes.
+use native.Mathlib.Omega.{arith}
 use borrow.Author.Needs.{needs}
 use Rattle.panel.proofs.pack_judged.Statement.{statement}
 use Rattle.panel.proofs.pack_judged.Tie as tie
@@ -7,7 +8,7 @@ enum-known-judged : tie.Need-enum-known-judged
 enum-known-judged c = search needs
 
 pack-requires : tie.Need-pack-requires
-pack-requires c κs = search needs
+pack-requires c κs = let k = rw (c .before .judged .given .1) at (c .before .before .before .pre) in omega (arith, k)
 
 enum-told : tie.Need-enum-told
 enum-told c = search needs

@@ -7,7 +7,7 @@ enum-known-proposed : tie.Need-enum-known-proposed
 enum-known-proposed c = search needs
 
 pack-requires : tie.Need-pack-requires
-pack-requires c κs = search needs
+pack-requires c κs = rw (c .before .proposed .given .1) at (c .before .before .before .pre)
 
 enum-known-proposed-2 : tie.Need-enum-known-proposed-2
 enum-known-proposed-2 c = search needs

@@ -9,7 +9,7 @@ use native.Mathlib.Omega.{arith}
 use lib.Dec.{T}
 use lib.ListN.{length, take}
 use lib.Seq.{sets}
-use Rattle.model.specs.Answers.{ImageOf}
+use Rattle.model.specs.Answers.{gives, ImageOf}
 use Rattle.model.specs.Bits.{bit}
 use Rattle.model.specs.Edges.{accepting, states}
 use Rattle.model.specs.Image.{width}
@@ -68,10 +68,10 @@ module _ (ws : List ℕ) {r : Checked} (C : CheckSays ws r) {p : Sections} (g : 
     pub begin-done : length mask ≡ p .width → (words : List ℕ) → length words ≡ 8 → Fit words → run.BeginSays ws words
         → (hit : Bool) → hit ≡ bit (value words) (p .states - 1) → {total : ℕ} → total ≡ (0 + length (noted hit 0)) % 2 ^ 64 → {after new : List ℕ}
         → after ≡ sets ends 0 (noted hit 0) → new ≡ take (p .width) words
-        → BeginSays ws mask place ends (record { number = 0; given = total; lent = watch new 0 after })
+        → BeginSays ws mask place ends (gives total (watch new 0 after))
     begin-done long words eight fits B hit looked {total} counts {after} {new} writes laid =
         begun t (take (width (states t)) words) (noted hit 0) I (long ∙ width-is) (states-mask t (I .few) words (Before t) eight fits A) (ends-zero t (I .is-rule) hit is)
-        (ap₂ (λ (n : ℕ) (e : List ℕ). record { number = 0; given = n; lent = watch new 0 e }) total-is (writes ∙ sets-fit ends (noted hit 0))
+        (ap₂ (λ (n : ℕ) (e : List ℕ). gives n (watch new 0 e)) total-is (writes ∙ sets-fit ends (noted hit 0))
         ∙ ap (λ (m : List ℕ). goes-on m 0 (noted hit 0) ends) (laid ∙ ap (λ (n : ℕ). take n words) width-is))
       where
         A : run.StatesAre t words (Before t)
@@ -122,11 +122,11 @@ module _ (ws : List ℕ) {r : Checked} (C : CheckSays ws r) {p : Sections} (g : 
           goes = record { placed = placed; long = its-words; limits = record { small = small; near = omega arith; few = omega arith } }
 
           pub step-done : {words : List ℕ} {total : ℕ} {after new : List ℕ} → run.GoOnSays ws mask place stretch ends words total after → new ≡ take (p .width) words
-              → Says (record { number = 0; given = total; lent = watch new (place + length stretch) after })
+              → Says (gives total (watch new (place + length stretch) after))
           step-done {words} {total} {after} {new} G laid =
               let R = G t I M in
               stepped t (take (width (states t)) words) (R .found) I small M (omega arith) (R .live) (R .ends)
-              (ap₂ (λ (n : ℕ) (l : List ℕ). record { number = 0; given = n; lent = watch new (place + length stretch) l }) (R .counted) (R .stored)
+              (ap₂ (λ (n : ℕ) (l : List ℕ). gives n (watch new (place + length stretch) l)) (R .counted) (R .stored)
               ∙ ap (λ (m : List ℕ). goes-on m (place + length stretch) (R .found) ends) (laid ∙ ap (λ (n : ℕ). take n words) width-is))
 
 pub begin-other : (ws mask : List ℕ) (place : ℕ) (ends : List ℕ) {r : Checked} → CheckSays ws r → r .verdict ≡ Other → BeginSays ws mask place ends (stays 6 mask place ends)

@@ -5,13 +5,13 @@ use Prim.Native.Nat.{ℕ, _+_, _-_, _*_, _≤_}
 use native.Mathlib.Omega.{arith}
 use lib.ListN.{drop, length, length-replicate, take}
 use lib.Seq.{sets-eq, take-append-seam}
-use Rattle.model.specs.Answers.{BuildSays, built, Counted, no-room, not-a-rule, refused, rule-too-long, too-deep, too-many-states}
+use Rattle.model.specs.Answers.{BuildSays, built, Counted, no-room, not-a-rule, refusedAt, rule-too-long, too-deep, too-many-states}
 use Rattle.model.specs.Edges.{states}
 use Rattle.model.specs.Grammar.{IsRule}
 use Rattle.model.specs.Models.Tokens.{tokens}
 use Rattle.model.specs.Tree as tree
 use Rattle.model.proofs.Image.Tokens.{length-tokens}
-use Rattle.answers.specs.Answers.{numberOf}
+use Rattle.answers.specs.Answers.{numberOf, placeOf}
 use Rattle.tokens.specs.Rows.{rowWords}
 use Rattle.rule.specs.Says as reading
 use Rattle.rule.specs.Tokens.{noTokens, roomWith}
@@ -31,12 +31,12 @@ module _ (rule before : List ℕ) where
     pub held : row ≡ roomWith (tokens t [])
 
   abbrev pub Answered : Outcome → List ℕ → Type 0
-  Answered (Refused x) row = BuildSays rule before (refused (numberOf x) before)
+  Answered (Refused x) row = BuildSays rule before (refusedAt (placeOf x) (numberOf x) before)
   Answered (Tree m) row = (t : tree.Tree) × TreeRead t m row
 
   pub answered : (r : Reading) → reading.ReadSays rule r → Answered (r .outcome) (r .tokens)
   answered r (reading.too-long l e) = rw e (rule-too-long l refl)
-  answered r (reading.not-a-rule l f e) = rw e (not-a-rule l f refl)
+  answered r (reading.not-a-rule p l f P e) = rw e (not-a-rule p l f P refl)
   answered r (reading.too-many-states t l d m e) = rw e (too-many-states t l d m refl)
   answered r (reading.read t l d m e) = rw e (t, record { short = l; is-rule = d; few = m; size = refl; held = refl })
 

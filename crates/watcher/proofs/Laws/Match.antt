@@ -4,7 +4,7 @@ use mathlib.Core.Path.{_≡_, refl}
 use mathlib.Core.List.{List}
 use Prim.Native.Nat.{ℕ, _≤_, _<_}
 use lib.ListN.{length}
-use Rattle.model.specs.Answers.{matched, MatchSays, not-an-image, refused, text-too-long}
+use Rattle.model.specs.Answers.{gives, matched, MatchSays, not-an-image, refused, text-too-long}
 use Rattle.model.proofs.Definitions.TreeEnds.{tree-ends, treeEnds}
 use Rattle.model.proofs.Image.Decided.{rule-full}
 use Rattle.model.proofs.Words.Run.{Bytes}
@@ -28,11 +28,11 @@ module _ (words text before : List ℕ) {r : Checked} (C : CheckSays words r) wh
     too-long l = let F = found words r C g in text-too-long (F .tree) (F .image-of) l refl
 
     pub all-found : length text ≤ 65535 → Bytes text → (total : ℕ) (after : List ℕ) → FindSays words text before total after
-        → MatchSays words text before (record { number = 0; given = total; lent = after })
+        → MatchSays words text before (gives total after)
     all-found l B total after S =
         let F = found words r C g in
         let I = F .image-of in
         let ends = treeEnds (F .tree) text in
         let E = tree-ends (F .tree) (rule-full (F .tree) (I .is-rule)) text B in
         let q = S (F .tree) I ends E in
-        matched (F .tree) ends I l E (λ i. record { number = 0; given = q .0 i; lent = q .1 i })
+        matched (F .tree) ends I l E (λ i. gives (q .0 i) (q .1 i))

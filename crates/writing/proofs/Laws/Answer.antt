@@ -6,7 +6,7 @@ use Prim.Native.Nat.{ℕ, _≤_, _<_}
 use native.Mathlib.Omega.{arith}
 use lib.Dec.{T}
 use lib.ListN.{length, length-map}
-use Rattle.model.specs.Answers.{done, ImageOf, no-room, ReadBackSays, written}
+use Rattle.model.specs.Answers.{done, gives, ImageOf, no-room, ReadBackSays, written}
 use Rattle.model.specs.Models.Sections.{widthWord}
 use Rattle.model.specs.Tree.{Tree}
 use Rattle.model.specs.Writing.{writing}
@@ -34,7 +34,7 @@ of-text ws s I before text q = go (le-or-lt (length text) (length before))
     go : (length text ≤ length before) ⊎ (length before < length text) → ReadBackSays ws before (answered (writtenIf text before) (bytesAfter text before))
     go (inl h) =
         rw (le-true (length text) (length before) h)
-        (written s I (omega (arith, long)) (ap (λ (l : List ℕ). record { number = 0; given = length text; lent = l }) (sets-fit before text) ∙ ap (λ (x : List ℕ). done x before) q))
+        (written s I (omega (arith, long)) (ap (λ (l : List ℕ). gives (length text) l) (sets-fit before text) ∙ ap (λ (x : List ℕ). done x before) q))
     go (inr h) = rw (le-false (length text) (length before) h) (no-room s I (omega (arith, long)) refl)
 
 -- what `own_marks` and `write` ask, and what `write` answers

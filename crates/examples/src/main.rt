@@ -1,5 +1,5 @@
-// The examples of document 01, and those of repeated groups, through build, read back and match: what the desk program writes about a rule and a text,
-// and the masks that the document prints.
+// The examples of document 01, and those of repeated groups and of places, through build, read back and match: what the desk program writes about a rule
+// and a text, and the masks that the document prints.
 use desk_report::report;
 use image_sections::sections_of;
 use watcher::build;
@@ -99,9 +99,20 @@ fn show_refusals() {
     show(b"(((((((((a|b)|b)|b)|b)|b)|b)|b)|b)|b)", b"a");
 }
 
+// Where a rule went wrong: what a number and a range can still become counts.
+fn show_places() {
+    show(b"(a", b"a");
+    show(b"a{3,2}", b"aaa");
+    show(b"a{300,2}", b"aaa");
+    show(b"a{1000}", b"a");
+    show(b"[c-\\x62]", b"c");
+    show(b"\\x4", b"A");
+}
+
 fn main() {
     show_letters();
     show_unions();
     show_repeated();
     show_refusals();
+    show_places();
 }

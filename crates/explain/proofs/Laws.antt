@@ -6,15 +6,12 @@ use Prim.Native.Nat.{ℕ, _+_, _-_, _^_, _≤_, _<_}
 use native.Mathlib.Omega.{arith}
 use lib.ListN.{drop, length, length-append, length-drop, length-replicate, length-take, replicate}
 use Rattle.model.specs.Spelling.{between, CheckSays, Judgement, no-end, no-room, Proposal, proposed, ProposeSays, Spelled, right, wrong}
-use Rattle.answers.specs.Answers.{judgement, numberOf, proposal}
+use Rattle.answers.specs.Answers.{judgement, proposal}
 use Rattle.answers.specs.declared.Judged.{Judged}
 use Rattle.answers.specs.declared.Judged.the-variants.{Yes}
 use Rattle.answers.specs.declared.Proposed.{Proposed}
 use Rattle.answers.specs.declared.Proposed.the-variants.{Done}
-use Rattle.answers.specs.declared.Refusal.{Refusal}
-use Rattle.answers.proofs.Apart.{number-known}
-use Rattle.program_lines.specs.Lines.{decimal, refusedText}
-use Rattle.program_lines.specs.Work.{PutAt}
+use Rattle.program_lines.specs.Lines.{decimal}
 use Rattle.program_lines.proofs.Laws.Numbers.{number-short}
 use Rattle.explain.specs.Readings.{Fits, Small}
 use Rattle.explain.specs.declared.reading.Numbered.{Numbered}
@@ -25,9 +22,6 @@ use Rattle.explain.specs.declared.reading.Reading.the-variants as readin
 -- ---- HOW LONG
 pub ten-digits : (n : ℕ) → n < 2 ^ 32 → length (decimal n) ≤ 10
 ten-digits n l = omega (arith, number-short 9 n (omega (arith, l)), length-append (decimal n) (10 ∷ []))
-
-pub refused-short : (x : Refusal) {before after : List ℕ} {r : ℕ} → PutAt (refusedText (numberOf x)) before 0 r after → r ≤ 11
-refused-short x P = omega (arith, P .place, number-short 1 (numberOf x) (omega (arith, number-known x .1)))
 
 pub room-enough : (n : ℕ) → n ≤ length {A = ℕ} (replicate n 0)
 room-enough n = omega (arith, length-replicate {A = ℕ} n 0)

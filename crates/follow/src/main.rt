@@ -40,12 +40,12 @@ fn follow(image: &[u64], first: Watching) {
     }
 }
 
-// No more than 1,025 bytes of the rule need be read. A text at the opening has at most 11 bytes.
+// No more than 1,025 bytes of the rule need be read. A text at the opening has at most 18 bytes.
 fn main() {
     let mut rule = [0u8; 1025];
     let rule_length = read_file(b"rule", &mut rule);
     let mut image = [0u64; 4834];
-    let mut text = [0u8; 11];
+    let mut text = [0u8; 18];
     let opened = open(&rule[..rule_length], &mut image, &mut text);
     let said = opened.said;
     let length = said.length;

@@ -35,11 +35,11 @@ quiet (went-on H W) e = absurd (never e)
 quiet nothing e = refl
 
 unfollowed : {rule text : List ℕ} {stretches : List (List ℕ)} (a : Counted) → BuildSays rule (replicate 4834 0) a → 0 < a .number → FollowSays rule stretches text
-    → text ≡ refusedText (a .number)
+    → text ≡ refusedText (a .number) (a .place)
 unfollowed {rule} a B z (follows {n} {after} (built C b) W) =
     absurd (omega (arith, z, ap (λ (x : Counted). x .number) (build-one rule (replicate 4834 0) a (gives n after) B C)))
 unfollowed {rule} a B z (follows {first = first} (Opens.refused c C y k n e) W) =
-    ap (λ (x : List ℕ). first ++ x) (quiet W n) ∙ append-nil first ∙ e ∙ ap (λ (x : Counted). refusedText (x .number)) (build-one rule (replicate 4834 0) c a C B)
+    ap (λ (x : List ℕ). first ++ x) (quiet W n) ∙ append-nil first ∙ e ∙ ap (λ (x : Counted). refusedText (x .number) (x .place)) (build-one rule (replicate 4834 0) c a C B)
 
 -- SO WHAT IS WRITTEN DOES NOT DEPEND ON THE CUTTING, whatever the rule
 pub cut-anyhow : {rule journal text other : List ℕ} {stretches others : List (List ℕ)} → Arrives journal stretches → Arrives journal others → FollowSays rule stretches text

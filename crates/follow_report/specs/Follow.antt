@@ -26,7 +26,7 @@ pub data Next : Type 0 where
 -- an answer of the watch in writing: a line for each end found, with which there are `total`; or the refusal
 pub data Told (w : Watched) (total : ℕ) (next : Next) (text : List ℕ) : Type 0 where
   found : w .number ≡ 0 → next ≡ on (record { mask = w .lent .mask; place = w .lent .place; total = total % 2 ^ 64 }) → text ≡ endLines (foundBy w) → Told w total next text
-  refused : 0 < w .number → next ≡ stopped → text ≡ refusedText (w .number) → Told w total next text
+  refused : 0 < w .number → next ≡ stopped → text ≡ refusedText (w .number) (w .place) → Told w total next text
 
 -- "a watch that begins with an image": the line `0` where place 0 is an end
 pub record Begins (words : List ℕ) (next : Next) (text : List ℕ) : Type 0 where
@@ -37,7 +37,7 @@ pub record Begins (words : List ℕ) (next : Next) (text : List ℕ) : Type 0 wh
 -- OPENING, before anything of the journal is read: the rule is built, n words into those lent, which are `after` then, and a watch begun
 pub data Opens (rule lent : List ℕ) (n : ℕ) (after : List ℕ) (next : Next) (text : List ℕ) : Type 0 where
   built : BuildSays rule lent (gives n after) → Begins (take n after) next text → Opens rule lent n after next text
-  refused : (a : Counted) → BuildSays rule lent a → 0 < a .number → after ≡ a .lent → next ≡ stopped → text ≡ refusedText (a .number) → Opens rule lent n after next text
+  refused : (a : Counted) → BuildSays rule lent a → 0 < a .number → after ≡ a .lent → next ≡ stopped → text ≡ refusedText (a .number) (a .place) → Opens rule lent n after next text
 
 -- "takes one stretch of bytes at a time", with room for 4,096 ends
 pub record Hears (words : List ℕ) (kept : Kept) (stretch : List ℕ) (next : Next) (text : List ℕ) : Type 0 where

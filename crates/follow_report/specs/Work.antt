@@ -4,6 +4,8 @@ use mathlib.Core.Bool.{Bool, true, false}
 use mathlib.Core.List.{List}
 use Prim.Native.Nat.{ℕ}
 use lib.ListN.{take}
+use Rattle.answers.specs.Answers.{numberOf, placeOf}
+use Rattle.answers.specs.declared.Refusal.{Refusal}
 use Rattle.image_sections.specs.Sections.{maskWords}
 use Rattle.program_lines.specs.Lines.{endLines, refusedText}
 use Rattle.program_lines.specs.Work.{PutAt}
@@ -22,9 +24,9 @@ nextIf false kept = stopped
 abbrev pub nextIn : (words : List ℕ) → Said → Next
 nextIn words r = nextIf (r .on) (keptIn words (r .watching))
 
-pub record Stops (number : ℕ) (before : List ℕ) (r : Said) (after : List ℕ) : Type 0 where
+pub record Stops (refusal : Refusal) (before : List ℕ) (r : Said) (after : List ℕ) : Type 0 where
   pub off : r .on ≡ false
-  pub put : PutAt (refusedText number) before 0 (r .length) after
+  pub put : PutAt (refusedText (numberOf refusal) (placeOf refusal)) before 0 (r .length) after
 
 pub record Goes (ends : List ℕ) (count : ℕ) (watching : Watching) (before : List ℕ) (r : Said) (after : List ℕ) : Type 0 where
   pub on : r .on ≡ true

@@ -13,7 +13,6 @@ use watcher::step;
 ghost use mathlib.Core.Path.{_≡_};
 ghost use Prim.Native.Nat.{_≤_};
 ghost use lib.ListN.{length, take};
-ghost use Rattle.answers.specs.Answers.{numberOf};
 ghost use Rattle.program_lines.specs.Lines.{Reports, totalText};
 ghost use Rattle.follow_report.specs.Follow.{Begins, Hears, Opens};
 ghost use Rattle.follow_report.specs.Work.{Goes, keptIn, nextIn, Stops};
@@ -40,7 +39,7 @@ pub struct Opened {
 
 // A refusal: nothing is kept, and nothing comes after.
 fn stop(text: &mut [u8], refusal: Refusal) -> Said
-    ensures { λ r. ⌜ Stops (numberOf refusal) (now (text .entry)) r (now (text .exit)) ⌝ }
+    ensures { λ r. ⌜ Stops refusal (now (text .entry)) r (now (text .exit)) ⌝ }
 {
     let mask = [0u64; 8];
     let watching = Watching {

@@ -1,7 +1,9 @@
 -- LINES AND NUMBERS (document 01, "The desk program"), and a text in lent bytes.
 use mathlib.Core.Path.{_≡_}
+use mathlib.Core.Bool.{cond}
 use mathlib.Core.List.{List, [], _∷_, _++_}
 use Prim.Native.Nat.{ℕ, zero, suc, _+_, _/_, _%_}
+use lib.Dec.{eqb}
 use lib.ListN.{length}
 use Rattle.model.specs.Answers.{done}
 use Rattle.model.specs.Bytes.{byte, bytes}
@@ -20,9 +22,9 @@ digitsOf (suc most) (suc n) = digitsOf most (suc n / 10) ++ ((byte "0" + suc n %
 abbrev pub decimal : ℕ → List ℕ
 decimal n = digitsOf n (n / 10) ++ ((byte "0" + n % 10) ∷ [])
 
--- "The first refusal writes only the line `refused N`."
-abbrev pub refusedText : ℕ → List ℕ
-refusedText n = line (bytes "refused " ++ decimal n)
+-- "The first refusal writes only the line `refused N`."; and with 2 also the place, "`refused 2 at P`" (document 02, Wish 2)
+abbrev pub refusedText : (number place : ℕ) → List ℕ
+refusedText n p = cond (eqb n 2) (line (bytes "refused 2 at " ++ decimal p)) (line (bytes "refused " ++ decimal n))
 
 -- "Rule `a`, journal `aba` gives the four lines `a`, `total 2`, `1`, `3`."
 abbrev pub totalText : ℕ → List ℕ

@@ -2,10 +2,11 @@
 // 21 bytes.
 use answers::Refusal;
 use answers::number;
+use answers::place;
 ghost use mathlib.Core.Path.{_≡_};
-ghost use Prim.Native.Nat.{_+_, _*_, _^_, _<_, min};
+ghost use Prim.Native.Nat.{_+_, _*_, _^_, _≤_, _<_, min};
 ghost use lib.ListN.{length, take};
-ghost use Rattle.answers.specs.Answers.{numberOf};
+ghost use Rattle.answers.specs.Answers.{numberOf, placeOf};
 ghost use Rattle.program_lines.specs.Lines.{decimal, endLines, line, refusedText, totalText};
 ghost use Rattle.program_lines.specs.Work.{PutAt};
 
@@ -51,12 +52,18 @@ pub fn put_total(text: &mut [u8], at: usize, total: u64) -> usize
     put_number(text, after, total)
 }
 
-// `refused N`
+// `refused N`, or `refused 2 at P`: at most 34 bytes.
 pub fn put_refusal(text: &mut [u8], refusal: Refusal) -> usize
-    ensures { λ r. ⌜ PutAt (refusedText (numberOf refusal)) (now (text .entry)) 0 r (now (text .exit)) ⌝ }
+    ensures line { λ r. ⌜ PutAt (refusedText (numberOf refusal) (placeOf refusal)) (now (text .entry)) 0 r (now (text .exit)) ⌝ }
+    ensures short { λ r. ⌜ r ≤ 34 ⌝ }
 {
-    let after = put(text, 0, b"refused ");
-    put_number(text, after, number(refusal))
+    let n = number(refusal);
+    if n == 2 {
+        let place_at = put(text, 0, b"refused 2 at ");
+        return put_number(text, place_at, place(refusal) as u64);
+    }
+    let number_at = put(text, 0, b"refused ");
+    put_number(text, number_at, n)
 }
 
 fn least(a: usize, b: usize) -> usize

@@ -48,7 +48,7 @@ returns : tie.Need-returns
 returns c =
     let d = c .before .before .before .before .before in
     let b = when-refused d .build in
-    reports (c .before .before .put-refusal .ensures) (build-refused (b .result) (b .last .1 .0) (b .ensures) (d .built .given .1))
+    reports (c .before .before .put-refusal .ensures .0) (build-refused (b .result) (b .last .1 .0) (b .ensures) (d .built .given .1))
 
 same-length-2 : tie.Need-same-length-2
 same-length-2 c = search needs

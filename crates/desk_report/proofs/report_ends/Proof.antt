@@ -43,7 +43,7 @@ returns : tie.Need-returns
 returns c =
     let d = c .before .before .before .before .before in
     let m = when-refused d in
-    reports (c .before .before .put-refusal .ensures)
+    reports (c .before .before .put-refusal .ensures .0)
     (match-refused (start m .args .writing .now) (m .match-ends .result) (m .match-ends .last .1 .1 .0) (m .match-ends .ensures) (d .matched .given .1))
 
 same-length-2 : tie.Need-same-length-2

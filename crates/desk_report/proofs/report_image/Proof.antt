@@ -52,7 +52,7 @@ returns : tie.Need-returns
 returns c =
     let d = c .before .before .before .before .before in
     let b = when-refused d .read-back in
-    reports (c .before .before .put-refusal .ensures) (read-back-refused (b .result) (b .last .1 .0) (b .ensures) (d .written .given .1))
+    reports (c .before .before .put-refusal .ensures .0) (read-back-refused (b .result) (b .last .1 .0) (b .ensures) (d .written .given .1))
 
 same-length-2 : tie.Need-same-length-2
 same-length-2 c = search needs

@@ -2,7 +2,6 @@
 use native.Mathlib.Omega.{arith}
 use Rattle.program_lines.proofs.Laws.Room.{First}
 use Rattle.desk_report.proofs.Laws.Stages.{image-first}
-use Rattle.explain.proofs.Laws.{refused-short}
 use borrow.Author.Needs.{needs}
 use Rattle.explain.proofs.answer.Statement.{statement}
 use Rattle.explain.proofs.answer.Tie as tie
@@ -39,7 +38,7 @@ same-length : tie.Need-same-length
 same-length c = search needs
 
 returns : tie.Need-returns
-returns c = omega (arith, refused-short (c .before .before .before .before .before .built .given .0 .0) (c .before .before .put-refusal .ensures))
+returns c = omega (arith, c .before .before .put-refusal .ensures .1)
 
 same-length-2 : tie.Need-same-length-2
 same-length-2 c = search needs

@@ -2,7 +2,7 @@
 use mathlib.Core.Path.{sym}
 use native.Mathlib.Omega.{arith}
 use Rattle.program_lines.proofs.Laws.Room.{First, first}
-use Rattle.explain.proofs.Laws.{Lies, proposed-lies, record-fits, refused-short, states-few}
+use Rattle.explain.proofs.Laws.{Lies, proposed-lies, record-fits, states-few}
 use borrow.Author.Needs.{needs}
 use Rattle.explain.proofs.explain.Statement.{statement}
 use Rattle.explain.proofs.explain.Tie as tie
@@ -58,7 +58,7 @@ same-length : tie.Need-same-length
 same-length c = search needs
 
 returns : tie.Need-returns
-returns c = omega (arith, refused-short (c .before .before .before .before .before .proposed .given .0 .0) (c .before .before .put-refusal .ensures))
+returns c = omega (arith, c .before .before .put-refusal .ensures .1)
 
 same-length-2 : tie.Need-same-length-2
 same-length-2 c = search needs

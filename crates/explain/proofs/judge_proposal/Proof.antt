@@ -2,7 +2,7 @@
 use mathlib.Core.Path.{refl}
 use native.Mathlib.Omega.{arith}
 use lib.ListN.{length}
-use Rattle.explain.proofs.Laws.{Lies, record-fits, refused-short, right-lies}
+use Rattle.explain.proofs.Laws.{Lies, record-fits, right-lies}
 use borrow.Author.Needs.{needs}
 use Rattle.explain.proofs.judge_proposal.Statement.{statement}
 use Rattle.explain.proofs.judge_proposal.Tie as tie
@@ -56,7 +56,7 @@ same-length : tie.Need-same-length
 same-length c = search needs
 
 returns : tie.Need-returns
-returns c = omega (arith, refused-short (c .before .before .before .before .before .judged .given .0 .0) (c .before .before .put-refusal .ensures))
+returns c = omega (arith, c .before .before .put-refusal .ensures .1)
 
 same-length-2 : tie.Need-same-length-2
 same-length-2 c = search needs

@@ -45,5 +45,5 @@ heard-place words w r e H =
 
 -- ---- an image that a watch is begun with lies in the words lent
 pub opened-words : (words : List ℕ) (r : Said) {rule lent after text : List ℕ} {n : ℕ} → r .on ≡ true → Opens rule lent n after (nextIn words r) text → n ≤ length lent
-opened-words words r e (built B b) = build-fits B .1
+opened-words words r e (built B b) = build-fits B .count
 opened-words words r e (Opens.refused a B l k n t) = absurd (never (sym (goes-on words r e) ∙ n))

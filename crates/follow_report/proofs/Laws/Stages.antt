@@ -8,7 +8,7 @@ use lib.ListN.{length, replicate, take}
 use lib.Seq.{take-at}
 use Rattle.model.specs.Answers.{BuildSays}
 use Rattle.model.specs.Watch.{BeginSays, StepSays, watch, Watch}
-use Rattle.answers.specs.Answers.{answered, numberOf}
+use Rattle.answers.specs.Answers.{answered, numberOf, placeOf}
 use Rattle.answers.specs.declared.Answer.{Answer}
 use Rattle.answers.specs.declared.Answer.the-variants.{Done, Refused}
 use Rattle.answers.specs.declared.Refusal.{Refusal}
@@ -24,10 +24,10 @@ use Rattle.follow_report.specs.declared.Watching.{Watching}
 
 -- ---- any answer of the watch in writing
 module _ (words : List ℕ) {before after : List ℕ} {r : Said} where
-  off : {n : ℕ} → Stops n before r after → nextIn words r ≡ stopped
+  off : {x : Refusal} → Stops x before r after → nextIn words r ≡ stopped
   off S = ap (λ (b : Bool). nextIf b (keptIn words (r .watching))) (S .off)
 
-  stops : (x : Refusal) {total : ℕ} {lent : Watch} → Stops (numberOf x) before r after → Told (answered (Refused x) lent) total (nextIn words r) (refusedText (numberOf x))
+  stops : (x : Refusal) {total : ℕ} {lent : Watch} → Stops x before r after → Told (answered (Refused x) lent) total (nextIn words r) (refusedText (numberOf x) (placeOf x))
   stops x S = Told.refused (number-known x .0) (off S) refl
 
   goes : (mask rest : List ℕ) (place : ℕ) (ends : List ℕ) {n t total : ℕ} → Goes ends n (record { mask = mask ++ rest; place = place; total = t }) before r after
@@ -54,7 +54,7 @@ module _ (words : List ℕ) {width : ℕ} (e : width ≡ maskWords words) (b : A
       subst (λ (k : ℕ). BeginSays words (take k (replicate 8 0)) 0 (0 ∷ []) (answered q (watch mask place ends))) e
       (subst (λ (q : Answer). BeginSays words (take width (replicate 8 0)) 0 (0 ∷ []) (answered q (watch mask place ends))) d B)
 
-  pub begin-refused : {before after : List ℕ} {r : Said} {x : Refusal} → b ≡ Refused x → Stops (numberOf x) before r after → Reports (Begins words (nextIn words r)) before (r .length) after
+  pub begin-refused : {before after : List ℕ} {r : Said} {x : Refusal} → b ≡ Refused x → Stops x before r after → Reports (Begins words (nextIn words r)) before (r .length) after
   begin-refused {x = x} d S = reports (S .put) (record { answer = answered (Refused x) (watch mask place ends); says = said d; told = stops words x S })
 
   pub begin-goes : {before after : List ℕ} {r : Said} {n : ℕ} (rest : List ℕ) → b ≡ Done n → Goes ends n (record { mask = mask ++ rest; place = place; total = n }) before r after → n < 2 ^ 64
@@ -73,7 +73,7 @@ module _ (words : List ℕ) {width : ℕ} (e : width ≡ maskWords words) (w : W
       subst (λ (k : ℕ). StepSays words (take k (w .mask)) (w .place) stretch (replicate 4096 0) (answered q (watch mask place ends))) e
       (subst (λ (q : Answer). StepSays words (take width (w .mask)) (w .place) stretch (replicate 4096 0) (answered q (watch mask place ends))) d S)
 
-  pub step-refused : {before after : List ℕ} {r : Said} {x : Refusal} → s ≡ Refused x → Stops (numberOf x) before r after
+  pub step-refused : {before after : List ℕ} {r : Said} {x : Refusal} → s ≡ Refused x → Stops x before r after
       → Reports (Hears words (keptIn words w) stretch (nextIn words r)) before (r .length) after
   step-refused {x = x} d T = reports (T .put) (record { answer = answered (Refused x) (watch mask place ends); says = says d; told = stops words x T })
 
@@ -91,14 +91,14 @@ module _ {rule lent : List ℕ} (b : Answer) (after : List ℕ) (B : BuildSays r
   was-built : {q : Answer} → b ≡ q → BuildSays rule lent (answered q after)
   was-built d = subst (λ (q : Answer). BuildSays rule lent (answered q after)) d B
 
-  pub build-refused : {words : ℕ} {before later : List ℕ} {r : Said} {x : Refusal} → b ≡ Refused x → Stops (numberOf x) before r later
+  pub build-refused : {words : ℕ} {before later : List ℕ} {r : Said} {x : Refusal} → b ≡ Refused x → Stops x before r later
       → Reports (Opens rule lent words after (nextIn (take words after) r)) before (r .length) later
   build-refused {words = words} {x = x} d S =
       reports (S .put) (Opens.refused (answered (Refused x) after) (was-built d) (number-known x .0) refl (off (take words after) S) refl)
 
   module _ {n : ℕ} (d : b ≡ Done n) where
     pub image-first : length after ≡ length lent → First n after
-    image-first e = first (build-fits (was-built d) .1) e
+    image-first e = first (build-fits (was-built d) .count) e
 
     pub image-goes-on : (r : Said) {before later : List ℕ} → Reports (Begins (take n after) (nextIn (take n after) r)) before (r .length) later
         → Reports (Opens rule lent n after (nextIn (take n after) r)) before (r .length) later

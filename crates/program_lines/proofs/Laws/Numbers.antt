@@ -5,12 +5,13 @@ use Prim.Native.Nat.{ℕ, zero, suc, _+_, _*_, _/_, _%_, _^_, _≤_, _<_}
 use native.Mathlib.Nat.{mod-lt, one-le-pow, pow-suc, suc-mul}
 use native.Mathlib.Numerals.{unary-clauses}
 use native.Mathlib.Omega.{arith}
+use lib.Dec.{eqb}
 use lib.ListN.{length, length-append}
 use Rattle.io.specs.Digits.{digits, Fewest, glyph}
 use Rattle.model.specs.Bytes.{byte, bytes}
 use Rattle.model.specs.Lists.{All}
-use Rattle.model.proofs.Laws.Bool.{pick-le}
-use Rattle.program_lines.specs.Lines.{decimal, digitsOf, endLines, line}
+use Rattle.model.proofs.Laws.Bool.{cond-cases, pick-le}
+use Rattle.program_lines.specs.Lines.{decimal, digitsOf, endLines, line, refusedText}
 
 -- so they read as usual
 reads : (decimal 0 ≡ bytes "0") × (decimal 60 ≡ bytes "60") × (decimal 4294967296 ≡ bytes "4294967296")
@@ -53,6 +54,11 @@ short (suc most) (suc n) (suc k) l =
 pub number-short : (k n : ℕ) → n < 10 ^ suc k → length (line (decimal n)) ≤ k + 2
 number-short k n l =
     omega (arith, length-append (decimal n) (10 ∷ []), length-append (digitsOf n (n / 10)) ((byte "0" + n % 10) ∷ []), short n (n / 10) k (omega (arith, l, pow-suc 10 k)))
+
+-- the line of a refusal
+pub refused-short : (k n p : ℕ) → n < 100 → p < 10 ^ suc k → length (refusedText n p) ≤ k + 15
+refused-short k n p l h =
+    cond-cases (λ (t : List ℕ). length t ≤ k + 15) (eqb n 2) (λ e. omega (arith, number-short k p h)) (λ e. omega (arith, number-short 1 n l))
 
 pub ends-short : (k : ℕ) (ps : List ℕ) → All (λ (p : ℕ). p < 10 ^ suc k) ps → length (endLines ps) ≤ length ps * (k + 2)
 ends-short k [] S = omega arith

@@ -6,7 +6,8 @@ use Prim.Native.Nat.{ℕ, zero, suc, _≤_, _<_}
 use native.Mathlib.Omega.{arith}
 use lib.ListN.{drop, length, length-take, replicate, take, take-append-drop}
 use lib.Seq.{length-sets}
-use Rattle.model.specs.Answers.{BuildSays, built, Counted, done, no-room, not-a-rule, rule-too-long, too-deep, too-many-states}
+use Rattle.model.specs.Answers.{BuildSays, built, Counted, done, no-room, not-a-rule, refused, rule-too-long, too-deep, too-many-states}
+use Rattle.model.specs.Image.{image}
 use Rattle.model.specs.Lists.{All}
 use Rattle.model.proofs.Laws.Lists.{all-app, all-left, all-right}
 use Rattle.model.proofs.Laws.Stores.{sets-fit}
@@ -35,14 +36,22 @@ pub record First (n : ℕ) (after : List ℕ) : Type 0 where
 pub first : {n room : ℕ} {after : List ℕ} → n ≤ room → length after ≡ room → First n after
 first {n} {room} {after} l e = record { fits = omega (arith, e); counted = omega (arith, length-take n after, e) }
 
--- ---- an answer's number has one digit, and its count is within the room
-abbrev pub Fits : List ℕ → Counted → Type 0
-Fits before a = (a .number < 10) × (a .given ≤ length before)
+-- ---- an answer's number has one digit, its place at most four, and its count is within the room
+pub record Fits (before : List ℕ) (a : Counted) : Type 0 where
+  pub number : a .number < 10
+  pub place : a .place < 10000
+  pub count : a .given ≤ length before
+
+pub none-fits : (before : List ℕ) (n : ℕ) → n < 10 → Fits before (refused n before)
+none-fits before n l = record { number = l; place = omega arith; count = omega arith }
+
+pub all-fits : (before whole : List ℕ) → length whole ≤ length before → Fits before (done whole before)
+all-fits before whole l = record { number = omega arith; place = omega arith; count = l }
 
 pub build-fits : {rule before : List ℕ} {a : Counted} → BuildSays rule before a → Fits before a
-build-fits (rule-too-long l e) = rw e (omega arith)
-build-fits (not-a-rule l f e) = rw e (omega arith)
-build-fits (too-many-states t l d m e) = rw e (omega arith)
-build-fits (too-deep t l d m k e) = rw e (omega arith)
-build-fits (no-room t l d m k n e) = rw e (omega arith)
-build-fits (built t l d m k n e) = rw e (omega arith)
+build-fits {before = before} (rule-too-long l e) = rw e (none-fits before 1 (omega arith))
+build-fits (not-a-rule p l f P e) = rw e (record { number = omega arith; place = omega (arith, P .inside); count = omega arith })
+build-fits {before = before} (too-many-states t l d m e) = rw e (none-fits before 3 (omega arith))
+build-fits {before = before} (too-deep t l d m k e) = rw e (none-fits before 4 (omega arith))
+build-fits {before = before} (no-room t l d m k n e) = rw e (none-fits before 5 (omega arith))
+build-fits {before = before} (built t l d m k n e) = rw e (all-fits before (image t) n)

@@ -1,4 +1,4 @@
-// Build in plain C: the rule by recursive descent into tokens, its states and depth counted, and the image laid out in the words lent.
+// Build in plain C: the rule by recursive descent into tokens, or its place; its states and depth counted, and the image laid out in the words lent.
 #include "tree.h"
 
 uint64_t baseline_build(const uint8_t *rule, size_t rule_len, uint64_t *image, size_t image_len);
@@ -37,28 +37,28 @@ static int hex_digit(int byte) {
     return byte >= '0' && byte <= '9' ? byte - '0' : byte >= 'A' && byte <= 'F' ? byte - 'A' + 10 : byte >= 'a' && byte <= 'f' ? byte - 'a' + 10 : -1;
 }
 
-// The byte that an escape stands for, after its `\`; -1 if there is none. So too below.
-static int read_escape(struct reader *reader) {
+// The byte that an escape stands for, at least `least`, after its `\`; -1 where none can come, and then the reader stays there. So too below.
+static int read_escape(struct reader *reader, int least) {
     int byte = peek(reader), high, low;
-    if (byte < 0)
-        return -1;
-    reader->at++;
     if (byte == '-' || is_sign(byte))
-        return byte;
-    if (byte != 'x' || (high = hex_digit(peek(reader))) < 0)
+        return byte < least ? -1 : (reader->at++, byte);
+    if (byte != 'x')
         return -1;
     reader->at++;
-    if ((low = hex_digit(peek(reader))) < 0)
+    if ((high = hex_digit(peek(reader))) < 0 || 16 * high + 15 < least)
+        return -1;
+    reader->at++;
+    if ((low = hex_digit(peek(reader))) < 0 || 16 * high + low < least)
         return -1;
     reader->at++;
     return 16 * high + low;
 }
 
-static int read_single(struct reader *reader) {
+static int read_single(struct reader *reader, int least) {
     int byte = peek(reader);
     if (byte == '\\')
-        return reader->at++, read_escape(reader);
-    if (byte == '-' || !is_plain(byte))
+        return reader->at++, read_escape(reader, least);
+    if (byte == '-' || !is_plain(byte) || byte < least)
         return -1;
     reader->at++;
     return byte;
@@ -67,12 +67,10 @@ static int read_single(struct reader *reader) {
 // A class, after its `[`.
 static int read_class(struct reader *reader, uint64_t *class) {
     do {
-        int low = read_single(reader), high = low;
-        if (low < 0)
-            return 0;
-        if (take(reader, '-'))
-            high = read_single(reader);
-        if (high < low)
+        int low = read_single(reader, 0), high = low;
+        if (low >= 0 && take(reader, '-'))
+            high = read_single(reader, low);
+        if (high < 0)
             return 0;
         for (int byte = low; byte <= high; byte++)
             set_bit(class, (size_t)byte);
@@ -90,7 +88,7 @@ static int read_letter(struct reader *reader, uint64_t *class) {
         return reader->at++, 1;
     }
     if (byte == '\\')
-        reader->at++, byte = read_escape(reader);
+        reader->at++, byte = read_escape(reader, 0);
     else if (is_plain(byte))
         reader->at++;
     else
@@ -101,30 +99,29 @@ static int read_letter(struct reader *reader, uint64_t *class) {
     return 1;
 }
 
-static int read_number(struct reader *reader) {
-    const uint8_t *start = reader->at;
-    int number = 0;
-    while (peek(reader) >= '0' && peek(reader) <= '9') {
-        if (reader->at - start == 3)
+// A number of at least `least`. After a digit it can grow by as many nines as digits may follow, after `0` by none.
+static int read_number(struct reader *reader, int least) {
+    int number = 0, digits = 0;
+    while (digits < 3 && (digits == 0 || number > 0) && peek(reader) >= '0' && peek(reader) <= '9') {
+        int next = 10 * number + peek(reader) - '0', most = next == 0 || digits == 2 ? next : digits == 1 ? 10 * next + 9 : 100 * next + 99;
+        if (most < least)
             return -1;
-        number = 10 * number + *reader->at++ - '0';
+        number = next, digits++, reader->at++;
     }
-    if (reader->at == start || (*start == '0' && reader->at - start > 1))
-        return -1;
-    return number;
+    return digits == 0 || number < least ? -1 : number;
 }
 
 // `{x}`, `{x,y}` or `{,y}`, after its `{`.
 static enum read read_bounds(struct reader *reader, struct token *token) {
     int low = 0, high;
     if (take(reader, ','))
-        high = read_number(reader);
+        high = read_number(reader, 1);
     else {
-        high = low = read_number(reader);
+        high = low = read_number(reader, 0);
         if (low >= 0 && take(reader, ','))
-            high = read_number(reader);
+            high = read_number(reader, low > 1 ? low : 1);
     }
-    if (low < 0 || high < low || high < 1 || !take(reader, '}'))
+    if (low < 0 || high < 1 || !take(reader, '}'))
         return WRONG;
     token->options = (unsigned)(high - low), token->times = (unsigned)low;
     return low == 0 ? CAN_BE_EMPTY : FULL;
@@ -239,7 +236,7 @@ uint64_t baseline_build(const uint8_t *rule, size_t rule_len, uint64_t *image, s
         return (uint64_t)1 << 32;
     reader.at = rule, reader.end = rule + rule_len, reader.count = 0;
     if (read_alternatives(&reader, &several) == WRONG || reader.at != reader.end)
-        return (uint64_t)2 << 32;
+        return ((uint64_t)2 << 32) + (uint64_t)(reader.at - rule);
     put_close(&reader, 0, several);
     measure(reader.tokens, reader.count, &states, &depth);
     if (states > MOST_STATES)

@@ -1,6 +1,6 @@
 // One rule from the desk to the panel, that of examples/valve: the dosing valve is opened (O) twice with no flow (F) between. The desk builds its
-// image and reads it back for the inspector; the panel gets the image alone and looks for the rule in a journal, one byte for each event: in the whole
-// of it, and as it arrives.
+// image, after a slip of the pen, and reads it back for the inspector; the panel gets the image alone and looks for the rule in a journal, one byte for
+// each event: in the whole of it, and as it arrives.
 #include "lavumbishe.h"
 #include <stdio.h>
 #include <string.h>
@@ -31,6 +31,17 @@ static int refused(const char *what, uint64_t result) {
     };
     printf("%s refused with %u: %s.\n", what, lavumbishe_number(result), why[lavumbishe_number(result)]);
     return 1;
+}
+
+// The clerk forgot the `]`. Up to the place all is well; from there on no rule can go on.
+static int slip(void) {
+    static const char wrong[] = "O[A-EG-NP-Z*O";
+    uint64_t built = lavumbishe_build((const uint8_t *)wrong, strlen(wrong), image, LAVUMBISHE_IMAGE_WORDS);
+    if (lavumbishe_number(built) != LAVUMBISHE_NOT_A_RULE)
+        return 1;
+    refused("Build", built);
+    printf("  %s goes wrong after %.*s\n", wrong, (int)lavumbishe_place(built), wrong);
+    return 0;
 }
 
 static int desk(void) {
@@ -103,7 +114,7 @@ static int arriving(void) {
 }
 
 int main(void) {
-    if (desk() != 0 || panel() != 0)
+    if (slip() != 0 || desk() != 0 || panel() != 0)
         return 1;
     printf("The same journal as it arrives:\n");
     if (arriving() != 0)

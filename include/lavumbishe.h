@@ -7,7 +7,7 @@
  *     uint64_t image[LAVUMBISHE_IMAGE_WORDS];
  *     uint64_t built = lavumbishe_build(rule, rule_len, image, LAVUMBISHE_IMAGE_WORDS);
  *     if (lavumbishe_number(built) != LAVUMBISHE_DONE)
- *         ...                                               refused: image is as it was
+ *         ...                                               refused: image is as it was; with 2 lavumbishe_place(built) says where
  *     size_t image_len = lavumbishe_count(built);           lend exactly these words to the others
  *
  * examples/watch.c is a whole program. 'rt staticlib panel' makes the library, target/staticlib/libpanel.a.
@@ -16,9 +16,10 @@
  * linked with it runs under an emulator such as qemu-user, as our own tests do there (tests/link); what is promised then rests on the emulator too.
  * Where there is no emulator it can't be run yet.
  *
- * The result holds two numbers: the number of the table below times 2^32, and a count below 2^32. Take them apart with lavumbishe_number and
- * lavumbishe_count. The checks run in the table's order, and the first that fails gives its number. A refusal has count 0 and changes nothing that
- * was lent. After 'done' the count is how much there is of the result, and what lies past it in the lent area is as it was.
+ * The result holds two numbers: the number of the table below times 2^32, and in the low half a count below 2^32, or with number 2 the place at
+ * which the rule went wrong. Take them apart with lavumbishe_number, lavumbishe_count and lavumbishe_place. The checks run in the table's order, and
+ * the first that fails gives its number. A refusal has count 0 and changes nothing that was lent. After 'done' the count is how much there is of the
+ * result, and what lies past it in the lent area is as it was.
  *
  * What a caller provides:
  *  - Areas. Each is a pointer and a length in elements, not in bytes: a word of an image or of a mask has 8 bytes, an end or a state 4, a place 8, a
@@ -77,8 +78,10 @@ enum {
     LAVUMBISHE_ENDS = 65536        /* 262,144 bytes */
 };
 
-/* Build: from a rule to its image. Numbers 0 to 5. The count is the image's length in words, which are the first ones of those lent. Store it with
- * the words: all other calls take exactly so many. The image of m states and depth d has 10 + W(515 + 11d) words, where W is m/64 rounded up: from
+/* Build: from a rule to its image. Numbers 0 to 5. With 2 the place is the length of the longest beginning of the rule that is also the beginning of
+ * some rule, however long: up to there all is well, and what stands there, or that nothing more does, can't go on to a rule. It is 0 to rule_len; `a||b`
+ * has 2, `(a` has 2, and `a{3,2}` has 5, since `a{3,20}` would be a rule. The count is the image's length in words, which are the first ones of those
+ * lent. Store it with the words: all other calls take exactly so many. The image of m states and depth d has 10 + W(515 + 11d) words, where W is m/64 rounded up: from
  * 525 words (4,200 bytes) to 4,834 (38,672 bytes). An image that was made before groups could take '*' has a section less and gets 6: build it anew
  * from its rule, or from its plain writing, which means what it meant. */
 uint64_t lavumbishe_build(const uint8_t *rule, size_t rule_len, uint64_t *image, size_t image_len);
@@ -158,10 +161,16 @@ uint64_t lavumbishe_check_spelling(const uint64_t *image, size_t image_len, cons
 uint64_t lavumbishe_propose_spelling(const uint64_t *image, size_t image_len, const uint8_t *text, size_t text_len, uint64_t end, uint32_t *states,
                                      size_t states_len);
 
-/* The two halves of a result. */
+/* A result taken apart: number, count and place. The place is 0 unless the number is 2, and the count is 0 after a refusal. */
 static inline unsigned lavumbishe_number(uint64_t result) { return (unsigned)(result >> 32); }
 
-static inline size_t lavumbishe_count(uint64_t result) { return (size_t)(result & 0xffffffffu); }
+static inline size_t lavumbishe_count(uint64_t result) {
+    return lavumbishe_number(result) == LAVUMBISHE_DONE ? (size_t)(result & 0xffffffffu) : 0;
+}
+
+static inline size_t lavumbishe_place(uint64_t result) {
+    return lavumbishe_number(result) == LAVUMBISHE_NOT_A_RULE ? (size_t)(result & 0xffffffffu) : 0;
+}
 
 #ifdef __cplusplus
 }

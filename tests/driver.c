@@ -12,10 +12,11 @@
 //     spoil lent AREA PLACE CALL            likewise what is lent at PLACE, or just outside (-1, ROOM); both so that a check can be seen to fail
 //
 // RULE, IMAGE, TEXT, STRETCH, MASK, PLACE and STATES are values in hex between commas, `-` for none; N*V is N times the value V. START and END are one
-// value each. A call is answered by NUMBER COUNT and, for each area lent, LENT: all of it as it is after the call, in the same form, `=` for an element
-// of the pattern. Before the call those of ROOM hold the pattern, and so do the elements on both sides of every area lent: element i is the highest
-// bytes of (i + 1) * PATTERN, its highest bit set (which no end of a match has, no state, and no byte of a plain writing). If one on the sides has
-// changed, the answer is `outside lent`, the area and the place; if what was given to be read has, `outside given` and the area.
+// value each. A call is answered by NUMBER COUNT (the result's low half: with number 2 the place of the rule) and, for each area lent, LENT: all of it as
+// it is after the call, in the same form, `=` for an element of the pattern. Before the call those of ROOM hold the pattern, and so do the elements on
+// both sides of every area lent: element i is the highest bytes of (i + 1) * PATTERN, its highest bit set (which no end of a match has, no state, and no
+// byte of a plain writing). If one on the sides has changed, the answer is `outside lent`, the area and the place; if what was given to be read has,
+// `outside given` and the area.
 #include "lavumbishe.h"
 #include <string.h>
 #include <unistd.h>
@@ -261,7 +262,8 @@ static void show(uint64_t result) {
         return;
     put_number(lavumbishe_number(result), 10);
     put(' ');
-    put_number(lavumbishe_count(result), 10);
+    // the low half as it is, whatever the number: lavumbishe_count would show 0 after a refusal
+    put_number(result & 0xffffffffu, 10);
     for (int which = 0; which < lents; which++)
         put(' '), show_area(lent[which]);
 }

@@ -1,6 +1,6 @@
 //! The library for C, called through tests/driver.c: its head says what lines it takes and what it answers.
 
-use crate::independent::{Proposal, Watch};
+use crate::independent::{Built, Proposal, Watch};
 use std::fmt::LowerHex;
 use std::io::{BufRead, BufReader, Write};
 use std::process::{Child, ChildStdin, ChildStdout, Command, Stdio};
@@ -31,7 +31,7 @@ macro_rules! lent {
 }
 lent!(u8, u32, u64);
 
-/// What a call gave: document 01's number, the count, and all that was lent as it is afterwards.
+/// What a call gave: document 01's number, the count, and all that was lent as it is afterwards. With number 2 the place stands where the count does.
 #[derive(Clone, PartialEq, Eq, Debug)]
 pub struct Answer<T> {
     pub number: u64,
@@ -48,7 +48,23 @@ impl<T: Lent> Answer<T> {
 
     /// What the call wrote, by its count.
     pub fn written(&self) -> &[T] {
-        &self.lent[..self.lent.len().min(self.count as usize)]
+        let count = if self.number == 0 { self.count as usize } else { 0 };
+        &self.lent[..self.lent.len().min(count)]
+    }
+}
+
+impl Answer<u64> {
+    /// Build's refusal of what is not in the grammar.
+    pub fn refused_at(place: usize, room: usize) -> Answer<u64> {
+        Answer { count: place as u64, ..Answer::of(2, &[], room) }
+    }
+
+    /// What build gives by the independent program.
+    pub fn built(built: &Built, room: usize) -> Answer<u64> {
+        match built.number {
+            2 => Answer::refused_at(built.place, room),
+            number => Answer::of(number, &built.image, room),
+        }
     }
 }
 
@@ -109,7 +125,8 @@ impl<T: Lent> Reply for Answer<T> {
 
     fn difference(&self, expected: &Answer<T>) -> Option<String> {
         let number = other("number", self.number, expected.number);
-        number.or_else(|| other("count", self.count, expected.count)).or_else(|| other_lent("lent", &self.lent, &expected.lent))
+        let count = if expected.number == 2 { "place" } else { "count" };
+        number.or_else(|| other(count, self.count, expected.count)).or_else(|| other_lent("lent", &self.lent, &expected.lent))
     }
 }
 

@@ -274,25 +274,54 @@ pub fn long(r: &mut Random) -> Vec<u8> {
 pub fn broken(r: &mut Random) -> Vec<u8> {
     let mut rule = small(r);
     for _ in 0..r.between(1, 3) {
-        let at = r.below(rule.len() + 1);
-        let byte = if r.one_in(8) { r.below(256) as u8 } else { *r.pick(TELLING) };
-        match r.below(5) {
-            0 if at < rule.len() => drop(rule.remove(at)),
-            1 if at < rule.len() => rule[at] = byte,
-            2 => rule.truncate(at),
-            3 if at < rule.len() => {
-                let other = r.below(rule.len());
-                rule.swap(at, other);
-            }
-            _ => rule.insert(at, byte),
-        }
+        change(r, &mut rule);
     }
     rule
+}
+
+/// One byte of a rule taken out, put in, changed or moved, or all from it on cut off.
+pub fn change(r: &mut Random, rule: &mut Vec<u8>) {
+    let at = r.below(rule.len() + 1);
+    let byte = if r.one_in(8) { r.below(256) as u8 } else { *r.pick(TELLING) };
+    match r.below(5) {
+        0 if at < rule.len() => drop(rule.remove(at)),
+        1 if at < rule.len() => rule[at] = byte,
+        2 => rule.truncate(at),
+        3 if at < rule.len() => {
+            let other = r.below(rule.len());
+            rule.swap(at, other);
+        }
+        _ => rule.insert(at, byte),
+    }
 }
 
 /// A few of the telling bytes, in any order.
 pub fn jumbled(r: &mut Random) -> Vec<u8> {
     (0..r.between(3, 12)).map(|_| *r.pick(TELLING)).collect()
+}
+
+/// Starts of rules, the bytes that come after them, and up to how many.
+const FORMS: [(&[u8], &[u8], u32); 4] = [
+    // all that a rule is made of
+    (b"", b"a()|?{},012[]-\\x.", 4),
+    // numbers
+    (b"a{", b"0129,}", 6),
+    // classes
+    (b"[", b"ac-\\x6]", 5),
+    // upper ends of a range
+    (b"[c-\\", b"x236F-|]", 4),
+];
+
+/// Every text of these forms, or with up to so many bytes more; of each form the shorter ones come first.
+pub fn short_texts(more: u32) -> impl Iterator<Item = Vec<u8>> {
+    FORMS.into_iter().flat_map(move |(start, bytes, most)| (0..=most + more).flat_map(move |length| texts_of(start, bytes, length)))
+}
+
+/// Every text of a start and so many of these bytes.
+fn texts_of(start: &'static [u8], bytes: &'static [u8], length: u32) -> impl Iterator<Item = Vec<u8>> {
+    let count = bytes.len();
+    let byte = move |n: usize, at: u32| bytes[n / count.pow(at) % count];
+    (0..count.pow(length)).map(move |n| start.iter().copied().chain((0..length).map(|at| byte(n, at))).collect())
 }
 
 /// The marks of a tree's unions.

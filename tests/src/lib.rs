@@ -1,15 +1,18 @@
 //! Reading the outside vectors (their format is in vectors/README.md); the documents once more, independently; calls of the library for C, and rules
 //! and texts for it.
 
+pub mod by_hand;
 pub mod driver;
 pub mod generate;
 mod grown;
 pub mod independent;
+mod placed;
 pub mod spellings;
 pub mod texts;
 pub mod watches;
 
 use grown::grown;
+use placed::placed;
 use std::fs;
 use std::path::Path;
 
@@ -17,16 +20,14 @@ use std::path::Path;
 pub type Runs = Vec<(usize, u64)>;
 
 /// The kinds of vectors in each folder, and the folders in the order in which their wishes landed.
-const KINDS: [(&str, &[&str]); 5] = [
+const KINDS: [(&str, &[&str]); 6] = [
     ("base", &["build", "readback", "match", "desk"]),
     ("wish-01", &["watch"]),
     ("wish-09", &["check", "propose"]),
     ("wish-03", &["build", "readback", "match", "desk", "watch", "check", "propose"]),
     ("wish-12", &["build", "readback", "match", "desk", "watch", "check", "propose"]),
+    ("wish-02", &["build", "place", "desk"]),
 ];
-
-/// Folders from before Wish 12: their images have six sections.
-const SIX_SECTIONS: [&str; 4] = ["base/", "wish-01/", "wish-09/", "wish-03/"];
 
 /// One vector: where it stands, and its fields after the kind.
 pub type Vector = (String, Vec<String>);
@@ -48,7 +49,8 @@ pub fn lines(folder: &Path, kind: &str) -> Vec<Vector> {
     all
 }
 
-/// The vectors of one kind in all folders: those that a later wish answers otherwise with that answer, and images of six sections with the seventh.
+/// The vectors of one kind in all folders: those that a later wish answers otherwise with that answer, images of six sections with the seventh, and
+/// builds and reports from before there were places with theirs.
 pub fn vectors(folder: &Path, kind: &str) -> Vec<Vector> {
     let mut all = lines(folder, kind);
     for (line, fields) in amended(folder).into_iter().filter(|(_, fields)| fields[0] == kind) {
@@ -57,21 +59,23 @@ pub fn vectors(folder: &Path, kind: &str) -> Vec<Vector> {
         *old = fields[1..].to_vec();
     }
     let of = |(place, fields): Vector| {
-        let lines = if has_six_sections(&place) { grown(kind, fields) } else { vec![fields] };
-        lines.into_iter().map(move |fields| (place.clone(), fields))
+        let lines = if is_before("wish-12", &place) { grown(kind, fields) } else { vec![fields] };
+        let with_place = |fields| if is_before("wish-02", &place) { placed(kind, fields) } else { fields };
+        lines.into_iter().map(|fields| (place.clone(), with_place(fields))).collect::<Vec<_>>()
     };
     all.into_iter().flat_map(of).collect()
 }
 
-fn has_six_sections(place: &str) -> bool {
-    SIX_SECTIONS.iter().any(|folder| place.starts_with(folder))
+/// Whether a line stands in a folder from before a wish.
+pub fn is_before(wish: &str, place: &str) -> bool {
+    KINDS.iter().map(|(folder, _)| folder).take_while(|folder| **folder != wish).any(|folder| place.starts_with(folder))
 }
 
 /// The images that the lines from before Wish 12 show and that were taken then: where each stands, and its words as they stand.
 pub fn old_images(folder: &Path) -> Vec<(String, Runs)> {
     let kinds = [("build", 4, 2), ("readback", 0, 2), ("match", 0, 3), ("watch", 0, 3), ("check", 0, 5), ("propose", 0, 4)];
     let of = |(kind, image, number): (&str, usize, usize)| {
-        let old = lines(folder, kind).into_iter().filter(|(place, _)| has_six_sections(place));
+        let old = lines(folder, kind).into_iter().filter(|(place, _)| is_before("wish-12", place));
         let taken = old.filter(move |(_, fields)| fields[number] != "6" && fields[image] != "0;-");
         taken.map(move |(place, fields)| (place, runs(&fields[image]))).collect::<Vec<_>>()
     };

@@ -2,7 +2,7 @@
 //! independent program, and prints the lines `OPERATION NAME`. An image that comes with a line `check` has two more: NAME.first and NAME.last, with
 //! the first word and the last word of a mask changed.
 
-use outside_checks::independent::{build, image, parse, read_back, LONGEST_IMAGE};
+use outside_checks::independent::{build, image, parse, read_back, Built, LONGEST_IMAGE};
 use std::fs;
 use std::path::Path;
 
@@ -77,10 +77,11 @@ fn main() {
     let put = |name: &str, kind: &str, bytes: &[u8]| fs::write(Path::new(folder).join(format!("{name}.{kind}")), bytes).unwrap();
     fs::create_dir_all(folder).unwrap();
     for (name, rule) in rules() {
-        let (number, words) = build(rule.as_bytes(), LONGEST_IMAGE);
+        let Built { number, place, image } = build(rule.as_bytes(), LONGEST_IMAGE);
+        let low = if number == 2 { place } else { image.len() };
         assert_eq!(rule.len(), 1024, "{name}");
         put(name, "given", rule.as_bytes());
-        put(name, "answer", &bytes_of(&[&[number << 32 | words.len() as u64], &words[..]].concat()));
+        put(name, "answer", &bytes_of(&[&[number << 32 | low as u64], &image[..]].concat()));
         println!("build {name}");
     }
     for (name, rule) in images() {

@@ -6,7 +6,7 @@ use outside_checks::independent::{marked, parse, states, tree_of, Mark};
 use outside_checks::spellings::{checks, proposals};
 use outside_checks::watches::{watches, WatchCall};
 use outside_checks::{bytes, expand, old_images, places, runs, vectors, word, Runs};
-use std::collections::HashMap;
+use std::collections::{HashMap, HashSet};
 use std::fmt::Write as _;
 use std::fs;
 use std::path::Path;
@@ -19,6 +19,9 @@ const BYTES: usize = 24;
 /// An image with an optional union or a repeated group has four states at least; there are few of at most so many.
 const OPTIONAL_STATES: u64 = 8;
 const REPEATED_STATES: u64 = 9;
+
+/// Rules of up to so many bytes show every way in which a reading stops; there are many.
+const PLACE_BYTES: usize = 8;
 
 /// So many images of six sections are enough: their length is wrong.
 const SIX_SECTIONS: usize = 4;
@@ -55,8 +58,8 @@ use Rattle.model.proofs.Answers.ReadBack.{readBackAnswer}
 use Rattle.model.proofs.Answers.Match.{matchAnswer}
 ",
     "
-abbrev is : Counted → ℕ → ℕ → List (ℕ × ℕ) → Bool
-is a number count lent = eqb (a .number) number && (eqb (a .given) count && sameWords (a .lent) (expand lent))
+abbrev is : Counted → ℕ → ℕ → ℕ → List (ℕ × ℕ) → Bool
+is a number place count lent = eqb (a .number) number && (eqb (a .place) place && (eqb (a .given) count && sameWords (a .lent) (expand lent)))
 ",
 ];
 
@@ -185,18 +188,42 @@ fn build_left_out(rule: &[u8], number: &str) -> bool {
     }
 }
 
-fn answers(folder: &Path) -> Theorems {
-    let mut t = Theorems::of(ANSWERS);
-    let answer = |number: &str, count: &str, after: &Runs| format!("{number} {count} {}", list(after));
+/// What is claimed of an answer: its number, place and count, and what was lent as it is afterwards.
+fn answer(number: &str, place: &str, count: &str, after: &Runs) -> String {
+    format!("{number} {place} {count} {}", list(after))
+}
+
+fn build_call(rule: &[u8], room: usize) -> String {
+    format!("buildAnswer {} {}", numbers(rule.iter().map(|b| u64::from(*b))), before(room))
+}
+
+/// Builds, of those that come with wish 2 the ones that have a place; and of the lines of places those of short rules that are refused with 2, each rule
+/// once, and with no room at all, since 2 comes before 5.
+fn builds(folder: &Path, t: &mut Theorems) {
+    let mut refused = HashSet::new();
     for (place, v) in vectors(folder, "build") {
         let (rule, room, number) = (bytes(&v[0]), v[1].parse::<usize>().unwrap(), v[2].as_str());
-        if build_left_out(&rule, number) {
+        if build_left_out(&rule, number) || place.starts_with("wish-02") && number != "2" {
             t.left_out += 1;
             continue;
         }
-        let call = format!("buildAnswer {} {}", numbers(rule.iter().map(|b| u64::from(*b))), before(room));
-        t.add(&place, call, answer(number, &v[3], &lent(runs(&v[4]), room)));
+        t.add(&place, build_call(&rule, room), answer(number, &v[5], &v[3], &lent(runs(&v[4]), room)));
+        refused.extend((number == "2").then_some(rule));
     }
+    for (place, v) in vectors(folder, "place") {
+        let rule = bytes(&v[0]);
+        if v[1] != "2" || rule.len() > PLACE_BYTES || refused.contains(&rule) {
+            t.left_out += 1;
+            continue;
+        }
+        t.add(&place, build_call(&rule, 0), answer(&v[1], &v[2], "0", &lent(Runs::new(), 0)));
+        refused.insert(rule);
+    }
+}
+
+fn answers(folder: &Path) -> Theorems {
+    let mut t = Theorems::of(ANSWERS);
+    builds(folder, &mut t);
     for (place, v) in vectors(folder, "readback") {
         let (image, room) = (runs(&v[0]), v[1].parse::<usize>().unwrap());
         if left_out(&place, &image) {
@@ -204,11 +231,11 @@ fn answers(folder: &Path) -> Theorems {
             continue;
         }
         let call = format!("readBackAnswer (expand {}) {}", list(&image), before(room));
-        t.add(&place, call, answer(&v[2], &v[3], &lent(singles(bytes(&v[4]).into_iter().map(u64::from)), room)));
+        t.add(&place, call, answer(&v[2], "0", &v[3], &lent(singles(bytes(&v[4]).into_iter().map(u64::from)), room)));
     }
     let small = old_images(folder).into_iter().filter(|(_, image)| word(image, 1) <= IMAGE_STATES);
     for (place, image) in small.take(SIX_SECTIONS) {
-        t.add(&place, format!("readBackAnswer (expand {}) {}", list(&image), before(9)), answer("6", "0", &lent(Runs::new(), 9)));
+        t.add(&place, format!("readBackAnswer (expand {}) {}", list(&image), before(9)), answer("6", "0", "0", &lent(Runs::new(), 9)));
     }
     for (place, v) in vectors(folder, "match") {
         let (image, text, room) = (runs(&v[0]), bytes(&v[1]), v[2].parse::<usize>().unwrap());
@@ -217,7 +244,7 @@ fn answers(folder: &Path) -> Theorems {
             continue;
         }
         let call = format!("matchAnswer (expand {}) {} {}", list(&image), numbers(text.iter().map(|b| u64::from(*b))), before(room));
-        t.add(&place, call, answer(&v[3], &v[4], &lent(singles(places(&v[5]).into_iter()), room)));
+        t.add(&place, call, answer(&v[3], "0", &v[4], &lent(singles(places(&v[5]).into_iter()), room)));
     }
     t
 }

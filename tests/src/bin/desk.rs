@@ -4,6 +4,7 @@
 #[path = "../programs.rs"]
 mod programs;
 
+use outside_checks::by_hand::PLACES;
 use outside_checks::independent::{desk, parse, writing};
 use outside_checks::texts::text;
 use outside_checks::{bytes, file, vectors};
@@ -63,13 +64,20 @@ fn examples(checks: &mut Checks, folder: &Path) {
 fn files(checks: &mut Checks) {
     let (a, aba) = (File::of("a"), File::of("aba"));
     checks.beside("document 01's example", &a, &aba, "a\ntotal 2\n1\n3\n");
-    checks.beside("a closing newline in the rule", &File::of("a\n"), &aba, "refused 2\n");
+    checks.beside("a closing newline in the rule", &File::of("a\n"), &aba, "refused 2 at 1\n");
     checks.beside("a closing newline in the journal", &File::of("."), &File::of("aba\n"), ".\ntotal 4\n");
     checks.beside("every byte in the journal", &File::of("."), &File::of((0..=255).collect::<Vec<u8>>()), ".\ntotal 256\n");
     for nothing in [File::Missing, File::Folder, File::of("")] {
-        checks.beside("no rule", &nothing, &aba, "refused 2\n");
+        checks.beside("no rule", &nothing, &aba, "refused 2 at 0\n");
         checks.beside("no journal", &File::of("b?"), &nothing, "b?\ntotal 1\n0\n");
-        checks.beside("neither", &nothing, &nothing, "refused 2\n");
+        checks.beside("neither", &nothing, &nothing, "refused 2 at 0\n");
+    }
+}
+
+/// Rules that are not in the grammar, and how far they could be.
+fn places(checks: &mut Checks) {
+    for (rule, place) in PLACES {
+        checks.beside("a place", &File::of(rule), &File::of("aba"), &format!("refused 2 at {place}\n"));
     }
 }
 
@@ -82,7 +90,7 @@ fn optional_groups(checks: &mut Checks) {
         ("start(flush|(drain)?)?stop", "start(flush|(drain)?)stop\ntotal 3\n9\n23\n51\n"),
         ("start((flush)?(rinse)?)?stop", "start(flush)?(rinse)?stop\ntotal 3\n9\n23\n37\n"),
         ("(stop)?", "(stop)?\ntotal 52\n0\n1\n2\n"),
-        ("(flush|drain)??", "refused 2\n"),
+        ("(flush|drain)??", "refused 2 at 14\n"),
     ];
     for (rule, begins) in groups {
         checks.beside("an optional group", &File::of(rule), &journal, begins);
@@ -101,8 +109,8 @@ fn repeated_groups(checks: &mut Checks) {
         ("start(flush(drain)*)+stop", "startflush(drain)*(flush(drain)*)*stop\ntotal 2\n28\n47\n"),
         ("start((flush)*(drain)*)?stop", "start(flush)*(drain)*stop\ntotal 3\n9\n28\n47\n"),
         ("(stop)*", "(stop)*\ntotal 62\n0\n1\n2\n"),
-        ("(flush|drain){2}", "refused 2\n"),
-        ("(flush|drain)**", "refused 2\n"),
+        ("(flush|drain){2}", "refused 2 at 13\n"),
+        ("(flush|drain)**", "refused 2 at 14\n"),
     ];
     for (rule, begins) in groups {
         checks.beside("a repeated group", &File::of(rule), &journal, begins);
@@ -140,7 +148,8 @@ fn limits(checks: &mut Checks) {
     checks.beside("a writing that just fits", &File::of(written(16384)), &File::of("a"), "[\\x00");
     checks.beside("a writing one byte too long", &File::of(written(16385)), &File::of("a"), "refused 8\n");
     checks.beside("a writing far too long", &File::of(written(20000)), &File::of("a"), "refused 8\n");
-    for (what, rule, number) in [("1 before 7", "(".repeat(1025), 1), ("2 before 7", "(".repeat(1024), 2), ("3 before 7", "a{512}".to_string(), 3)] {
+    let rules = [("1 before 7", "(".repeat(1025), "1"), ("2 before 7", "(".repeat(1024), "2 at 1024"), ("3 before 7", "a{512}".to_string(), "3")];
+    for (what, rule, number) in rules {
         checks.beside(what, &File::of(rule), &journal(65536), &format!("refused {number}\n"));
     }
     let nine_deep = (0..9).fold("a".to_string(), |inner, _| format!("({inner}|b)"));
@@ -187,6 +196,7 @@ fn main() {
     checks.part("outside vectors", |c| outside(c, Path::new(vectors)));
     checks.part("faults planted in copies of an answer", faults);
     checks.part("files", files);
+    checks.part("places", places);
     checks.part("optional groups", optional_groups);
     checks.part("repeated groups", repeated_groups);
     checks.part("limits", limits);

@@ -158,8 +158,17 @@ fn refusals(checks: &mut Checks) {
     let long = [&b"["[..], &[b'a'; 1023], b"]"].concat();
     let journal = File::of("aaa");
     for request in ["place 1\n", "start 0\nend 1\n1 a state 1\n"] {
-        let rules = [File::of(&long[..]), File::Missing, File::Folder, File::of("a\n"), File::of("a{512}"), File::of(&nine_deep[..])];
-        for (rule, number) in rules.into_iter().zip([1, 2, 2, 2, 3, 4]) {
+        let rules = [
+            (File::of(&long[..]), "1"),
+            (File::Missing, "2 at 0"),
+            (File::Folder, "2 at 0"),
+            (File::of("a\n"), "2 at 1"),
+            (File::of("(a"), "2 at 2"),
+            (File::of("(".repeat(1024)), "2 at 1024"),
+            (File::of("a{512}"), "3"),
+            (File::of(&nine_deep[..]), "4"),
+        ];
+        for (rule, number) in rules {
             checks.says("a rule that is refused", &rule, &journal, request, &format!("refused {number}\n"));
         }
         checks.says("a journal that is too long", &File::of("a"), &File::of(vec![b'a'; 65536]), request, "refused 7\n");
@@ -214,7 +223,7 @@ fn seeds(checks: &mut Checks) {
     for seed in (0..300).step_by(3) {
         let (mut r, rule) = generated(seed);
         let Some(tree) = parse(&rule) else { continue };
-        if build(&rule, LONGEST_IMAGE).0 > 0 {
+        if build(&rule, LONGEST_IMAGE).number > 0 {
             continue;
         }
         let most = [3, 40, 400][r.below(3)];

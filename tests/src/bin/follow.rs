@@ -6,7 +6,7 @@
 mod programs;
 
 use outside_checks::generate::Random;
-use outside_checks::independent::{build, ends, parse, LONGEST_IMAGE};
+use outside_checks::independent::{build, ends, parse, refusal, Built, LONGEST_IMAGE};
 use outside_checks::texts::{cut, text};
 use programs::{generated, start, Checks, File};
 use std::io::{BufRead, BufReader, Write};
@@ -71,12 +71,12 @@ impl Running {
 
 /// What is to be written: "each end's place on a line", and the total; or a refusal of the rule.
 fn expected(rule: &[u8], journal: &[u8]) -> Vec<String> {
-    match (build(rule, LONGEST_IMAGE).0, parse(rule)) {
-        (0, Some(tree)) => {
+    match (build(rule, LONGEST_IMAGE), parse(rule)) {
+        (Built { number: 0, .. }, Some(tree)) => {
             let places = ends(&tree, journal);
             places.iter().map(|place| place.to_string()).chain([format!("total {}", places.len())]).collect()
         }
-        (number, _) => vec![format!("refused {number}")],
+        (Built { number, place, .. }, _) => vec![refusal(number, place)],
     }
 }
 
@@ -167,14 +167,16 @@ fn refusals(checks: &mut Checks) {
     let nine_deep = (0..9).fold("a".to_string(), |inner, _| format!("({inner}|b)"));
     let long = [&b"["[..], &[b'a'; 1023], b"]"].concat();
     let rules = [
-        (File::of(long), 1),
-        (File::Missing, 2),
-        (File::Folder, 2),
-        (File::of(""), 2),
-        (File::of("a\n"), 2),
-        (File::of("(flush|drain){2}"), 2),
-        (File::of("a{512}"), 3),
-        (File::of(nine_deep), 4),
+        (File::of(long), "1"),
+        (File::Missing, "2 at 0"),
+        (File::Folder, "2 at 0"),
+        (File::of(""), "2 at 0"),
+        (File::of("a\n"), "2 at 1"),
+        (File::of("(flush|drain){2}"), "2 at 13"),
+        (File::of("(flush|drain"), "2 at 12"),
+        (File::of("(".repeat(1024)), "2 at 1024"),
+        (File::of("a{512}"), "3"),
+        (File::of(nine_deep), "4"),
     ];
     for (rule, number) in rules {
         let mut running = Running::start(checks.command(&[("rule", &rule)]));

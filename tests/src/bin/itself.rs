@@ -1,9 +1,10 @@
 //! The independent program against itself, where the documents leave two ways to one answer: rules and their writings, trees and their images, ends by
-//! every cut of a short text, and how many states nested `+` asks for. Usage: itself
+//! every cut of a short text, how many states nested `+` asks for, and places of rules by completion. Usage: itself
 
-use outside_checks::generate::{nested, other_mark, sized, small, Random};
-use outside_checks::independent::{build, depth, ends, image, latest_starts, marked, parse, states, tree_of, writing};
-use outside_checks::independent::{Edges, Item, Mark, Repeat, Sequence, LONGEST_IMAGE, MOST_DEPTH, MOST_STATES};
+use outside_checks::by_hand::PLACES;
+use outside_checks::generate::{change, nested, other_mark, short_texts, sized, small, Random};
+use outside_checks::independent::{build, depth, ends, image, latest_starts, marked, parse, place, states, tree_of, writing};
+use outside_checks::independent::{Built, Edges, Item, Mark, Repeat, Sequence, LONGEST_IMAGE, MOST_DEPTH, MOST_STATES};
 use outside_checks::texts::text;
 
 /// The tree of a rule from a seed below 2,000: small, deep and large ones. None that passes the limits.
@@ -106,7 +107,7 @@ fn item_spells(item: &Item, text: &[u8]) -> bool {
 }
 
 /// The latest start of each place: by every stretch, on the tree, by its edges and by backtracking.
-fn short_texts() {
+fn short_ends() {
     let (mut texts, mut found) = (0, 0);
     for (mut r, tree) in (0..1900).filter_map(seeded).filter(|(_, tree)| states(tree) <= 40) {
         for length in [0, 3, 5, 7] {
@@ -133,17 +134,74 @@ fn nested_plus() {
     for count in 1..=341 {
         accepting = (2 * accepting + 2).min(1 << 100);
         let rule = [&vec![b'('; count][..], b"a", &b")+".repeat(count)].concat();
-        let (number, words) = build(&rule, LONGEST_IMAGE);
+        let Built { number, image, .. } = build(&rule, LONGEST_IMAGE);
         assert_eq!(number, if accepting < 512 { 0 } else { 3 }, "{count} deep");
-        assert!(number > 0 || u128::from(words[1]) == accepting + 1, "{count} deep");
+        assert!(number > 0 || u128::from(image[1]) == accepting + 1, "{count} deep");
     }
     println!("itself: up to 341 times `+` round a letter counted");
+}
+
+/// What may come after a beginning, whatever it leaves open: an item, the rest of an escape, of a class, of braces; and what no beginning needs.
+const CLOSINGS: [&str; 36] = [
+    "", "a", ".", "xFF", "FF", "F", "]", "a]", "~]", "\\xFF]", "xFF]", "FF]", "F]", "}", "1}", "9}", "99}", "999}", ",1}", ",999}", "?", "*", "+", "{1}",
+    "|a", "a|a", "|]", "-]", "-~]", "a-~]", "00]", "0]", "0}", ",}", ",9}", "9,99}",
+];
+
+/// Whether such a closing and brackets make a rule of a text.
+fn completes(text: &[u8]) -> bool {
+    let open = text.iter().filter(|byte| **byte == b'(').count();
+    let mut brackets = (0..=open).map(|count| vec![b')'; count]);
+    brackets.any(|brackets| CLOSINGS.iter().any(|closing| parse(&[text, closing.as_bytes(), &brackets].concat()).is_some()))
+}
+
+/// The place of a text: so much of it can be completed to a rule, and not a byte more.
+fn judged_place(text: &[u8]) -> usize {
+    let place = place(text);
+    assert!(completes(&text[..place]), "{}: {place} bytes of it are no beginning", text.escape_ascii());
+    assert!(place == text.len() || !completes(&text[..=place]), "{}: more than {place} bytes of it are a beginning", text.escape_ascii());
+    place
+}
+
+/// Of every short text, and no rule is stuck. One that is stuck before its last byte was judged when it was shorter.
+fn places_of_short_texts() {
+    let (mut texts, mut beginnings, mut rules) = (0, 0, 0);
+    for text in short_texts(1) {
+        let place = place(&text);
+        if place + 1 >= text.len() {
+            judged_place(&text);
+        }
+        let is_rule = parse(&text).is_some();
+        assert!(!is_rule || place == text.len(), "{}: a rule with the place {place}", text.escape_ascii());
+        texts += 1;
+        beginnings += usize::from(place == text.len());
+        rules += usize::from(is_rule);
+    }
+    println!("itself: {texts} short texts, {beginnings} of them beginnings of a rule, {rules} of these rules: places by an automaton and by completion");
+}
+
+/// By hand, and of rules with one byte wrong.
+fn places_of_rules() {
+    for (rule, by_hand) in PLACES {
+        assert_eq!(judged_place(rule.as_bytes()), by_hand, "{rule}");
+    }
+    let mut stuck = 0;
+    for seed in 0..3000 {
+        let mut r = Random::new(seed);
+        let deep = r.between(1, 8);
+        let mut rule = if seed < 2500 { small(&mut r) } else { nested(&mut r, deep) };
+        assert_eq!(place(&rule), rule.len(), "{}", rule.escape_ascii());
+        change(&mut r, &mut rule);
+        stuck += usize::from(judged_place(&rule) < rule.len());
+    }
+    println!("itself: {} places by hand, and 3000 rules with one byte wrong, {stuck} of them stuck, likewise", PLACES.len());
 }
 
 fn main() {
     round_trips();
     other_marks();
     edge_sections();
-    short_texts();
+    short_ends();
     nested_plus();
+    places_of_short_texts();
+    places_of_rules();
 }

@@ -11,7 +11,8 @@ fn computed(rule: &[u8], text: Option<&str>, column: &str) -> Option<String> {
         "states" => Some(states(&tree).to_string()),
         "depth" => Some(depth(&tree).to_string()),
         "words" => Some(image(&tree).len().to_string()),
-        "number" => Some(build(rule, LONGEST_IMAGE).0.to_string()),
+        "number" => Some(build(rule, LONGEST_IMAGE).number.to_string()),
+        "place" => Some(build(rule, LONGEST_IMAGE).place.to_string()),
         "ends" => {
             let places: Vec<String> = ends(&tree, text.expect("a text").as_bytes()).iter().map(u32::to_string).collect();
             Some(if places.is_empty() { "none".to_string() } else { places.join(", ") })
@@ -36,7 +37,7 @@ fn row(place: usize, columns: &[&str], line: &str) -> usize {
             compared += 1;
         }
     }
-    assert!(columns.contains(&"number") || build(given[0].as_bytes(), LONGEST_IMAGE).0 == 0, "line {place}: {} is refused", given[0]);
+    assert!(columns.contains(&"number") || build(given[0].as_bytes(), LONGEST_IMAGE).number == 0, "line {place}: {} is refused", given[0]);
     compared
 }
 

@@ -1,9 +1,9 @@
 //! The independent program against the outside vectors: every number, count, word, byte and place. Usage: vectors VECTORS
 
-use outside_checks::independent::{begin, build, check, desk, match_ends, propose, read_back, step};
+use outside_checks::independent::{begin, build, check, desk, match_ends, propose, read_back, step, LONGEST_IMAGE};
 use outside_checks::spellings::{checks, proposals};
 use outside_checks::watches::watches;
-use outside_checks::{amended, bytes, expand, file, lines, old_images, places, runs, vectors};
+use outside_checks::{amended, bytes, expand, file, is_before, lines, old_images, places, runs, vectors};
 use std::path::Path;
 
 fn main() {
@@ -18,6 +18,25 @@ fn main() {
     println!("vectors: {} images of six sections, taken before Wish 12, get 6 as they stand", refused(folder));
     let more = vectors(folder, "build").len() - lines(folder, "build").len();
     println!("vectors: {more} builds from before it had room for six sections alone, and were made in their room and in more");
+    println!("vectors: {} lines of places agree with it", placed(folder));
+    let [builds, reports] = unplaced(folder);
+    println!("vectors: {builds} builds and {reports} reports from before Wish 2 are refused with 2, and take their place from it");
+}
+
+/// How many lines of places agree: number and place with room for every image.
+fn placed(folder: &Path) -> usize {
+    let lines = vectors(folder, "place");
+    for (line, v) in &lines {
+        let built = build(&bytes(&v[0]), LONGEST_IMAGE);
+        assert_eq!([built.number.to_string(), built.place.to_string()], v[1..], "{line}");
+    }
+    lines.len()
+}
+
+/// How many lines of build and of the desk program have 2 and show no place, which is not compared here then.
+fn unplaced(folder: &Path) -> [usize; 2] {
+    let older = |kind| vectors(folder, kind).into_iter().filter(|(line, _)| is_before("wish-02", line));
+    [older("build").filter(|(_, v)| v[2] == "2").count(), older("desk").filter(|(_, v)| bytes(&v[2]).starts_with(b"refused 2 at ")).count()]
 }
 
 /// How many images of six sections there are, which are all refused.
@@ -33,9 +52,10 @@ fn refused(folder: &Path) -> usize {
 fn answered(folder: &Path) -> usize {
     let mut checked = 0;
     for (place, v) in vectors(folder, "build") {
-        let (number, words) = build(&bytes(&v[0]), v[1].parse().unwrap());
-        assert_eq!((number.to_string(), words.len().to_string()), (v[2].clone(), v[3].clone()), "{place}");
-        assert_eq!(words, expand(&runs(&v[4])), "{place}");
+        let built = build(&bytes(&v[0]), v[1].parse().unwrap());
+        let numbers = [built.number, built.image.len() as u64, built.place as u64];
+        assert_eq!(numbers.map(|n| n.to_string()), [2, 3, 5].map(|k| v[k].clone()), "{place}");
+        assert_eq!(built.image, expand(&runs(&v[4])), "{place}");
         checked += 1;
     }
     for (place, v) in vectors(folder, "readback") {

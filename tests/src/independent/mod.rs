@@ -1,11 +1,12 @@
-//! Document 01 and the wishes of document 02 that have landed once more, written independently of the proofs and of the proved code: a parser, the
-//! plain writing, the image, an image's tree by the edges that it shows, ends by backtracking, a watch and spellings by the tree's edges, and the
-//! answers. Plain and slow; it shares nothing with the crates.
+//! Document 01 and the wishes of document 02 that have landed once more, written independently of the proofs and of the proved code: a parser, an
+//! automaton for places of rules, the plain writing, the image, an image's tree by the edges that it shows, ends by backtracking, a watch and spellings
+//! by the tree's edges, and the answers. Plain and slow; it shares nothing with the crates.
 
 mod answers;
 mod edges;
 mod ends;
 mod image;
+mod place;
 mod rules;
 mod spelling;
 mod states;
@@ -13,10 +14,11 @@ mod tree;
 mod watch;
 mod writing;
 
-pub use answers::{build, desk, match_ends, read_back};
+pub use answers::{build, desk, match_ends, read_back, refusal, Built};
 pub use edges::Edges;
 pub use ends::ends;
 pub use image::image;
+pub use place::place;
 pub use rules::parse;
 pub use spelling::{check, latest_starts, propose, proposed, Checker, Proposal, Starts};
 pub use states::{can_be_empty, depth, marked, states};

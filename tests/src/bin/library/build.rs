@@ -1,19 +1,24 @@
-//! Build: document 01's examples and limits, and generated rules beside the independent program.
+//! Build: document 01's examples and limits, document 02's places, and generated rules beside the independent program.
 
 use crate::checks::{Checks, LONGEST};
 use crate::optional::{dropped, most, optionals};
 use crate::repeated::{cycles, groups};
 use crate::seen::Seen;
+use outside_checks::by_hand::PLACES;
 use outside_checks::driver::{build_call, Answer};
-use outside_checks::generate::{broken, jumbled, long, nested, sized, small, Random, TELLING};
-use outside_checks::independent::{build, marked, parse, Mark};
+use outside_checks::generate::{broken, change, jumbled, long, nested, short_texts, sized, small, Random, TELLING};
+use outside_checks::independent::{build, marked, parse, Built, Mark};
 
 pub fn all(checks: &mut Checks) {
     checks.part("build: document 01's examples", examples);
     checks.part("build: limits", limits);
     checks.part("build: stack", stack);
+    checks.part("build: places by hand", places);
+    checks.part("build: places of every short text", every_short_text);
+    checks.part("build: places of numbers and ranges", numbers_and_ranges);
     checks.part("build: rules of every byte", every_byte);
     checks.part("build: rules from seeds", seeds);
+    checks.part("build: rules from seeds with one byte wrong", wrong_by_a_byte);
 }
 
 // ---- document 01: "Measured examples", "The image", and the limits
@@ -46,6 +51,11 @@ pub fn refused(number: u64) -> Answer<u64> {
     Answer::of(number, &[], LONGEST)
 }
 
+/// Refused with 2.
+pub fn refused_at(place: usize) -> Answer<u64> {
+    Answer::refused_at(place, LONGEST)
+}
+
 fn examples(checks: &mut Checks) {
     let letters = (0..256).map(|byte| if byte == 97 { 2 } else { 0 });
     let whole: Vec<u64> = [3, 2, 1, 0, 256].into_iter().chain(letters).chain([256]).chain([0; 256]).chain([0, 0, 3, 0, 0, 0, 0]).collect();
@@ -53,10 +63,6 @@ fn examples(checks: &mut Checks) {
     checks.build("the image of a, whole", b"a", &Answer::of(0, &whole, 530));
     checks.build("the image of a in just its room", b"a", &Answer::of(0, &whole, 525));
     checks.build("room one word short", b"a", &Answer::of(5, &[], 524));
-
-    for rule in [&b""[..], b"()", b"a||b", b"[c-ab]", b"a{0}", b"a{3,}", b"a\n"] {
-        checks.build("refused with 2", rule, &refused(2));
-    }
 
     let words = checks.build_beside("states", b"[AB]+B.{1,3}[BC]?.*C", LONGEST);
     checks.same("[AB]+B.{1,3}[BC]?.*C: shape", section(&words, 1), vec![9, 1, 0]);
@@ -71,7 +77,7 @@ fn examples(checks: &mut Checks) {
     checks.same("A(AB|B?)(B?.*|AB)C: propagate", section(&words, 6), vec![16514, 2, 16384, 1888, 288, 1088]);
 
     for (rule, plain) in [("a{2,3}", "a?aa"), ("((ab))", "ab"), ("a|b", "(a|b)"), ("((a|b)|c)", "((a|b)|c)"), ("[ba]", "[a-b]")] {
-        let (_, image) = build(plain.as_bytes(), LONGEST);
+        let image = build(plain.as_bytes(), LONGEST).image;
         checks.build("the image of its plain writing", rule.as_bytes(), &Answer::of(0, &image, LONGEST));
     }
 }
@@ -88,17 +94,22 @@ fn limits(checks: &mut Checks) {
     checks.same("the longest image: shape", section(&words, 1), vec![512, 8, 8]);
     checks.build("the longest image, room one word short", &longest(), &Answer::of(5, &[], LONGEST - 1));
 
-    let ((_, a), (_, ab)) = (build(b"a", LONGEST), build(b"ab", LONGEST));
+    let [a, ab] = [&b"a"[..], b"ab"].map(|rule| build(rule, LONGEST).image);
     checks.build("511 bracket pairs, 1,024 bytes", &pairs(511, "ab"), &Answer::of(0, &ab, LONGEST));
     checks.build("511 bracket pairs, 1,025 bytes", &pairs(511, "abc"), &refused(1));
     checks.build("a class, 1,024 bytes", &[&b"["[..], &[b'a'; 1022], b"]"].concat(), &Answer::of(0, &a, LONGEST));
     checks.build("a class, 1,025 bytes", &[&b"["[..], &[b'a'; 1023], b"]"].concat(), &refused(1));
     checks.build("1,024 letters", &[b'a'; 1024], &refused(3));
-    checks.build("1,024 opening brackets", &[b'('; 1024], &refused(2));
+    checks.build("1,024 opening brackets", &[b'('; 1024], &refused_at(1024));
+    checks.build("1,025 opening brackets", &[b'('; 1025], &refused(1));
+    checks.build("1,024 bytes of a class", &[&b"["[..], &[b'a'; 1023]].concat(), &refused_at(1024));
+    checks.build("1,024 bytes, the last one wrong", &[&[b'a'; 1023][..], b")"].concat(), &refused_at(1023));
+    checks.build("1,024 bytes, the first one wrong", &[&b"]"[..], &[b'a'; 1023]].concat(), &refused_at(0));
+    checks.build("more states than any image has before the place", &[&b"a{999}".repeat(170)[..], b"a{0}"].concat(), &refused_at(1023));
 
     // "Checks run in the table's order."
     checks.build("1 before 2 and 5", &[b')'; 1025], &Answer::of(1, &[], 0));
-    checks.build("2 before 3 and 5", b"a{999})", &Answer::of(2, &[], 0));
+    checks.build("2 before 3 and 5", b"a{999})", &Answer::refused_at(6, 0));
     checks.build("3 before 4 and 5", &[unions(9), b"a{500}".to_vec()].concat(), &Answer::of(3, &[], 0));
     checks.build("4 before 5", &unions(9), &Answer::of(4, &[], 0));
 }
@@ -109,6 +120,36 @@ fn stack(checks: &mut Checks) {
     let brackets = [vec![b'('; 1024], pairs(511, "ab"), dropped(341, "a"), optionals(255), groups(341, b'*'), groups(341, b'+')];
     let rules = [class, vec![b'a'; 1024], longest(), most(), cycles(), groups(7, b'+')];
     checks.stack("build", 1 << 20, &brackets.into_iter().chain(rules).map(|rule| build_call(&rule, LONGEST)).collect::<Vec<_>>());
+}
+
+// ---- document 02: "Say where the rule went wrong"
+
+fn places(checks: &mut Checks) {
+    for (rule, place) in PLACES {
+        checks.build("refused with 2", rule.as_bytes(), &refused_at(place));
+    }
+}
+
+fn every_short_text(checks: &mut Checks) {
+    for text in short_texts(0) {
+        checks.build_beside("a short text", &text, 4);
+    }
+}
+
+/// Braces with numbers up to one that has four digits, and ranges up to every byte in every writing.
+fn numbers_and_ranges(checks: &mut Checks) {
+    for x in [0, 1, 2, 9, 10, 11, 19, 20, 99, 100, 101, 199, 200, 299, 300, 989, 990, 998, 999] {
+        for y in 0..=1000 {
+            checks.build_beside("two numbers", format!("a{{{x},{y}}}").as_bytes(), 4);
+        }
+    }
+    for lower in ["\\x00", "\\x0F", "!", "\\-", "c", "\\|", "~", "\\x7F", "\\x80", "\\xa9", "\\xF0", "\\xFF"] {
+        for b in 0..=255 {
+            for upper in [vec![b], vec![b'\\', b], format!("\\x{b:02x}").into_bytes(), format!("\\x{b:02X}").into_bytes()] {
+                checks.build_beside("a range", &[b"[", lower.as_bytes(), b"-", &upper, b"]"].concat(), 4);
+            }
+        }
+    }
 }
 
 // ---- generated rules
@@ -159,7 +200,7 @@ fn seeds(checks: &mut Checks) {
                 sized(&mut r, wanted, deep)
             }
         };
-        let length = build(&rule, LONGEST).1.len();
+        let length = build(&rule, LONGEST).image.len();
         let room = match r.below(6) {
             0 => r.below(length + 1),
             1 => length.saturating_sub(1),
@@ -168,7 +209,7 @@ fn seeds(checks: &mut Checks) {
             _ => length + r.below(20),
         };
         checks.build_beside(&format!("seed {seed}"), &rule, room);
-        let number = build(&rule, room).0;
+        let number = build(&rule, room).number;
         (0..6).for_each(|n| seen.note(&format!("given {n}"), number == n));
         if number == 0 {
             let tree = parse(&rule).expect("a rule");
@@ -177,4 +218,28 @@ fn seeds(checks: &mut Checks) {
         }
     }
     seen.tell(checks, "built from seeds", 20);
+}
+
+/// Where they are stuck is counted; some are rules all the same.
+fn wrong_by_a_byte(checks: &mut Checks) {
+    let mut seen = Seen::default();
+    for seed in 0..6000 {
+        let mut r = Random::new(seed);
+        let deep = r.between(1, 10);
+        let mut rule = match seed {
+            0..4000 => small(&mut r),
+            4000..5500 => nested(&mut r, deep),
+            _ => long(&mut r),
+        };
+        change(&mut r, &mut rule);
+        let Built { number, place, .. } = build(&rule, 4);
+        checks.build_beside(&format!("seed {seed}, one byte wrong"), &rule, 4);
+        seen.note("not given 2", number != 2);
+        seen.note("stuck at the first byte", number == 2 && place == 0);
+        seen.note("at the last", number == 2 && place + 1 == rule.len());
+        seen.note("between them", number == 2 && 0 < place && place + 1 < rule.len());
+        seen.note("not stuck, but not finished", number == 2 && place == rule.len());
+        seen.note("at 256 or later", place >= 256);
+    }
+    seen.tell(checks, "with one byte wrong", 20);
 }

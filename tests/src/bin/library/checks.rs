@@ -78,8 +78,7 @@ impl Checks {
 
     /// One build beside the independent program; the words afterwards.
     pub fn build_beside(&mut self, what: &str, rule: &[u8], room: usize) -> Vec<u64> {
-        let (number, image) = build(rule, room);
-        self.build(what, rule, &Answer::of(number, &image, room)).map_or(Vec::new(), |answer| answer.lent)
+        self.build(what, rule, &Answer::built(&build(rule, room), room)).map_or(Vec::new(), |answer| answer.lent)
     }
 
     /// One read back beside the independent program; what it gave.

@@ -8,7 +8,7 @@ use crate::repeated::{cycles, groups};
 use crate::seen::Seen;
 use outside_checks::driver::{build_call, match_call, read_back_call, Answer};
 use outside_checks::generate::{nested, sized, small, Random};
-use outside_checks::independent::{build, depth, ends, image, parse, states, Sequence};
+use outside_checks::independent::{build, depth, ends, image, parse, refusal, states, Sequence};
 use outside_checks::texts::text;
 use outside_checks::{bytes, file, vectors};
 use std::path::Path;
@@ -93,7 +93,7 @@ fn limits(checks: &mut Checks) {
     finds(checks, "512 states, eight deep, on the empty text", &longest(), b"", &[]);
     rounds(checks);
 
-    let (a, long) = (build(b"a", LONGEST).1, [b'a'; LONGEST_TEXT + 1]);
+    let (a, long) = (build(b"a", LONGEST).image, [b'a'; LONGEST_TEXT + 1]);
     let mut spoilt = a.clone();
     spoilt[523] = 2;
     for (what, words, number) in [("an image", &a, 7), ("damaged", &spoilt, 6), ("cut", &a[..524].to_vec(), 6), ("no words", &Vec::new(), 6)] {
@@ -104,7 +104,7 @@ fn limits(checks: &mut Checks) {
     for length in [0, 1, LONGEST_TEXT] {
         checks.match_ends("damaged, a text that is not too long", &spoilt, &long[..length], &Answer::of(6, &[], 9));
     }
-    checks.match_ends("512 states, eight deep, 65,536 bytes", &build(&longest(), LONGEST).1, &long, &Answer::of(7, &[], 9));
+    checks.match_ends("512 states, eight deep, 65,536 bytes", &build(&longest(), LONGEST).image, &long, &Answer::of(7, &[], 9));
 }
 
 /// The longest text, by rounds of a cycle: of two bytes, of one in eight cycles, of many, of either of two in turn, and all but the last round.
@@ -182,18 +182,18 @@ fn stack(checks: &mut Checks) {
 
 /// What the desk program is to write, by three calls.
 fn desk(checks: &mut Checks, rule: &[u8], journal: &[u8]) -> Result<Vec<u8>, String> {
-    let refused = |number: u64| Ok(format!("refused {number}\n").into_bytes());
+    let refused = |number: u64, place: u64| Ok((refusal(number, place as usize) + "\n").into_bytes());
     let built = checks.driver.call::<Answer<u64>>(&build_call(rule, LONGEST))?;
     if built.number != 0 {
-        return refused(built.number);
+        return refused(built.number, built.count);
     }
     let written = checks.driver.call::<Answer<u8>>(&read_back_call(built.written(), 16384))?;
     if written.number != 0 {
-        return refused(written.number);
+        return refused(written.number, 0);
     }
     let found = checks.driver.call::<Answer<u32>>(&match_call(built.written(), journal, 1000))?;
     if found.number != 0 {
-        return refused(found.number);
+        return refused(found.number, 0);
     }
     let ends = found.written().iter().map(|end| format!("{end}\n"));
     let lines = std::iter::once(format!("\ntotal {}\n", found.count)).chain(ends).flat_map(String::into_bytes);

@@ -1,6 +1,6 @@
 //! Document 02's optional groups by hand: rules and their plain writings, images, states and depths, limits, and what is still refused.
 
-use crate::build::{refused, section};
+use crate::build::{refused, refused_at, section};
 use crate::checks::{Checks, LONGEST};
 use crate::read_back::built;
 use outside_checks::driver::Answer;
@@ -40,7 +40,7 @@ const WRITINGS: [(&str, &str); 20] = [
 fn writings(checks: &mut Checks) {
     for (rule, plain) in WRITINGS {
         built(checks, "optional", rule.as_bytes(), plain.as_bytes());
-        checks.build("the image of its plain writing", rule.as_bytes(), &Answer::of(0, &build(plain.as_bytes(), LONGEST).1, LONGEST));
+        checks.build("the image of its plain writing", rule.as_bytes(), &Answer::of(0, &build(plain.as_bytes(), LONGEST).image, LONGEST));
     }
 }
 
@@ -60,10 +60,10 @@ fn images(checks: &mut Checks) {
 }
 
 fn refusals(checks: &mut Checks) {
-    let two_signs = ["(a)??", "(a)?*", "(a)?+", "(a)?{2}", "(a?)??", "((a)?)??", "a??"];
-    let no_group = ["?", "()?", "(?)", "(|a)?", "(a|)?", "(a?", "a)?", "|(a)?"];
-    for rule in [&two_signs[..], &no_group].concat() {
-        checks.build("refused with 2", rule.as_bytes(), &refused(2));
+    let two_signs = [("(a)??", 4), ("(a)?*", 4), ("(a)?+", 4), ("(a)?{2}", 4), ("(a?)??", 5), ("((a)?)??", 7), ("a??", 2)];
+    let no_group = [("?", 0), ("()?", 1), ("(?)", 1), ("(|a)?", 1), ("(a|)?", 3), ("(a?", 3), ("a)?", 1), ("|(a)?", 0)];
+    for (rule, place) in [&two_signs[..], &no_group].concat() {
+        checks.build("refused with 2", rule.as_bytes(), &refused_at(place));
     }
 }
 
@@ -95,7 +95,7 @@ fn limits(checks: &mut Checks) {
     checks.build("513 states", b"(a{510})?", &refused(3));
     built(checks, "161 groups, 512 states, eight deep", &most(), &[&optionals(8).repeat(20)[..], b"(", &[b'a'; 29], b")?"].concat());
 
-    let [(_, a), (_, options)] = [&b"(a)?"[..], b"a{,511}"].map(|rule| build(rule, LONGEST));
+    let [a, options] = [&b"(a)?"[..], b"a{,511}"].map(|rule| build(rule, LONGEST).image);
     checks.build("341 brackets, 1,024 bytes", &dropped(341, "a"), &Answer::of(0, &a, LONGEST));
     checks.build("341 brackets, 1,025 bytes", &dropped(341, "aa"), &refused(1));
     checks.build("dropped, 512 states", b"(a{,511})?", &Answer::of(0, &options, LONGEST));

@@ -1,10 +1,10 @@
 //! The outside vectors, and faults planted in copies of their answers: the comparison must see every one.
 
-use crate::checks::Checks;
+use crate::checks::{Checks, LONGEST};
 use outside_checks::driver::{begin_call, build_call, check_call, match_call, propose_call, read_back_call, step_call};
 use outside_checks::driver::{Answer, Judged, Lent, Proposed, Reply, Watched};
 use outside_checks::generate::Random;
-use outside_checks::independent::{Proposal, Watch};
+use outside_checks::independent::{self, Built, Proposal, Watch};
 use outside_checks::spellings;
 use outside_checks::watches::watches;
 use outside_checks::{bytes, expand, old_images, places, runs, vectors, word};
@@ -18,13 +18,14 @@ pub fn all(checks: &mut Checks, folder: &Path) {
     let (mut built, mut written, mut found, mut watched) = (Vec::new(), Vec::new(), Vec::new(), Vec::new());
     let (mut judged, mut proposed) = (Vec::new(), Vec::new());
     checks.part("outside vectors: build", |c| built = build(c, folder));
+    checks.part("outside vectors: place", |c| built.extend(place(c, folder)));
     checks.part("outside vectors: read back", |c| written = read_back(c, folder));
     checks.part("outside vectors: match", |c| found = match_ends(c, folder));
     checks.part("outside vectors: watch", |c| watched = watch(c, folder));
     checks.part("outside vectors: check", |c| judged = check(c, folder));
     checks.part("outside vectors: propose", |c| proposed = propose(c, folder));
     checks.part("images of six sections as they stand", |c| six_sections(c, folder));
-    checks.part("faults planted in copies of build's answers", |c| planted(c, &built, faults));
+    checks.part("faults planted in copies of build's answers", |c| planted(c, &built, build_faults));
     checks.part("faults planted in copies of read back's answers", |c| planted(c, &written, faults));
     checks.part("faults planted in copies of match's answers", |c| planted(c, &found, faults));
     checks.part("faults planted in copies of the watch's answers", |c| planted(c, &watched, watch_faults));
@@ -45,8 +46,21 @@ fn expected<T: Lent>(number: &str, count: &str, written: &[T], room: usize) -> A
 fn build(checks: &mut Checks, folder: &Path) -> Pairs<Answer<u64>> {
     let mut answers = Vec::new();
     for (place, v) in vectors(folder, "build") {
-        let expected = expected(&v[2], &v[3], &expand(&runs(&v[4])), room(&v[1]));
+        let count = if v[2] == "2" { &v[5] } else { &v[3] };
+        let expected = expected(&v[2], count, &expand(&runs(&v[4])), room(&v[1]));
         answers.extend(checks.build(&place, &bytes(&v[0]), &expected).map(|got| (got, expected)));
+    }
+    answers
+}
+
+/// Builds with room for every image, of which the lines show number and place; the image is the independent program's.
+fn place(checks: &mut Checks, folder: &Path) -> Pairs<Answer<u64>> {
+    let mut answers = Vec::new();
+    for (line, v) in vectors(folder, "place") {
+        let rule = bytes(&v[0]);
+        let built = Built { number: v[1].parse().expect("NUMBER"), place: v[2].parse().expect("PLACE"), ..independent::build(&rule, LONGEST) };
+        let expected = Answer::built(&built, LONGEST);
+        answers.extend(checks.build(&line, &rule, &expected).map(|got| (got, expected)));
     }
     answers
 }
@@ -157,6 +171,12 @@ fn lent_faults<T: Lent + BitXor<Output = T>>(r: &mut Random, right: &[T], writte
         }
     }
     faults
+}
+
+/// The same of build; with 2 the place is wrong where the count is, and is also one too small, and 0.
+fn build_faults(r: &mut Random, right: &Answer<u64>) -> Vec<Answer<u64>> {
+    let smaller = if right.number == 2 && right.count > 0 { vec![right.count - 1, 0] } else { Vec::new() };
+    faults(r, right).into_iter().chain(smaller.into_iter().map(|count| Answer { count, ..right.clone() })).collect()
 }
 
 /// The same of begin and step, or the mask or the place wrong.

@@ -72,7 +72,7 @@ fn built_seeds(checks: &mut Checks) {
                 sized(&mut r, wanted, deep)
             }
         };
-        if build(&rule, LONGEST).0 == 0 {
+        if build(&rule, LONGEST).number == 0 {
             built(checks, &format!("seed {seed}"), &rule, &plain(&rule));
         }
     }

@@ -1,6 +1,6 @@
 //! Document 02's repeated groups by hand: rules and their plain writings, images, states and depths, back edges, limits, and what is still refused.
 
-use crate::build::{refused, section};
+use crate::build::{refused, refused_at, section};
 use crate::checks::{Checks, LONGEST};
 use crate::read_back::built;
 use outside_checks::driver::Answer;
@@ -54,7 +54,7 @@ const WRITINGS: [(&str, &str); 34] = [
 fn writings(checks: &mut Checks) {
     for (rule, plain) in WRITINGS {
         built(checks, "repeated", rule.as_bytes(), plain.as_bytes());
-        checks.build("the image of its plain writing", rule.as_bytes(), &Answer::of(0, &build(plain.as_bytes(), LONGEST).1, LONGEST));
+        checks.build("the image of its plain writing", rule.as_bytes(), &Answer::of(0, &build(plain.as_bytes(), LONGEST).image, LONGEST));
     }
 }
 
@@ -89,11 +89,13 @@ fn images(checks: &mut Checks) {
 }
 
 fn refusals(checks: &mut Checks) {
-    let numbers = ["(a){2}", "(a){1}", "(a){,2}", "(a){0,1}", "(a|b){2,3}", "((a)*){2}"];
-    let two_signs = ["(a)**", "(a)*?", "(a)*+", "(a)+*", "(a)++", "(a)+?", "(a)*{2}", "(a)+{2}", "((a)*)**", "a**", "a+*"];
-    let no_group = ["*", "+", "()*", "()+", "(*)", "(|a)*", "(a|)+", "(a*", "a)*", "|(a)*", "(a)*|"];
-    for rule in [&numbers[..], &two_signs, &no_group].concat() {
-        checks.build("refused with 2", rule.as_bytes(), &refused(2));
+    let numbers = [("(a){2}", 3), ("(a){1}", 3), ("(a){,2}", 3), ("(a){0,1}", 3), ("(a|b){2,3}", 5), ("((a)*){2}", 6)];
+    let two_signs = [("(a)**", 4), ("(a)*?", 4), ("(a)*+", 4), ("(a)+*", 4), ("(a)++", 4), ("(a)+?", 4), ("(a)*{2}", 4), ("(a)+{2}", 4)];
+    let further = [("((a)*)**", 7), ("a**", 2), ("a+*", 2)];
+    let no_group = [("*", 0), ("+", 0), ("()*", 1), ("()+", 1), ("(*)", 1), ("(|a)*", 1), ("(a|)+", 3), ("(a*", 3), ("a)*", 1), ("|(a)*", 0)];
+    let no_item = [("(a)*|", 5)];
+    for (rule, place) in [&numbers[..], &two_signs, &further, &no_group, &no_item].concat() {
+        checks.build("refused with 2", rule.as_bytes(), &refused_at(place));
     }
 }
 

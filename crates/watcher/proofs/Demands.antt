@@ -1,6 +1,6 @@
 -- THE DEMANDS OF DOCUMENT 01, OVER THE CONTRACTS of build, read_back and match_ends: what their answers are to each other. They hold because each
 -- table gives one answer to an input, an image has one tree, and so has a plain writing.
-use mathlib.Core.Path.{_≡_, refl, ap}
+use mathlib.Core.Path.{_≡_, refl, sym, ap, _∙_, subst}
 use mathlib.Core.Logic.{_↔_}
 use mathlib.Core.List.{List}
 use Prim.Native.Nat.{ℕ, _≤_}
@@ -11,6 +11,7 @@ use Rattle.model.specs.Edges.{depth, states}
 use Rattle.model.specs.Ends.{EndsAre}
 use Rattle.model.specs.Grammar.{IsRule}
 use Rattle.model.specs.Image.{image}
+use Rattle.model.specs.Place.{PlaceIs}
 use Rattle.model.specs.Tree.{Tree}
 use Rattle.model.specs.Writing.{writing}
 use Rattle.model.proofs.Answers.Build.{build-one}
@@ -18,10 +19,10 @@ use Rattle.model.proofs.Answers.Match.{match-one}
 use Rattle.model.proofs.Answers.ReadBack.{read-back-one}
 use Rattle.model.proofs.Answers.RoundTrip as tables
 use Rattle.model.proofs.Words.Run.{Bytes}
-use Rattle.answers.specs.Answers.{answered, numberIn}
+use Rattle.answers.specs.Answers.{answered, numberIn, placeIn}
 use Rattle.answers.specs.declared.Answer.{Answer}
 use Rattle.answers.specs.declared.Answer.the-variants.{Done, Refused}
-use Rattle.answers.specs.declared.Refusal.the-variants.{NotAnImage}
+use Rattle.answers.specs.declared.Refusal.the-variants.{NotAnImage, NotARule}
 use Rattle.answers.proofs.Apart.{answered-apart}
 
 -- ---- DEMAND 1: WHAT IS GIVEN AND LENT SETTLES THE ANSWER and what was lent afterwards; so each refusal comes exactly when its row holds
@@ -61,6 +62,26 @@ accepts {rule} {before} r after B = (λ d. taken (ap numberIn (d .1)) B, λ a. d
         let C : BuildSays rule before (answered (Done (length (image t))) (done (image t) before .lent)) =
         built t (A .short) (A .is-rule) (A .few) (A .shallow) (A .room) refl in
         (length (image t), one-built r (Done (length (image t))) B C .0)
+
+-- document 02, Wish 2: it is refused with 2 exactly when it is not in the grammar, and then with its place
+pub record WentWrong (rule : List ℕ) (p : ℕ) : Type 0 where
+  pub short : length rule ≤ 1024
+  pub no-rule : (t : Tree) → IsRule rule t → ⊥
+  pub place : PlaceIs rule p
+
+pub goes-wrong : {rule before : List ℕ} (r : Answer) (after : List ℕ) → BuildSays rule before (answered r after) → (p : ℕ) → (r ≡ Refused (NotARule p)) ↔ WentWrong rule p
+goes-wrong {rule} {before} r after B p = (λ e. wrong B (ap numberIn e) (ap placeIn e), λ W. one-built r (Refused (NotARule p)) B (refusal W) .0)
+  where
+    refusal : WentWrong rule p → BuildSays rule before (answered (Refused (NotARule p)) before)
+    refusal W = BuildSays.not-a-rule p (W .short) (W .no-rule) (W .place) refl
+
+    wrong : {a : Counted} → BuildSays rule before a → a .number ≡ 2 → a .place ≡ p → WentWrong rule p
+    wrong (BuildSays.rule-too-long l e) z k = absurd (omega (arith, z, ap (λ (x : Counted). x .number) e))
+    wrong (BuildSays.not-a-rule q l f P e) z k = record { short = l; no-rule = f; place = subst (PlaceIs rule) (sym (ap (λ (x : Counted). x .place) e) ∙ k) P }
+    wrong (BuildSays.too-many-states t l d m e) z k = absurd (omega (arith, z, ap (λ (x : Counted). x .number) e))
+    wrong (BuildSays.too-deep t l d m h e) z k = absurd (omega (arith, z, ap (λ (x : Counted). x .number) e))
+    wrong (BuildSays.no-room t l d m h n e) z k = absurd (omega (arith, z, ap (λ (x : Counted). x .number) e))
+    wrong (built t l d m h n e) z k = absurd (omega (arith, z, ap (λ (x : Counted). x .number) e))
 
 module _ {rule before after : List ℕ} {n : ℕ} (B : BuildSays rule before (answered (Done n) after)) (t : Tree) (d : IsRule rule t) where
   -- its image is the masks that document 01 lays down: the words that build wrote are the image of the rule's tree

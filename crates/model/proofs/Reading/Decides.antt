@@ -19,7 +19,7 @@ use Rattle.model.proofs.Reading.Letters.{complete-letter, letter-begins
 use Rattle.model.proofs.Reading.Signs.{complete-sign, sound-sign}
 
 -- ---- what is read is in the grammar
-pub sound-piece : (l : List ℕ) → Sound IsItem l (readPiece l)
+sound-piece : (l : List ℕ) → Sound IsItem l (readPiece l)
 sound-piece l =
     bind-sound (sound-letter l) (λ u c r e d.
     bind-sound (sound-sign r) (λ v q r′ f b.
@@ -82,7 +82,7 @@ free-mark [] h = refl
 free-mark (x ∷ xs) h =
     rw (free-other x xs (byte "?") h tt, free-other x xs (byte "*") h tt, free-other x xs (byte "+") h tt)
 
-pub complete-mark : {w : List ℕ} {q : Repeat} → IsMark w q → (r : List ℕ) → T (free r) → readMark (w ++ r) ≡ got q r
+complete-mark : {w : List ℕ} {q : Repeat} → IsMark w q → (r : List ℕ) → T (free r) → readMark (w ++ r) ≡ got q r
 complete-mark (nothing p q) r c = rw (p, q) (free-mark r c)
 complete-mark (query p q) r c = rw (p, q)
 complete-mark (any-number p q) r c = rw (p, q)

@@ -22,7 +22,7 @@ pub data Alike : List ℕ → List ℕ → Type 0 where
   ended : Alike [] []
   same-byte : {x : ℕ} {r s : List ℕ} → Alike (x ∷ r) (x ∷ s)
 
-pub alike-after : (u : List ℕ) {s t : List ℕ} → Alike s t → Alike (u ++ s) (u ++ t)
+alike-after : (u : List ℕ) {s t : List ℕ} → Alike s t → Alike (u ++ s) (u ++ t)
 alike-after [] k = k
 alike-after (c ∷ u) k = same-byte
 
@@ -148,7 +148,7 @@ firm-hexes : (lo : ℕ) (l : List ℕ) → Firm (readHexes lo) l (readHexes lo l
 firm-hexes lo = firm-by (readHexes lo) bad refl (firm-bad []) (λ x xs.
     beyond-cond (hexadecimal x && leb lo (16 * hexValue x + 15)) (on (firm-hex lo (hexValue x) xs)) here-bad)
 
-pub firm-escape : (lo : ℕ) (l : List ℕ) → Firm (readEscape lo) l (readEscape lo l)
+firm-escape : (lo : ℕ) (l : List ℕ) → Firm (readEscape lo) l (readEscape lo l)
 firm-escape lo = firm-by (readEscape lo) bad refl (firm-bad []) (λ x xs.
     beyond-cond (within x (byte "-" ∷ signs)) (beyond-cond (leb lo x) (on (firm-got x xs)) here-bad)
     (beyond-cond (eqb x (byte "x")) (on (firm-hexes lo xs)) here-bad))
@@ -159,7 +159,7 @@ firm-single lo = firm-by (readSingle lo) bad refl (firm-bad []) (λ x xs.
     (beyond-cond (eqb x (byte "\\")) (on (firm-escape lo xs)) here-bad))
 
 -- ---- classes
-pub firm-member : (l : List ℕ) → Firm readMember l (readMember l)
+firm-member : (l : List ℕ) → Firm readMember l (readMember l)
 firm-member l =
     firm-bind (firm-single 0 l) (λ lo r.
     firm-past (byte "-") (λ z r′. bind (readSingle lo r′) (λ hi r″. got (span lo hi) r″)) (got (span lo lo)) r
@@ -169,7 +169,7 @@ shorter : (n : ℕ) (l u r : List ℕ) {d : ℕ} → l ≡ u ++ r → IsMember u
 shorter n l u r e m h = omega (arith, ap length e, length-append u r, inside-long u (member-inside m))
 
 -- with more than as many members as there are bytes the number of members does not count
-pub members-same : (n k c : ℕ) (l : List ℕ) → length l < n → length l < k → readMembers n c l ≡ readMembers k c l
+members-same : (n k c : ℕ) (l : List ℕ) → length l < n → length l < k → readMembers n c l ≡ readMembers k c l
 members-same zero k c l g h = absurd (omega arith)
 members-same (suc n) zero c l g h = absurd (omega arith)
 members-same (suc n) (suc k) c l g h =
@@ -221,7 +221,7 @@ firm-number m = firm-by (readNumber m) bad refl (firm-bad []) (λ x xs.
     (beyond-cond (leb m (reach 2 (x - byte "0"))) (on (firm-digits 2 m (x - byte "0") xs)) here-bad))
     here-bad)
 
-pub firm-bounds : (l : List ℕ) → Firm readBounds l (readBounds l)
+firm-bounds : (l : List ℕ) → Firm readBounds l (readBounds l)
 firm-bounds l =
     firm-past (byte ",") (λ z r. bind (readNumber 1 r) (λ y r′. got (0, y) r′))
     (λ k. bind (readNumber 0 k) (λ x r. case (past (byte ",") r) (λ z r′. bind (readNumber (max x 1) r′) (λ y r″. got (x, y) r″)) (got (x, x) r))) l
@@ -233,7 +233,7 @@ firm-bounds l =
 firm-close : (b : ℕ × ℕ) (r : List ℕ) → Firm (close b) r (close b r)
 firm-close b r = firm-cond (leb 1 (b .1)) (firm-pass (byte "}") (λ z r′. got (times (b .0) (b .1)) r′) r (λ r′. firm-got (times (b .0) (b .1)) r′)) (firm-bad r)
 
-pub firm-braces : (l : List ℕ) → Firm readBraces l (readBraces l)
+firm-braces : (l : List ℕ) → Firm readBraces l (readBraces l)
 firm-braces l = firm-bind (firm-bounds l) (λ b r. firm-close b r)
 
 pub firm-sign : (l : List ℕ) → Firm readSign l (readSign l)
@@ -243,7 +243,7 @@ firm-sign = firm-by readSign (got (plainly once)) refl (firm-got (plainly once) 
     (beyond-cond (eqb x (byte "+")) (on (firm-got (plainly plus) xs))
     (beyond-cond (eqb x (byte "{")) (on (firm-braces xs)) (here-got (plainly once))))))
 
-pub firm-mark : (l : List ℕ) → Firm readMark l (readMark l)
+firm-mark : (l : List ℕ) → Firm readMark l (readMark l)
 firm-mark = firm-by readMark (got once) refl (firm-got once []) (λ x xs.
     beyond-cond (eqb x (byte "?")) (on (firm-got option xs))
     (beyond-cond (eqb x (byte "*")) (on (firm-got star xs))

@@ -79,7 +79,7 @@ module _ (between : ℕ → ℕ → ℕ) where
   between-range {w} {u} {v} {lo = lo} p q k d b r =
       rw (parted w u (byte "-" ∷ v) r p, complete-single 0 (omega arith) d (byte "-" ∷ (v ++ r)), complete-single lo k b r, q)
 
-pub complete-member : {w : List ℕ} {c : ℕ} → IsMember w c → (r : List ℕ) → past (byte "-") r ≡ bad r → readMember (w ++ r) ≡ got c r
+complete-member : {w : List ℕ} {c : ℕ} → IsMember w c → (r : List ℕ) → past (byte "-") r ≡ bad r → readMember (w ++ r) ≡ got c r
 complete-member (single q d) r f = between-single span q d r f
 complete-member (range p q k d b) r f = between-range span p q k d b r
 
@@ -121,7 +121,7 @@ pub one-more : (c : ℕ) {u v : List ℕ} {d z : ℕ} → IsMember u d → Close
 one-more c {u} {d} m (closed {u = t} {d = e} p q b) =
     closed (ap (λ (x : List ℕ). u ++ x) p ∙ sym (append-assoc u t (bytes "]"))) (q ∙ or-regroup c d e) (beside refl refl m b)
 
-pub sound-members : (n c : ℕ) (l : List ℕ) → Sound (Closed c) l (readMembers n c l)
+sound-members : (n c : ℕ) (l : List ℕ) → Sound (Closed c) l (readMembers n c l)
 sound-members zero c l = stopped
 sound-members (suc n) c l =
     bind-sound (sound-member l) (λ u d r e m.
@@ -129,7 +129,7 @@ sound-members (suc n) c l =
     (λ z r′ p. took (u ++ bytes "]") (cc (append-assoc u (bytes "]") r′)) (closed refl refl (member m)))
     (map-sound (sound-members n (bitOr c d) r) (λ v z r′ f b. took (u ++ v) (cc (append-assoc u v r′)) (one-more c m b))))
 
-pub complete-members : {w : List ℕ} {d : ℕ} → IsMembers w d → (n c : ℕ) (r : List ℕ) → length w ≤ n → readMembers n c (w ++ (byte "]" ∷ r)) ≡ got (bitOr c d) r
+complete-members : {w : List ℕ} {d : ℕ} → IsMembers w d → (n c : ℕ) (r : List ℕ) → length w ≤ n → readMembers n c (w ++ (byte "]" ∷ r)) ≡ got (bitOr c d) r
 complete-members (member {w} d) zero c r k = absurd (omega (arith, inside-long w (member-inside d)))
 complete-members (member d) (suc n) c r k = rw (complete-member d (byte "]" ∷ r) refl)
 complete-members (beside {w} p q d b) zero c r k = absurd (omega (arith, inside-long w (members-inside (beside p q d b))))

@@ -78,7 +78,7 @@ module _ (lo : ℕ) (h : lo ≤ 255) where
       (λ g. let k = and-split (hexadecimal x) (leb lo (16 * hexValue x + 15)) g in open-hex x (hex-of x (k .0)) (leb→le lo (16 * hexValue x + 15) (k .1)) xs)
       (λ g. at-hexes (x ∷ xs))
 
-  pub open-escape : (l : List ℕ) → Opens (Least lo IsEscape) (byte "\\" ∷ l) (readEscape lo l)
+  open-escape : (l : List ℕ) → Opens (Least lo IsEscape) (byte "\\" ∷ l) (readEscape lo l)
   open-escape [] = at-escape []
   open-escape (x ∷ xs) =
       cond-opens (within x (byte "-" ∷ signs)) (λ g. cond-opens (leb lo x) (λ k. reads) (λ k. at-escape (x ∷ xs)))
@@ -92,7 +92,7 @@ module _ (lo : ℕ) (h : lo ≤ 255) where
       (λ e. map-opens (open-escape xs) (λ u v b r f d. unended u v b (ap (λ (y : ℕ). y ∷ xs) e ∙ f) (escaped (d .0), d .1))) (at-single (x ∷ xs)))
 
 -- ---- classes
-pub open-member : (l : List ℕ) → Opens IsMember l (readMember l)
+open-member : (l : List ℕ) → Opens IsMember l (readMember l)
 open-member l =
     bind-opens (sound-single 0 l) (open-single 0 (omega arith) l) (λ u v b r e d. unended u v (span b b) e (single refl (d .0))) (λ u lo r e d.
     case-past-opens (byte "-") r
@@ -102,7 +102,7 @@ open-member l =
     (λ w hi r″ f b. reads))
     reads)
 
-pub open-members : (n c : ℕ) (l : List ℕ) → length l < n → Opens (Closed c) l (readMembers n c l)
+open-members : (n c : ℕ) (l : List ℕ) → length l < n → Opens (Closed c) l (readMembers n c l)
 open-members zero c l h = absurd (omega arith)
 open-members (suc n) c l h =
     bind-opens (sound-member l) (open-member l)
@@ -112,7 +112,7 @@ open-members (suc n) c l h =
     (λ w v z r′ f b. unended (u ++ w) v z (cc (append-assoc u w r′)) (rw (append-assoc u w v) (one-more c m b)))))
 
 -- ---- letters: `a` will do
-pub at-letter : (l : List ℕ) → Opens IsLetter l (bad l)
+at-letter : (l : List ℕ) → Opens IsLetter l (bad l)
 at-letter l = unended [] (bytes "a") (2 ^ byte "a") refl (plain-byte refl refl tt)
 
 pub open-letter : (l : List ℕ) → Opens IsLetter l (readLetter l)

@@ -70,7 +70,7 @@ module _ (m : ℕ) where
       (λ g. cond-opens (leb m (reach 2 (x - byte "0"))) (λ j. open-second x h (not-nought x h g) (leb→le m (reach 2 (x - byte "0")) j) xs) (λ j. at-number i (x ∷ xs))))
       (λ h. at-number i (x ∷ xs))
 
-pub number-small : {w : List ℕ} {n : ℕ} → IsNumber w n → n ≤ 999
+number-small : {w : List ℕ} {n : ℕ} → IsNumber w n → n ≤ 999
 number-small (one p (digit q h)) = omega arith
 number-small (two p q k (digit a b) (digit c d)) = omega arith
 number-small (three p q k (digit a b) (digit c d) (digit e f)) = omega arith
@@ -81,7 +81,7 @@ pub record Proper (w : List ℕ) (b : ℕ × ℕ) : Type 0 where
   pub ordered : b .0 ≤ b .1
   pub some : 1 ≤ b .1
 
-pub open-bounds : (l : List ℕ) → Opens Proper l (readBounds l)
+open-bounds : (l : List ℕ) → Opens Proper l (readBounds l)
 open-bounds l =
     case-past-opens (byte ",") l
     (λ z r p. bind-opens (sound-number 1 r) (open-number 1 (omega arith) r)
@@ -111,7 +111,7 @@ at-close b l u r e d = go (d .some-or-nought)
         (braces {x = 0} {y = 1} (ap (λ (t : List ℕ). byte "{" ∷ t) (sym (append-assoc u (bytes ",1") (bytes "}")))) refl (omega arith) (omega arith)
         (both refl n (one refl (digit {x = byte "1"} {d = 1} refl (omega arith)))))
 
-pub open-braces : (l : List ℕ) → Opens IsSign (byte "{" ∷ l) (readBraces l)
+open-braces : (l : List ℕ) → Opens IsSign (byte "{" ∷ l) (readBraces l)
 open-braces l =
     bind-opens (sound-bounds l) (open-bounds l)
     (λ u v b r e d. unended (byte "{" ∷ u) (v ++ bytes "}") (times (b .0) (b .1)) (ap (λ (t : List ℕ). byte "{" ∷ t) e)
@@ -129,12 +129,12 @@ open-sign (x ∷ xs) =
     (equal-opens x (byte "{") (λ e. rw e (open-braces xs)) reads)))
 
 -- a group's sign, or none, is always read
-pub open-mark : (l : List ℕ) → Opens (λ w m. ⊥) l (readMark l)
+open-mark : (l : List ℕ) → Opens (λ w m. ⊥) l (readMark l)
 open-mark [] = reads
 open-mark (x ∷ xs) = equal-opens x (byte "?") (λ e. reads) (equal-opens x (byte "*") (λ e. reads) (equal-opens x (byte "+") (λ e. reads) reads))
 
 -- ---- items, sequences, alternatives
-pub open-piece : (l : List ℕ) → Opens IsItem l (readPiece l)
+open-piece : (l : List ℕ) → Opens IsItem l (readPiece l)
 open-piece l =
     bind-opens (sound-letter l) (open-letter l)
     (λ u v c r e d. unended u v (repeated c (plainly once)) e (lone (sym (append-nil (u ++ v))) refl d (absent refl refl)))

@@ -30,7 +30,7 @@ end-nil : (t : List ℕ) → T (at-end t) → t ≡ []
 end-nil [] h = refl
 end-nil (x ∷ xs) h = absurd h
 
-pub rule-placed : (l : List ℕ) → Placed IsAlts at-end l (alts l)
+rule-placed : (l : List ℕ) → Placed IsAlts at-end l (alts l)
 rule-placed l =
     placed alts (λ w b d t g. complete-alts d (3 * length (w ++ t) + 3) t (end-closes t g) (omega arith)) [] tt
     (sound-alts (3 * length l + 3) l) (open-alts (3 * length l + 3) l (omega arith)) (firm-alts l)

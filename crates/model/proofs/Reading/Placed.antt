@@ -20,7 +20,7 @@ use Rattle.model.proofs.Reading.OpensItems.{open-alts, open-item, open-
 use Rattle.model.proofs.Reading.Signs.{complete-number, complete-sign, sound-number, sound-sign}
 
 -- ---- the law: sound, open where it stops, firm, and complete
-pub same-front : (u v r : List ℕ) → u ++ r ≡ v ++ r → u ≡ v
+same-front : (u v r : List ℕ) → u ++ r ≡ v ++ r → u ≡ v
 same-front [] [] r e = refl
 same-front [] (c ∷ v) r e = absurd (omega (arith, ap length e, length-append v r))
 same-front (c ∷ u) [] r e = absurd (omega (arith, ap length e, length-append u r))

@@ -133,7 +133,7 @@ sound-bounds l =
     (record { is = both refl (a .0) (b .0); ordered = omega (arith, b .1); some-or-nought = inl (omega (arith, b .1)) })))
     (took u e (record { is = same refl (a .0); ordered = omega arith; some-or-nought = some-or x (a .0) }))))
 
-pub complete-bounds : {w : List ℕ} {x y : ℕ} → x ≤ y → 1 ≤ y → IsBounds w x y → (r : List ℕ) → readBounds (w ++ (byte "}" ∷ r)) ≡ got (x, y) (byte "}" ∷ r)
+complete-bounds : {w : List ℕ} {x y : ℕ} → x ≤ y → 1 ≤ y → IsBounds w x y → (r : List ℕ) → readBounds (w ++ (byte "}" ∷ r)) ≡ got (x, y) (byte "}" ∷ r)
 complete-bounds i j (both {w} {u} {v} {x} p a b) r =
     let s = byte "," ∷ (v ++ (byte "}" ∷ r)) in
     rw (
@@ -146,7 +146,7 @@ complete-bounds i j (same p a) r = rw (number-past a (byte "}" ∷ r), complete-
 complete-bounds i j (upto p q b) r = rw (p, complete-number 1 j b (byte "}" ∷ r) tt, q)
 
 -- ---- signs
-pub sound-braces : (l : List ℕ) → Sound IsSign (byte "{" ∷ l) (readBraces l)
+sound-braces : (l : List ℕ) → Sound IsSign (byte "{" ∷ l) (readBraces l)
 sound-braces l =
     bind-sound (sound-bounds l) (λ u b r e d.
     cond-sound (leb 1 (b .1))

@@ -19,7 +19,7 @@ pub record Answer (Given Lent : Type 0) : Type 0 where
   pub lent : Lent
 
 -- "With 2 the builder shall also give a place .. All other answers carry place 0" (document 02, Wish 2).
--- done gives something, and what was lent is changed
+-- done: what is given, and what was lent as it is now
 abbrev pub gives : {Given Lent : Type 0} → Given → Lent → Answer Given Lent
 gives given after = record { number = 0; place = 0; given = given; lent = after }
 

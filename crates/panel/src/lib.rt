@@ -26,7 +26,7 @@ fn pack(answer: Answer) -> u64
     ensures { λ r. ⌜ r ≡ numberIn answer * 2 ^ 32 + (placeIn answer + countIn answer) ⌝ }
 {
     match answer {
-        Answer::Refused(refusal) => { number(refusal) * 0x1_0000_0000 + place(refusal) as u64 }
+        Answer::Refused(refusal) => number(refusal) * 0x1_0000_0000 + place(refusal) as u64,
         Answer::Done(count) => count as u64,
     }
 }

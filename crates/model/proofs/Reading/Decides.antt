@@ -11,19 +11,22 @@ use lib.ListN.{length, length-append}
 use Rattle.model.specs.Bytes.{byte, bytes}
 use Rattle.model.specs.Tree.{Alts, once, Repeat, Seq}
 use Rattle.model.specs.Grammar.{also, any-number, bracket, group, IsAlts, IsItem, IsMark, IsRule, IsSeq, item, lone, nothing, only, query, rule, some-number, then}
-use Rattle.model.specs.Models.Places.{closes, free}
+use Rattle.model.specs.Models.Places.{closes, free, Piece, piece}
 use Rattle.model.specs.Models.Reader.{bad, got, over, Read, readAlts, readItem, readMark, readPiece, readRule, readSeq, whole}
 use Rattle.model.proofs.Laws.Bool.{is-true}
-use Rattle.model.proofs.Reading.Answers.{begins-append, begins-opens, begins-past, bind-past-sound, bind-sound, case-past-sound, closes-over, closes-past, cond-sound, equal-sound, free-other, opens, opens-append, opens-free, opens-long, opens-over, over-free, parted, Sound, stopped, took}
+use Rattle.model.proofs.Reading.Answers.{begins-append, begins-opens, begins-past, bind-past-sound, bind-sound, case-past-sound, closes-over, closes-past, cond-sound, equal-sound, free-other, map-sound, opens, opens-append, opens-free, opens-long, opens-over, over-free, parted, Sound, stopped, took}
 use Rattle.model.proofs.Reading.Letters.{complete-letter, letter-begins, sound-letter}
 use Rattle.model.proofs.Reading.Signs.{complete-sign, sound-sign}
 
 -- ---- what is read is in the grammar
-sound-piece : (l : List ℕ) → Sound IsItem l (readPiece l)
+pub piece-item : {w : List ℕ} {s : Seq} → Piece w s → IsItem w s
+piece-item (piece p q d b) = lone p q d b
+
+pub sound-piece : (l : List ℕ) → Sound Piece l (readPiece l)
 sound-piece l =
     bind-sound (sound-letter l) (λ u c r e d.
     bind-sound (sound-sign r) (λ v q r′ f b.
-    took (u ++ v) (cc (append-assoc u v r′)) (lone refl refl d b)))
+    took (u ++ v) (cc (append-assoc u v r′)) (piece refl refl d b)))
 
 pub sound-mark : (l : List ℕ) → Sound IsMark l (readMark l)
 sound-mark [] = took [] refl (nothing refl refl)
@@ -56,7 +59,7 @@ mutual
       (λ z r p. bind-sound (sound-alts n r) (λ u a r′ e d.
       bind-past-sound (byte ")") r′ (λ y r″ q.
       bind-sound (sound-mark r″) (λ v m r‴ f b. took (byte "(" ∷ (u ++ (byte ")" ∷ v))) (cc (append-assoc u (byte ")" ∷ v) r‴)) (group refl refl d b)))))
-      (sound-piece l)
+      (map-sound (sound-piece l) (λ u s r e d. took u e (piece-item d)))
 
 sound-rule : (w : List ℕ) (s : Seq) → readRule w ≡ some s → IsRule w s
 sound-rule w s e = go (readAlts (3 * length w + 3) w) (sound-alts (3 * length w + 3) w) e

@@ -8,14 +8,14 @@ use lib.Dec.{T, T-not, eqb, leb, leb→le}
 use lib.ListN.{length, length-append}
 use Rattle.model.specs.Bytes.{byte, bytes, digit, digital, IsDigit}
 use Rattle.model.specs.Tree.{glue, last, more, once}
-use Rattle.model.specs.Grammar.{absent, also, both, braces, group, grouped, IsAlts, IsBounds, IsItem, IsNumber, IsSeq, IsSign, item, lone, nothing, one, only, plainly, repeated, same, then, three, times, two, upto}
-use Rattle.model.specs.Models.Places.{Least}
+use Rattle.model.specs.Grammar.{absent, also, both, braces, group, grouped, IsAlts, IsBounds, IsItem, IsNumber, IsSeq, IsSign, item, nothing, one, only, plainly, repeated, same, then, three, times, two, upto}
+use Rattle.model.specs.Models.Places.{Least, Piece, piece}
 use Rattle.model.specs.Models.Reader.{bad, over, reach, readAlts, readBounds, readBraces, readDigits, readItem, readMark, readNumber, readPiece, readSeq, readSign, stop}
 use Rattle.model.proofs.Reading.Answers.{opens-long}
-use Rattle.model.proofs.Reading.Decides.{item-opens, sound-alts, sound-item, sound-mark, sound-seq}
+use Rattle.model.proofs.Reading.Decides.{item-opens, piece-item, sound-alts, sound-item, sound-mark, sound-seq}
 use Rattle.model.proofs.Reading.Escapes.{digit-of}
 use Rattle.model.proofs.Reading.Letters.{sound-letter}
-use Rattle.model.proofs.Reading.Opens.{bind-opens, bind-past-opens, case-past-opens, cond-opens, equal-opens, open-letter, Opens, reads, unended}
+use Rattle.model.proofs.Reading.Opens.{bind-opens, bind-past-opens, case-past-opens, cond-opens, equal-opens, map-opens, open-letter, Opens, reads, unended}
 use Rattle.model.proofs.Reading.Signs.{Bounds, not-nought, sound-bounds, sound-number, sound-sign}
 
 -- ---- numbers of at least m, and at least 1: with digits `9` they become as large as they can
@@ -134,12 +134,12 @@ open-mark [] = reads
 open-mark (x ∷ xs) = equal-opens x (byte "?") (λ e. reads) (equal-opens x (byte "*") (λ e. reads) (equal-opens x (byte "+") (λ e. reads) reads))
 
 -- ---- items, sequences, alternatives
-open-piece : (l : List ℕ) → Opens IsItem l (readPiece l)
+pub open-piece : (l : List ℕ) → Opens Piece l (readPiece l)
 open-piece l =
     bind-opens (sound-letter l) (open-letter l)
-    (λ u v c r e d. unended u v (repeated c (plainly once)) e (lone (sym (append-nil (u ++ v))) refl d (absent refl refl)))
+    (λ u v c r e d. unended u v (repeated c (plainly once)) e (piece (sym (append-nil (u ++ v))) refl d (absent refl refl)))
     (λ u c r e d. bind-opens (sound-sign r) (open-sign r)
-    (λ w v q r′ f b. unended (u ++ w) v (repeated c q) (cc (append-assoc u w r′)) (lone (append-assoc u w v) refl d b))
+    (λ w v q r′ f b. unended (u ++ w) v (repeated c q) (cc (append-assoc u w r′)) (piece (append-assoc u w v) refl d b))
     (λ w q r′ f b. reads))
 
 mutual
@@ -172,4 +172,4 @@ mutual
       (λ u a r′ e d. bind-past-opens (byte ")") r′
       (unended (byte "(" ∷ u) (bytes ")") (grouped a once) (cc) (group refl refl d (nothing refl refl)))
       (λ y r″ q. bind-opens (sound-mark r″) (open-mark r″) (λ w v m r‴ f b. absurd b) (λ w m r‴ f b. reads))))
-      (open-piece l)
+      (map-opens (open-piece l) (λ u v s r e d. unended u v s e (piece-item d)))

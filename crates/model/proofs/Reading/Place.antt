@@ -3,7 +3,7 @@
 use mathlib.Core.Path.{_≡_, refl, sym, ap, _∙_, subst}
 use mathlib.Core.Logic.{_⊎_, inl, inr, _↔_}
 use mathlib.Core.List.{List, [], _∷_, _++_, append-assoc, append-nil}
-use Prim.Native.Nat.{ℕ, zero, suc, _+_, _-_, _*_, _≤_, _<_}
+use Prim.Native.Nat.{ℕ, zero, suc, _-_, _≤_, _<_}
 use native.Mathlib.Omega.{arith}
 use lib.Dec.{T}
 use lib.ListN.{drop, length, length-append, length-drop, length-replicate, replicate, take}
@@ -15,10 +15,7 @@ use Rattle.model.specs.Place.{Beginning, PlaceIs}
 use Rattle.model.specs.Models.Places.{at-end, Becomes, closes, passed, Placed, taken}
 use Rattle.model.specs.Models.Reader.{alts, left, Read, readPlace}
 use Rattle.model.proofs.Laws.Bool.{le-or-lt}
-use Rattle.model.proofs.Reading.Decides.{complete-alts, sound-alts}
-use Rattle.model.proofs.Reading.Firm.{firm-alts}
-use Rattle.model.proofs.Reading.Placed.{placed}
-use Rattle.model.proofs.Reading.OpensItems.{open-alts}
+use Rattle.model.proofs.Reading.Placed.{alternatives-before}
 use Rattle.model.proofs.Reading.Positions.{take-beyond}
 
 -- ---- the reader of alternatives, where nothing may follow them
@@ -31,9 +28,7 @@ end-nil [] h = refl
 end-nil (x ∷ xs) h = absurd h
 
 rule-placed : (l : List ℕ) → Placed IsAlts at-end l (alts l)
-rule-placed l =
-    placed alts (λ w b d t g. complete-alts d (3 * length (w ++ t) + 3) t (end-closes t g) (omega arith)) [] tt
-    (sound-alts (3 * length l + 3) l) (open-alts (3 * length l + 3) l (omega arith)) (firm-alts l)
+rule-placed = alternatives-before at-end end-closes tt
 
 -- what can still become alternatives and nothing else is a beginning
 becomes-beginning : (u : List ℕ) → Becomes IsAlts at-end u → Beginning u

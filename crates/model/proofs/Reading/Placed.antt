@@ -1,22 +1,22 @@
 -- EACH READER STOPS WHERE NOTHING IT READS CAN FOLLOW ANY MORE: what it passed can still become what it reads, and with the next byte it can not.
 use mathlib.Core.Path.{_≡_, refl, sym, ap, _∙_}
 use mathlib.Core.Bool.{Bool}
-use mathlib.Core.List.{List, [], _∷_, _++_, append-assoc, append-nil}
+use mathlib.Core.List.{List, [], _∷_, _++_, append-assoc}
 use Prim.Native.Nat.{ℕ, _+_, _*_, _≤_}
 use native.Mathlib.Omega.{arith}
 use lib.Dec.{T}
 use lib.ListN.{length, length-append}
 use Rattle.model.specs.Bytes.{byte}
-use Rattle.model.specs.Tree.{once, Seq}
-use Rattle.model.specs.Grammar.{absent, IsAlts, IsItem, IsLetter, IsNumber, IsSeq, IsSign, IsSingle, plainly, repeated}
+use Rattle.model.specs.Tree.{Seq}
+use Rattle.model.specs.Grammar.{IsAlts, IsItem, IsLetter, IsNumber, IsSeq, IsSign, IsSingle}
 use Rattle.model.specs.Models.Places.{anything, Becomes, closes, free, halts, Least, passed, Piece, piece, Placed, taken}
 use Rattle.model.specs.Models.Reader.{alts, bad, got, item, over, Read, readLetter, readNumber, readPiece, readSign, readSingle, seq}
-use Rattle.model.proofs.Reading.Answers.{bind-sound, parted, Sound, stopped, took}
-use Rattle.model.proofs.Reading.Decides.{complete-alts, complete-item, complete-seq, sound-alts, sound-item, sound-seq}
+use Rattle.model.proofs.Reading.Answers.{parted, Sound, stopped, took}
+use Rattle.model.proofs.Reading.Decides.{complete-alts, complete-item, complete-seq, sound-alts, sound-item, sound-piece, sound-seq}
 use Rattle.model.proofs.Reading.Firm.{Firm, firm-alts, firm-class, firm-item, firm-letter, firm-number, firm-piece, firm-seq, firm-sign, firm-single, gets, members, same-byte, stops}
 use Rattle.model.proofs.Reading.Letters.{complete-letter, complete-single, sound-letter, sound-single}
-use Rattle.model.proofs.Reading.Opens.{bind-opens, map-opens, open-letter, open-single, Opens, reads, unended}
-use Rattle.model.proofs.Reading.OpensItems.{open-alts, open-item, open-number, open-seq, open-sign}
+use Rattle.model.proofs.Reading.Opens.{map-opens, open-letter, open-single, Opens, reads, unended}
+use Rattle.model.proofs.Reading.OpensItems.{open-alts, open-item, open-number, open-piece, open-seq, open-sign}
 use Rattle.model.proofs.Reading.Signs.{complete-number, complete-sign, sound-number, sound-sign}
 
 -- ---- the law: sound, open where it stops, firm, and complete
@@ -30,7 +30,7 @@ same-front (c ∷ u) (d ∷ v) r e =
     let t : u ≡ v = same-front u v r q in cc
 
 module _ {A : Type 0} (R : List ℕ → Read A) {X : List ℕ → A → Type 0} {F : List ℕ → Bool} where
-  pub placed : {l : List ℕ} {m : Read A} → ((w : List ℕ) (b : A) → X w b → (t : List ℕ) → T (F t) → R (w ++ t) ≡ got b t) → (t : List ℕ) → T (F t)
+  placed : {l : List ℕ} {m : Read A} → ((w : List ℕ) (b : A) → X w b → (t : List ℕ) → T (F t) → R (w ++ t) ≡ got b t) → (t : List ℕ) → T (F t)
       → Sound X l m → Opens X l m → Firm R l m → Placed X F l m
   placed full t₀ h (took u {a} {r} e d) reads (gets w p f) = taken u e d only-one
     where
@@ -100,21 +100,10 @@ pub sign-placed : (l : List ℕ) → Placed IsSign free l (readSign l)
 sign-placed l = placed readSign (λ w b d t g. complete-sign d t g) [] tt (sound-sign l) (open-sign l) (firm-sign l)
 
 pub piece-placed : (l : List ℕ) → Placed Piece free l (readPiece l)
-piece-placed l = placed readPiece full [] tt sound opened (firm-piece l)
+piece-placed l = placed readPiece full [] tt (sound-piece l) (open-piece l) (firm-piece l)
   where
     full : (w : List ℕ) (s : Seq) → Piece w s → (t : List ℕ) → T (free t) → readPiece (w ++ t) ≡ got s t
     full w s (piece {u} {v} p e d b) t g = rw (parted w u v t p, complete-letter d (v ++ t), complete-sign b t g, e)
-
-    sound : Sound Piece l (readPiece l)
-    sound = bind-sound (sound-letter l) (λ u c r e d. bind-sound (sound-sign r) (λ v q r′ f b. took (u ++ v) (cc (append-assoc u v r′)) (piece refl refl d b)))
-
-    opened : Opens Piece l (readPiece l)
-    opened =
-        bind-opens (sound-letter l) (open-letter l)
-        (λ u v c r e d. unended u v (repeated c (plainly once)) e (piece (sym (append-nil (u ++ v))) refl d (absent refl refl)))
-        (λ u c r e d. bind-opens (sound-sign r) (open-sign r)
-        (λ w v q r′ f b. unended (u ++ w) v (repeated c q) (cc (append-assoc u w r′)) (piece (append-assoc u w v) refl d b))
-        (λ w q r′ f b. reads))
 
 pub item-placed : (l : List ℕ) → Placed IsItem free l (item l)
 item-placed l =
@@ -126,7 +115,11 @@ sequence-placed l =
     placed seq (λ w b d t g. complete-seq d (3 * length (w ++ t) + 2) t g (omega arith)) [] tt
     (sound-seq (3 * length l + 2) l) (open-seq (3 * length l + 2) l (omega arith)) (firm-seq l)
 
-pub alternatives-placed : (l : List ℕ) → Placed IsAlts closes l (alts l)
-alternatives-placed l =
-    placed alts (λ w b d t g. complete-alts d (3 * length (w ++ t) + 3) t g (omega arith)) [] tt
+-- alternatives, before bytes that may close them: in brackets, and of a whole rule
+pub alternatives-before : (F : List ℕ → Bool) → ((t : List ℕ) → T (F t) → T (closes t)) → T (F []) → (l : List ℕ) → Placed IsAlts F l (alts l)
+alternatives-before F close none l =
+    placed alts (λ w b d t g. complete-alts d (3 * length (w ++ t) + 3) t (close t g) (omega arith)) [] none
     (sound-alts (3 * length l + 3) l) (open-alts (3 * length l + 3) l (omega arith)) (firm-alts l)
+
+pub alternatives-placed : (l : List ℕ) → Placed IsAlts closes l (alts l)
+alternatives-placed = alternatives-before closes (λ t g. g) tt

@@ -18,7 +18,7 @@ use Rattle.model.specs.Image.{backSource, backTarget, gatherBlock, gathe
 use Rattle.model.specs.Place.{PlaceIs}
 use Rattle.model.specs.Answers.{not-a-rule}
 use Rattle.model.specs.Spelling.{Latest}
-use Rattle.model.specs.Worked.{_⊨_, Claim, further, gatherAt, hasEnds, hasImage, hasLatest, hasNoStart, hasStates, Holds, isNotSpelledBy, isSpelledBy, isWritten, marked, Masks, optionalGroups, places, propagateAt, refusedWith2, repeatedGroups, returnAt, Right, Row, scatterAt, spellings}
+use Rattle.model.specs.Worked.{_⊨_, Claim, dots, further, gatherAt, hasEnds, hasImage, hasLatest, hasNoStart, hasStates, Holds, isNotSpelledBy, isSpelledBy, isWritten, marked, Masks, optionalGroups, places, propagateAt, refusedWith2, repeatedGroups, returnAt, Right, Row, scatterAt, spellings}
 use Rattle.model.specs.Models.Reader.{readPlace, readRule}
 use Rattle.model.specs.Models.Spelling.{isSpelled, latest}
 use Rattle.model.specs.Models.Verdict.{sameWords}
@@ -145,6 +145,9 @@ optional-groups-right = table-right optionalGroups tt
 
 pub repeated-groups-right : All Right repeatedGroups
 repeated-groups-right = table-right repeatedGroups tt
+
+pub dots-right : All Right dots
+dots-right = table-right dots tt
 
 pub places-right : All Right places
 places-right = table-right places tt

@@ -19,12 +19,13 @@ pub data IsSingle : List ℕ → ℕ → Type 0 where
   itself : {w : List ℕ} {b : ℕ} → w ≡ b ∷ [] → T (bare b) → IsSingle w b
   escaped : {w : List ℕ} {b : ℕ} → IsEscape w b → IsSingle w b
 
--- the bytes from lo to hi; "every byte, 0 to 255"
+-- the bytes from lo to hi
 abbrev pub span : ℕ → ℕ → ℕ
 span lo hi = mask 256 (λ b. leb lo b && leb b hi)
 
-abbrev pub every : ℕ
-every = 2 ^ 256 - 1
+-- the class of `.`: "From now `.` is every byte but 10." (document 02, Wish 4)
+abbrev pub dotClass : ℕ
+dotClass = mask 256 (λ b. not (eqb b 10))
 
 -- "singles or ranges `lo-hi` of two singles, lo at most hi"
 pub data IsMember : List ℕ → ℕ → Type 0 where
@@ -37,12 +38,13 @@ pub data IsMembers : List ℕ → ℕ → Type 0 where
   beside : {w u v : List ℕ} {c d e : ℕ} → w ≡ u ++ v → c ≡ bitOr d e → IsMember u d → IsMembers v e → IsMembers w c
 
 -- ---- letters
--- "A letter is a plain byte, an escape, `.` (every byte, 0 to 255) or a class `[...]`"
-pub data IsLetter : List ℕ → ℕ → Type 0 where
-  plain-byte : {w : List ℕ} {c b : ℕ} → w ≡ b ∷ [] → c ≡ 2 ^ b → T (plain b) → IsLetter w c
-  escape : {w : List ℕ} {c b : ℕ} → c ≡ 2 ^ b → IsEscape w b → IsLetter w c
-  dot : {w : List ℕ} {c : ℕ} → w ≡ byte "." ∷ [] → c ≡ every → IsLetter w c
-  class : {w u : List ℕ} {c : ℕ} → w ≡ byte "[" ∷ (u ++ (byte "]" ∷ [])) → IsMembers u c → IsLetter w c
+-- "A letter is a plain byte, an escape, `.` .. or a class `[...]`". What is a letter, an item and so on, up to a rule, is said for any class d of `.`:
+-- document 01 had another one (specs/Before.antt).
+pub data LetterWith (d : ℕ) : List ℕ → ℕ → Type 0 where
+  plain-byte : {w : List ℕ} {c b : ℕ} → w ≡ b ∷ [] → c ≡ 2 ^ b → T (plain b) → LetterWith d w c
+  escape : {w : List ℕ} {c b : ℕ} → c ≡ 2 ^ b → IsEscape w b → LetterWith d w c
+  dot : {w : List ℕ} {c : ℕ} → w ≡ byte "." ∷ [] → c ≡ d → LetterWith d w c
+  class : {w u : List ℕ} {c : ℕ} → w ≡ byte "[" ∷ (u ++ (byte "]" ∷ [])) → IsMembers u c → LetterWith d w c
 
 -- ---- repeat signs
 -- "Numbers have 1 to 3 digits and no leading zero except `0` itself."
@@ -107,18 +109,36 @@ grouped a plus = glue (bracket a) (cycle a)
 -- "Alternatives hold sequences, sequences hold items, items hold alternatives: an item is a letter with at most one repeat sign, or
 -- bracketed alternatives", with `?`, `*` or `+` or without. "No sequence is empty." An item means the sequence that it adds to the one outside.
 mutual
-  pub data IsAlts : List ℕ → Alts → Type 0 where
-    only : {w : List ℕ} {s : Seq} → IsSeq w s → IsAlts w (last s)
-    also : {w u v : List ℕ} {s : Seq} {a : Alts} → w ≡ u ++ (byte "|" ∷ v) → IsSeq u s → IsAlts v a → IsAlts w (more s a)
+  pub data AltsWith (d : ℕ) : List ℕ → Alts → Type 0 where
+    only : {w : List ℕ} {s : Seq} → SeqWith d w s → AltsWith d w (last s)
+    also : {w u v : List ℕ} {s : Seq} {a : Alts} → w ≡ u ++ (byte "|" ∷ v) → SeqWith d u s → AltsWith d v a → AltsWith d w (more s a)
 
-  pub data IsSeq : List ℕ → Seq → Type 0 where
-    item : {w : List ℕ} {s : Seq} → IsItem w s → IsSeq w s
-    then : {w u v : List ℕ} {s h t : Seq} → w ≡ u ++ v → s ≡ glue h t → IsItem u h → IsSeq v t → IsSeq w s
+  pub data SeqWith (d : ℕ) : List ℕ → Seq → Type 0 where
+    item : {w : List ℕ} {s : Seq} → ItemWith d w s → SeqWith d w s
+    then : {w u v : List ℕ} {s h t : Seq} → w ≡ u ++ v → s ≡ glue h t → ItemWith d u h → SeqWith d v t → SeqWith d w s
 
-  pub data IsItem : List ℕ → Seq → Type 0 where
-    lone : {w u v : List ℕ} {s : Seq} {c : ℕ} {q : Sign} → w ≡ u ++ v → s ≡ repeated c q → IsLetter u c → IsSign v q → IsItem w s
-    group : {w u v : List ℕ} {s : Seq} {a : Alts} {r : Repeat} → w ≡ byte "(" ∷ (u ++ (byte ")" ∷ v)) → s ≡ grouped a r → IsAlts u a → IsMark v r → IsItem w s
+  pub data ItemWith (d : ℕ) : List ℕ → Seq → Type 0 where
+    lone : {w u v : List ℕ} {s : Seq} {c : ℕ} {q : Sign} → w ≡ u ++ v → s ≡ repeated c q → LetterWith d u c → IsSign v q → ItemWith d w s
+    group : {w u v : List ℕ} {s : Seq} {a : Alts} {r : Repeat} → w ≡ byte "(" ∷ (u ++ (byte ")" ∷ v)) → s ≡ grouped a r → AltsWith d u a → IsMark v r
+        → ItemWith d w s
 
--- THE RULE w HAS THE TREE t: "A rule is alternatives separated by `|`."
-pub data IsRule : List ℕ → Tree → Type 0 where
-  rule : {w : List ℕ} {t : Tree} {a : Alts} → t ≡ bracket a → IsAlts w a → IsRule w t
+-- "A rule is alternatives separated by `|`."
+pub data RuleWith (d : ℕ) : List ℕ → Tree → Type 0 where
+  rule : {w : List ℕ} {t : Tree} {a : Alts} → t ≡ bracket a → AltsWith d w a → RuleWith d w t
+
+-- ---- with the dot of now
+abbrev pub IsLetter : List ℕ → ℕ → Type 0
+IsLetter = LetterWith dotClass
+
+abbrev pub IsItem : List ℕ → Seq → Type 0
+IsItem = ItemWith dotClass
+
+abbrev pub IsSeq : List ℕ → Seq → Type 0
+IsSeq = SeqWith dotClass
+
+abbrev pub IsAlts : List ℕ → Alts → Type 0
+IsAlts = AltsWith dotClass
+
+-- THE RULE w HAS THE TREE t
+abbrev pub IsRule : List ℕ → Tree → Type 0
+IsRule = RuleWith dotClass

@@ -11,9 +11,11 @@ pub mod Ends
 pub mod Image
 pub mod Place
 pub mod Answers
--- Change requests: the watch (Wish 1), spellings (Wish 9); a rule's place (Wish 2) stands before the answers, which have it.
+-- Change requests: the watch (Wish 1), spellings (Wish 9), images from before the dot (Wish 4); a rule's place (Wish 2) stands before the answers,
+-- which have it.
 pub mod Watch
 pub mod Spelling
+pub mod Before
 -- The worked examples, every one proved.
 pub mod Worked
 -- Models: what the code computes. The theorems in proofs/ tie each to the definitions above.

@@ -1,4 +1,4 @@
--- THE WORKED EXAMPLES OF DOCUMENT 01 ("Measured examples"), and some of document 02's optional and repeated groups (Wishes 3 and 12), places (Wish 2) and spellings (Wish 9),
+-- THE WORKED EXAMPLES OF DOCUMENT 01 ("Measured examples"), and some of document 02's optional and repeated groups (Wishes 3 and 12), the dot (Wish 4), places (Wish 2) and spellings (Wish 9),
 -- as rows of a rule and what is claimed of it.
 -- Nothing here is believed: proofs/Examples.antt proves every row.
 use mathlib.Core.Path.{_≡_}
@@ -166,6 +166,22 @@ repeatedGroups =
     ∷ refusedWith2 "(a){2}" 3
     ∷ []
 
+-- document 02, Wish 4: the dot takes every byte but 10, and which classes are written as it
+abbrev pub dots : List Row
+dots =
+    "." ⊨ isWritten "."
+    ∷ "[\\x00-\\x09\\x0B-\\xFF]" ⊨ isWritten "."
+    ∷ "[\\x00-\\xFF]" ⊨ isWritten "[\\x00-\\xFF]"
+    ∷ "[\\x0A-\\xFF\\x00-\\x09]" ⊨ isWritten "[\\x00-\\xFF]"
+    ∷ "[\\x00-\\x08\\x0A-\\xFF]" ⊨ isWritten "[\\x00-\\x08\\x0A-\\xFF]"
+    ∷ "(.|\\x0A)" ⊨ isWritten "(.|\\x0A)"
+    ∷ "\\.[\\.]" ⊨ isWritten "\\.\\."
+    ∷ "." ⊨ hasEnds "a\nb" (1 ∷ 3 ∷ [])
+    -- Monday to Tuesday
+    ∷ "O.*S" ⊨ hasEnds "OPS\nOP\nS" (3 ∷ [])
+    ∷ "O[\\x00-\\xFF]*S" ⊨ hasEnds "OPS\nOP\nS" (3 ∷ 8 ∷ [])
+    ∷ []
+
 -- document 02, Wish 2: places, its own three first; then what numbers, ranges, escapes and groups can still become
 abbrev pub places : List Row
 places =
@@ -220,7 +236,7 @@ further =
     ∷ "((a|b)|c)" ⊨ hasStates 10
     ∷ "a(b?|c)d" ⊨ hasEnds "ad" (2 ∷ [])
     ∷ "[z-\\xFF\\-b-ea]" ⊨ isWritten "[\\-a-ez-\\xFF]"
-    ∷ "\\x0a-\\x41[\\x00-\\xff]" ⊨ isWritten "\\x0A\\-A."
+    ∷ "\\x0a-\\x41[\\x00-\\xff]" ⊨ isWritten "\\x0A\\-A[\\x00-\\xFF]"
     ∷ "[^a]{1}$" ⊨ isWritten "[^a]$"
     ∷ refusedWith2 "a{0}" 3
     ∷ refusedWith2 "a{3,}" 4

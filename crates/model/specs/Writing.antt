@@ -7,7 +7,7 @@ use Rattle.model.specs.Lists.{within}
 use Rattle.model.specs.Bits.{bit}
 use Rattle.model.specs.Bytes.{byte, bytes, signs}
 use Rattle.model.specs.Tree.{Alts, end, last, letter, Mark, more, once, option, optional, plus, Repeat, star, starred, Tree, union, unmarked}
-use Rattle.model.specs.Grammar.{every}
+use Rattle.model.specs.Grammar.{dotClass}
 
 -- an "upper-case digit"
 abbrev pub hexDigit : ℕ → ℕ
@@ -38,11 +38,15 @@ abbrev pub sole : ℕ → ℕ → ℕ → ℕ
 sole zero c b = 256
 sole (suc n) c b = cond (eqb c (2 ^ b)) b (sole n c (suc b))
 
--- "A class of one byte is that byte .. All 256 bytes are `.`. Any other class is its maximal runs in rising order in `[ ]`"
-abbrev pub classWriting : ℕ → List ℕ
-classWriting c =
+-- "A class of one byte is that byte .. Any other class is its maximal runs in rising order in `[ ]`", but for that of the dot, d
+abbrev pub classWith : (d : ℕ) → ℕ → List ℕ
+classWith d c =
     let b = sole 256 c 0 in
-    cond (ltb b 256) (byteWriting b) (cond (eqb c every) (bytes ".") ((byte "[" ∷ outside 256 c 0) ++ (byte "]" ∷ [])))
+    cond (ltb b 256) (byteWriting b) (cond (eqb c d) (bytes ".") ((byte "[" ∷ outside 256 c 0) ++ (byte "]" ∷ [])))
+
+-- "The class of those 255 bytes is written `.`, and the class of all 256 is written `[\x00-\xFF]`." (document 02, Wish 4)
+abbrev pub classWriting : ℕ → List ℕ
+classWriting = classWith dotClass
 
 abbrev pub repeatWriting : Repeat → List ℕ
 repeatWriting once = []
@@ -55,13 +59,20 @@ markWriting unmarked = []
 markWriting optional = bytes "?"
 markWriting starred = bytes "*"
 
--- "Every union is bracketed, also at the top."
+-- the tree written out, each class c as f c. "Every union is bracketed, also at the top."
 abbrev mutual
-  pub writing : Tree → List ℕ
-  writing end = []
-  writing (letter c r s) = classWriting c ++ (repeatWriting r ++ writing s)
-  writing (union m a s) = byte "(" ∷ (altsWriting a ++ (byte ")" ∷ (markWriting m ++ writing s)))
+  pub writtenBy : (ℕ → List ℕ) → Tree → List ℕ
+  writtenBy f end = []
+  writtenBy f (letter c r s) = f c ++ (repeatWriting r ++ writtenBy f s)
+  writtenBy f (union m a s) = byte "(" ∷ (altsBy f a ++ (byte ")" ∷ (markWriting m ++ writtenBy f s)))
 
-  pub altsWriting : Alts → List ℕ
-  altsWriting (last s) = writing s
-  altsWriting (more s a) = writing s ++ (byte "|" ∷ altsWriting a)
+  pub altsBy : (ℕ → List ℕ) → Alts → List ℕ
+  altsBy f (last s) = writtenBy f s
+  altsBy f (more s a) = writtenBy f s ++ (byte "|" ∷ altsBy f a)
+
+-- THE PLAIN WRITING
+abbrev pub writing : Tree → List ℕ
+writing = writtenBy classWriting
+
+abbrev pub altsWriting : Alts → List ℕ
+altsWriting = altsBy classWriting

@@ -3,7 +3,7 @@ use crate::Class;
 ghost use mathlib.Core.Path.{_≡_};
 ghost use Prim.Native.Nat.{_+_, _^_, _≤_};
 ghost use lib.Bits.{bitOr};
-ghost use Rattle.model.specs.Grammar.{every as everyByte, span as spanOf};
+ghost use Rattle.model.specs.Grammar.{dotClass, span as spanOf};
 ghost use Rattle.rule_letters.specs.Classes.{bytesOf, belowWord, spanWord};
 
 // Of the 64 bytes from base on those below n.
@@ -64,12 +64,12 @@ pub fn none() -> Class
     }
 }
 
-// "every byte, 0 to 255"
-pub fn every() -> Class
-    ensures { λ r. ⌜ bytesOf r ≡ everyByte ⌝ }
+// "every byte but 10"
+pub fn dot() -> Class
+    ensures { λ r. ⌜ bytesOf r ≡ dotClass ⌝ }
 {
     Class {
-        word0: 0xffff_ffff_ffff_ffff,
+        word0: 0xffff_ffff_ffff_fbff,
         word1: 0xffff_ffff_ffff_ffff,
         word2: 0xffff_ffff_ffff_ffff,
         word3: 0xffff_ffff_ffff_ffff,

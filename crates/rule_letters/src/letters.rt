@@ -1,7 +1,7 @@
 // Letters: plain bytes, escapes, `.` and classes.
 use crate::Byte;
 use crate::Letter;
-use crate::classes::every;
+use crate::classes::dot;
 use crate::classes::none;
 use crate::classes::one;
 use crate::classes::or;
@@ -106,7 +106,7 @@ pub fn read_letter(rule: &[u8], at: usize) -> Letter
         return Letter::Got(one(x), at + 1);
     }
     if x == b'.' {
-        return Letter::Got(every(), at + 1);
+        return Letter::Got(dot(), at + 1);
     }
     if x == b'[' {
         return read_members(rule, at + 1);

@@ -13,8 +13,8 @@ use lib.Pow.{pow-pos}
 use Rattle.model.specs.Lists.{within}
 use Rattle.model.specs.Bits.{bit}
 use Rattle.model.specs.Bytes.{byte, bytes, decimal, digit, IsEscape, IsHex, number, plain, sign, signs, upper}
-use Rattle.model.specs.Grammar.{bare, beside, class, dot, escape, escaped, every, IsLetter, IsMember, IsMembers, IsSingle, itself, member, plain-byte, range, single, span}
-use Rattle.model.specs.Writing.{byteWriting, classWriting, hexDigit, inside, outside, runWriting, sole}
+use Rattle.model.specs.Grammar.{bare, beside, class, dot, escape, escaped, IsMember, IsMembers, IsSingle, itself, LetterWith, member, plain-byte, range, single, span}
+use Rattle.model.specs.Writing.{byteWriting, classWith, hexDigit, inside, outside, runWriting, sole}
 use Rattle.model.proofs.Laws.Bits.{bit-zero}
 use Rattle.model.proofs.Laws.Bool.{and-both, and-split, cond-cases, is-false, is-true, le-false, le-or-lt, le-true, or-none}
 use Rattle.model.proofs.Reading.WellFormed.{bit-span, Class, members-class}
@@ -49,10 +49,10 @@ byte-single b h = go (byte-text b h)
     go (as-is p k) = itself p k
     go (as-escape d) = escaped d
 
-byte-letter : (b : ℕ) → b < 256 → IsLetter (byteWriting b) (2 ^ b)
-byte-letter b h = go (byte-text b h)
+byte-letter : {dots : ℕ} (b : ℕ) → b < 256 → LetterWith dots (byteWriting b) (2 ^ b)
+byte-letter {dots} b h = go (byte-text b h)
   where
-    go : Text (byteWriting b) b → IsLetter (byteWriting b) (2 ^ b)
+    go : Text (byteWriting b) b → LetterWith dots (byteWriting b) (2 ^ b)
     go (as-is p k) = plain-byte p refl (and-split (plain b) (not (eqb b (byte "-"))) k .0)
     go (as-escape d) = escape refl d
 
@@ -164,12 +164,12 @@ sole-is : (n c b : ℕ) → sole n c b < 256 → c ≡ 2 ^ sole n c b
 sole-is zero c b = λ h. absurd (omega arith)
 sole-is (suc n) c b = cond-cases (λ x. x < 256 → c ≡ 2 ^ x) (eqb c (2 ^ b)) (λ t h. eqb→eq c (2 ^ b) t) (λ t. sole-is n c (suc b))
 
--- THE WRITING OF A CLASS IS A LETTER OF THAT CLASS
-pub class-letter : (c : ℕ) → Class c → IsLetter (classWriting c) c
-class-letter c h = choose (sole 256 c 0) 256 (sole-is 256 c 0) (all-members c (outside 256 c 0) h (outside-rest 256 c 0 refl))
+-- THE WRITING OF A CLASS IS A LETTER OF THAT CLASS, whatever the dot's is
+pub class-letter : (dots c : ℕ) → Class c → LetterWith dots (classWith dots c) c
+class-letter dots c h = choose (sole 256 c 0) 256 (sole-is 256 c 0) (all-members c (outside 256 c 0) h (outside-rest 256 c 0 refl))
   where
     choose : (b n : ℕ) → (b < 256 → c ≡ 2 ^ b) → IsMembers (outside n c 0) c
-        → IsLetter (cond (ltb b 256) (byteWriting b) (cond (eqb c every) (bytes ".") ((byte "[" ∷ outside n c 0) ++ (byte "]" ∷ [])))) c
+        → LetterWith dots (cond (ltb b 256) (byteWriting b) (cond (eqb c dots) (bytes ".") ((byte "[" ∷ outside n c 0) ++ (byte "]" ∷ [])))) c
     choose b n s m =
-        cond-cases (λ w. IsLetter w c) (ltb b 256) (λ t. let k = ltb→lt b 256 t in rw (s k) (byte-letter b k)) (λ t.
-        cond-cases (λ w. IsLetter w c) (eqb c every) (λ e. dot refl (eqb→eq c every e)) (λ e. class refl m))
+        cond-cases (λ w. LetterWith dots w c) (ltb b 256) (λ t. let k = ltb→lt b 256 t in rw (s k) (byte-letter b k)) (λ t.
+        cond-cases (λ w. LetterWith dots w c) (eqb c dots) (λ e. dot refl (eqb→eq c dots e)) (λ e. class refl m))

@@ -10,7 +10,7 @@ use lib.ListN.{length, length-append}
 use Rattle.model.specs.Lists.{within}
 use Rattle.model.specs.Bytes.{byte, bytes, digital, hexadecimal, plain, signs}
 use Rattle.model.specs.Tree.{glue, last, more, once, option, plus, Seq, star}
-use Rattle.model.specs.Grammar.{bare, every, grouped, IsMember, plainly, repeated, span, times}
+use Rattle.model.specs.Grammar.{bare, dotClass, grouped, IsMember, plainly, repeated, span, times}
 use Rattle.model.specs.Models.Reader.{alts, bad, bind, case, close, got, hexValue, item, over, past, reach, Read, readBounds, readBraces, readDigits, readEscape, readHex, readHexes, readLetter, readMark, readMember, readMembers, readNumber, readPiece, readSign, readSingle, seq, stop}
 use Rattle.model.proofs.Reading.Answers.{opens-long, Sound, stopped, took}
 use Rattle.model.proofs.Reading.Cycle.{alts-is, bind-same, item-is, seq-is}
@@ -199,7 +199,7 @@ firm-class l = firm-members (suc (length l)) 0 l (omega arith)
 pub firm-letter : (l : List ℕ) → Firm readLetter l (readLetter l)
 firm-letter = firm-by readLetter bad refl (firm-bad []) (λ x xs.
     beyond-cond (plain x) (on (firm-got (2 ^ x) xs))
-    (beyond-cond (eqb x (byte ".")) (on (firm-got every xs))
+    (beyond-cond (eqb x (byte ".")) (on (firm-got dotClass xs))
     (beyond-cond (eqb x (byte "[")) (on (firm-class xs))
     (beyond-cond (eqb x (byte "\\")) (on (firm-bind (firm-escape 0 xs) (λ b r. firm-got (2 ^ b) r))) here-bad))))
 

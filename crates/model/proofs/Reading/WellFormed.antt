@@ -14,7 +14,7 @@ use Rattle.model.specs.Lists.{within}
 use Rattle.model.specs.Bits.{bit}
 use Rattle.model.specs.Bytes.{byte, IsEscape, number, plain, sign, signs}
 use Rattle.model.specs.Tree.{Alts, end, glue, last, letter, Mark, more, once, option, optional, plus, Repeat, Seq, star, starred, union, unmarked}
-use Rattle.model.specs.Grammar.{absent, also, any-number, asterisk, beside, braces, bracket, class, copies, cross, cycle, dot, escape, escaped, group, grouped, IsAlts, IsItem, IsLetter, IsMark, IsMember, IsMembers, IsRule, IsSeq, IsSign, IsSingle, item, itself, lone, member, nothing, only, plain-byte, query, question, range, repeated, rule, Sign, single, some-number, span, then, times}
+use Rattle.model.specs.Grammar.{absent, also, AltsWith, any-number, asterisk, beside, braces, bracket, class, copies, cross, cycle, dot, dotClass, escape, escaped, group, grouped, IsMark, IsMember, IsMembers, IsRule, IsSign, IsSingle, item, ItemWith, itself, LetterWith, lone, member, nothing, only, plain-byte, query, question, range, repeated, rule, RuleWith, SeqWith, Sign, single, some-number, span, then, times}
 use Rattle.model.specs.Edges.{altsEmpty}
 use Rattle.model.specs.Models.Tokens.{several}
 use Rattle.model.proofs.Laws.Bits.{bit-some}
@@ -96,12 +96,6 @@ members-class (beside {d} {e} p q a b) = rw q (or-class d e (member-class a) (me
 one-class : (b : ℕ) → b < 256 → Class (2 ^ b)
 one-class b h = record { some-byte = pow-pos b; bytes-only = pow-lt h }
 
-letter-class : {w : List ℕ} {c : ℕ} → IsLetter w c → Class c
-letter-class (plain-byte {b} p q h) = rw q (one-class b (plain-small b h))
-letter-class (escape {b} q d) = rw q (one-class b (escape-small d))
-letter-class (dot p q) = rw q (record { some-byte = lit≤ tt; bytes-only = lit< tt })
-letter-class (class p d) = members-class d
-
 -- ---- sequences
 glue-well : (h t : Seq) → WellFormed h → WellFormed t → WellFormed (glue h t)
 glue-well h t a b = well (glue h t) (full h (a .full)) (good h (a .good))
@@ -150,19 +144,30 @@ grouped-well a (query p q) g = rw q (cond-cases WellFormed (altsEmpty a) (λ e. 
 grouped-well a (any-number p q) g = rw q (cycle-well a g)
 grouped-well a (some-number p q) g = rw q (glue-well (bracket a) (cycle a) (bracket-well a g) (cycle-well a g))
 
-mutual
-  alts-good : {w : List ℕ} {a : Alts} → IsAlts w a → GoodAlts a
-  alts-good (only d) = let k = seq-well d in (k .full, k .good)
-  alts-good (also p d b) = let k = seq-well d in (k .full, k .good, alts-good b)
+-- ---- letters, items and so on, up to rules, with any class for the dot
+module _ {dots : ℕ} (D : Class dots) where
+  letter-class : {w : List ℕ} {c : ℕ} → LetterWith dots w c → Class c
+  letter-class (plain-byte {b} p q h) = rw q (one-class b (plain-small b h))
+  letter-class (escape {b} q d) = rw q (one-class b (escape-small d))
+  letter-class (dot p q) = rw q D
+  letter-class (class p d) = members-class d
 
-  seq-well : {w : List ℕ} {s : Seq} → IsSeq w s → WellFormed s
-  seq-well (item d) = item-well d
-  seq-well (then {h} {t} p q d b) = rw q (glue-well h t (item-well d) (seq-well b))
+  mutual
+    alts-good : {w : List ℕ} {a : Alts} → AltsWith dots w a → GoodAlts a
+    alts-good (only d) = let k = seq-well d in (k .full, k .good)
+    alts-good (also p d b) = let k = seq-well d in (k .full, k .good, alts-good b)
 
-  item-well : {w : List ℕ} {s : Seq} → IsItem w s → WellFormed s
-  item-well (lone {c} p q d b) = rw q (repeated-well c (letter-class d) b)
-  item-well (group {a} p q d b) = rw q (grouped-well a b (alts-good d))
+    seq-well : {w : List ℕ} {s : Seq} → SeqWith dots w s → WellFormed s
+    seq-well (item d) = item-well d
+    seq-well (then {h} {t} p q d b) = rw q (glue-well h t (item-well d) (seq-well b))
+
+    item-well : {w : List ℕ} {s : Seq} → ItemWith dots w s → WellFormed s
+    item-well (lone {c} p q d b) = rw q (repeated-well c (letter-class d) b)
+    item-well (group {a} p q d b) = rw q (grouped-well a b (alts-good d))
+
+  pub well-with : {w : List ℕ} {s : Seq} → RuleWith dots w s → WellFormed s
+  well-with (rule {a} q d) = rw q (bracket-well a (alts-good d))
 
 -- EVERY RULE'S TREE IS WELL FORMED
 pub rule-well : {w : List ℕ} {s : Seq} → IsRule w s → WellFormed s
-rule-well (rule {a} q d) = rw q (bracket-well a (alts-good d))
+rule-well = well-with (record { some-byte = lit≤ tt; bytes-only = lit< tt })

@@ -11,7 +11,7 @@ use lib.ListN.{length}
 use Rattle.model.specs.Lists.{within}
 use Rattle.model.specs.Bytes.{byte, bytes, digital, hexadecimal, plain, signs}
 use Rattle.model.specs.Tree.{Alts, glue, last, more, once, option, plus, Repeat, Seq, star}
-use Rattle.model.specs.Grammar.{bare, bracket, every, grouped, plainly, repeated, Sign, span, times}
+use Rattle.model.specs.Grammar.{bare, bracket, dotClass, grouped, plainly, repeated, Sign, span, times}
 
 -- what was read and the bytes after it, or the bytes from the one on that cannot be read
 pub data Read (A : Type 0) : Type 0 where
@@ -76,7 +76,7 @@ abbrev pub readLetter : List ℕ → Read ℕ
 readLetter [] = bad []
 readLetter (x ∷ xs) =
     cond (plain x) (got (2 ^ x) xs)
-    (cond (eqb x (byte ".")) (got every xs)
+    (cond (eqb x (byte ".")) (got dotClass xs)
     (cond (eqb x (byte "[")) (readMembers (suc (length xs)) 0 xs)
     (cond (eqb x (byte "\\")) (bind (readEscape 0 xs) (λ b r. got (2 ^ b) r)) (bad (x ∷ xs)))))
 

@@ -4,7 +4,7 @@ use mathlib.Core.Bool.{true, false}
 use mathlib.Core.List.{List, _∷_}
 use Prim.Native.Nat.{ℕ, _^_, _≤_, _<_}
 use Rattle.model.specs.Bytes.{byte, plain}
-use Rattle.model.specs.Grammar.{bare, every, span}
+use Rattle.model.specs.Grammar.{bare, dotClass, span}
 use Rattle.model.specs.Models.Reader.{bad, got, readEscape, readLetter, readSingle}
 use Rattle.model.proofs.Laws.Bool.{le-false, le-true, unequal}
 use Rattle.rule_letters.specs.Classes.{afterBracket, afterEscape, afterLower, afterMinus}
@@ -35,7 +35,7 @@ module _ (x : ℕ) (xs : List ℕ) where
   pub letter-plain : plain x ≡ true → readLetter (x ∷ xs) ≡ got (2 ^ x) xs
   letter-plain d = rw d
 
-  pub letter-dot : x ≡ byte "." → readLetter (x ∷ xs) ≡ got every xs
+  pub letter-dot : x ≡ byte "." → readLetter (x ∷ xs) ≡ got dotClass xs
   letter-dot e = rw e
 
   pub letter-class : x ≡ byte "[" → readLetter (x ∷ xs) ≡ afterBracket xs

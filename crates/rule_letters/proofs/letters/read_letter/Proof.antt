@@ -35,8 +35,8 @@ returns-2 c =
     (took-as (c .one .ensures) (takes (a .rule .now) (a .at) refl readLetter (b .if1 .left)
     (λ xs. letter-plain (getD (a .rule .now) (a .at) 0) xs (sym (c .before .before .is-plain .ensures) ∙ c .before .if2 .taken))))
 
-every-requires : tie.Need-every-requires
-every-requires c κs = search needs
+dot-requires : tie.Need-dot-requires
+dot-requires c κs = search needs
 
 add-t13 : tie.Need-add-t13
 add-t13 c = search needs
@@ -46,7 +46,7 @@ returns-3 c =
     let b = c .before .before .before .before .before in
     let a = b .before .before .args in
     letter-tells _ _ _
-    (took-as (c .every .ensures) (takes (a .rule .now) (a .at) refl readLetter (b .if1 .left)
+    (took-as (c .dot .ensures) (takes (a .rule .now) (a .at) refl readLetter (b .if1 .left)
     (λ xs. letter-dot (getD (a .rule .now) (a .at) 0) xs (c .before .if3 .taken))))
 
 add-read-members : tie.Need-add-read-members
@@ -89,5 +89,5 @@ returns-6 c =
 pub read-letter-spec : {M : Type 1} → statement M
 read-letter-spec =
     tie.close
-    (tie.spec returns shared-slice-read-x is-plain-requires one-requires add-t11 returns-2 every-requires add-t13 returns-3 add-read-members
+    (tie.spec returns shared-slice-read-x is-plain-requires one-requires add-t11 returns-2 dot-requires add-t13 returns-3 add-read-members
     read-members-requires returns-4 returns-5 add-read-escaped read-escaped-requires returns-6)

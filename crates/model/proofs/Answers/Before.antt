@@ -1,0 +1,57 @@
+-- AN IMAGE MADE BEFORE WISH 4 STAYS AN IMAGE, of the tree that it had, and read back writes `[\x00-\xFF]` where it wrote `.`. The trees of rules are the
+-- well-formed ones whatever the dot is, since each is written by a rule; and only two classes are written otherwise than before.
+use mathlib.Core.Path.{_≡_, refl, sym, ap, ap₂, _∙_}
+use mathlib.Core.Logic.{_↔_}
+use mathlib.Core.Bool.{Bool, cond}
+use mathlib.Core.List.{List, [], _∷_, _++_}
+use Prim.Native.Nat.{ℕ, _≤_}
+use lib.Dec.{eqb, ltb, eqb→eq, lit<, lit≤}
+use lib.ListN.{length}
+use Rattle.model.specs.Bytes.{byte, bytes}
+use Rattle.model.specs.Tree.{Alts, end, last, letter, more, Tree, union}
+use Rattle.model.specs.Grammar.{dotClass}
+use Rattle.model.specs.Writing.{altsBy, altsWriting, byteWriting, classWith, classWriting, markWriting, outside, repeatWriting, sole, writing, writtenBy}
+use Rattle.model.specs.Answers.{Counted, done, ImageOf, ReadBackSays}
+use Rattle.model.specs.Before.{dotBefore, ImageBefore, rewritten}
+use Rattle.model.proofs.Answers.ReadBack.{read-back-one}
+use Rattle.model.proofs.Laws.Bool.{cond-cases, is-false}
+use Rattle.model.proofs.Reading.WellFormed.{rule-well, well-with}
+use Rattle.model.proofs.Reading.Written.{written, written-with}
+
+-- IT STAYS AN IMAGE, and no words became one
+pub still-image : (words : List ℕ) (t : Tree) → ImageBefore words t ↔ ImageOf words t
+still-image words t = (
+  λ I. let h = well-with (record { some-byte = lit≤ tt; bytes-only = lit< tt }) (I .was-rule) in
+      record { rule = writing t; is-rule = written t h; few = I .few; shallow = I .shallow; laid = I .laid },
+  λ I. let h = rule-well (I .is-rule) in
+      record { rule = writtenBy (classWith dotBefore) t; was-rule = written-with dotBefore t h; few = I .few; shallow = I .shallow; laid = I .laid },
+)
+
+-- THE CLASS OF ALL 256 BYTES AND THAT OF THE 255 ARE WRITTEN OTHERWISE, and no other
+class-now : (c : ℕ) → classWriting c ≡ rewritten c
+class-now c =
+    cond-cases (λ w. classWriting c ≡ w) (eqb c dotBefore) (λ t. ap classWriting (eqb→eq c dotBefore t)) (λ f.
+    cond-cases (λ w. classWriting c ≡ w) (eqb c dotClass) (λ t. ap classWriting (eqb→eq c dotClass t)) (λ g.
+    ap by (is-false (eqb c dotClass) g ∙ sym (is-false (eqb c dotBefore) f))))
+  where
+    -- its writing, by whether it is the dot's
+    by : Bool → List ℕ
+    by v = cond (ltb (sole 256 c 0) 256) (byteWriting (sole 256 c 0)) (cond v (bytes ".") ((byte "[" ∷ outside 256 c 0) ++ (byte "]" ∷ [])))
+
+-- so in a tree's writing
+mutual
+  pub written-now : (t : Tree) → writing t ≡ writtenBy rewritten t
+  written-now end = refl
+  written-now (letter c r s) = ap₂ (λ (u v : List ℕ). u ++ (repeatWriting r ++ v)) (class-now c) (written-now s)
+  written-now (union m a s) = ap₂ (λ (u v : List ℕ). byte "(" ∷ (u ++ (byte ")" ∷ (markWriting m ++ v)))) (alts-now a) (written-now s)
+
+  alts-now : (a : Alts) → altsWriting a ≡ altsBy rewritten a
+  alts-now (last s) = written-now s
+  alts-now (more s a) = ap₂ (λ (u v : List ℕ). u ++ (byte "|" ∷ v)) (written-now s) (alts-now a)
+
+-- AND READ BACK SHOWS IT SO
+pub shown-now : {words : List ℕ} {t : Tree} → ImageBefore words t → (room : List ℕ) (a : Counted) → length (writing t) ≤ length room
+    → ReadBackSays words room a → a ≡ done (writtenBy rewritten t) room
+shown-now {words} {t} I room a l R =
+    read-back-one words room a (done (writing t) room) R (ReadBackSays.written t (still-image words t .0 I) l refl)
+    ∙ ap (λ (w : List ℕ). done w room) (written-now t)

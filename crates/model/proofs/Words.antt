@@ -6,6 +6,7 @@ pub mod Ripple
 pub mod Bits
 pub mod RowBits
 pub mod Put
+pub mod Lowest
 pub mod Runs
 pub mod Full
 pub mod InOrder

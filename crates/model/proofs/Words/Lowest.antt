@@ -38,11 +38,11 @@ lowest-bit (suc n) s h l = go (s % 2) refl (λ i. lowest-bit n (s / 2) i (omega 
     go (suc (suc d)) e later = absurd (omega arith)
 
 -- ---- a word without its bit k
-module _ (s k : ℕ) (fits : s < 2 ^ 64) (small : k < 64) where
-  abbrev pub without : ℕ
-  without = bitAnd s (2 ^ 64 - 1 - 2 ^ k)
+abbrev pub without : ℕ → ℕ → ℕ
+without s k = bitAnd s (2 ^ 64 - 1 - 2 ^ k)
 
-  pub without-bit : (i : ℕ) → bit without i ≡ (bit s i && not (eqb i k))
+module _ (s k : ℕ) (fits : s < 2 ^ 64) (small : k < 64) where
+  pub without-bit : (i : ℕ) → bit (without s k) i ≡ (bit s i && not (eqb i k))
   without-bit i = bit-and i s (2 ^ 64 - 1 - 2 ^ k) ∙ ⊎-elim past inside (le-or-lt 64 i)
     where
       past : 64 ≤ i → (bit s i && bit (2 ^ 64 - 1 - 2 ^ k) i) ≡ (bit s i && not (eqb i k))
@@ -51,8 +51,8 @@ module _ (s k : ℕ) (fits : s < 2 ^ 64) (small : k < 64) where
       inside : i < 64 → (bit s i && bit (2 ^ 64 - 1 - 2 ^ k) i) ≡ (bit s i && not (eqb i k))
       inside h = ap (λ (b : Bool). bit s i && b) (bit-not 64 i (2 ^ k) (pow-lt small) h ∙ ap not (bit-power k i))
 
-  pub without-less : bit s k ≡ true → without < s
+  pub without-less : bit s k ≡ true → without s k < s
   without-less t = ⊎-elim (λ e. absurd (true≢false (sym t ∙ ap (λ (n : ℕ). bit n k) (sym e) ∙ gone))) (λ l. l) (eq-or-lt-of-le (and-le-l s (2 ^ 64 - 1 - 2 ^ k)))
     where
-      gone : bit without k ≡ false
+      gone : bit (without s k) k ≡ false
       gone = without-bit k ∙ rw (eq-eqb k k refl, and-false (bit s k))

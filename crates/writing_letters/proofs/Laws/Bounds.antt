@@ -1,4 +1,5 @@
 -- HOW LONG A CLASS'S WRITING IS: a run takes at least one of the 256 bytes, and nine bytes at most to write.
+use mathlib.Core.Bool.{Bool}
 use mathlib.Core.List.{List, [], _∷_, _++_}
 use Prim.Native.Nat.{ℕ, zero, suc, _+_, _-_, _*_, _≤_}
 use native.Mathlib.Omega.{arith}
@@ -6,7 +7,7 @@ use lib.Dec.{eqb, ltb}
 use lib.ListN.{length, length-append}
 use Rattle.model.specs.Bits.{bit}
 use Rattle.model.specs.Bytes.{byte}
-use Rattle.model.specs.Grammar.{every}
+use Rattle.model.specs.Grammar.{dotClass}
 use Rattle.model.specs.Tree.{once, option, plus, Repeat, star}
 use Rattle.model.specs.Writing.{classWriting, inside, outside, repeatWriting, runWriting, sole}
 use Rattle.model.proofs.Laws.Bool.{cond-cases}
@@ -27,12 +28,12 @@ mutual
       (λ t. omega (arith, length-append (runWriting lo (b - 1)) (outside n c (suc b)), run-short lo (b - 1), outside-short n c (suc b)))
 
 pub class-short : (c : ℕ) → length (classWriting c) ≤ 2306
-class-short c = choose (sole 256 c 0) (outside 256 c 0) (outside-short 256 c 0)
+class-short c = choose (sole 256 c 0) (eqb c dotClass) (outside 256 c 0) (outside-short 256 c 0)
   where
-    choose : (b : ℕ) (runs : List ℕ) → length runs ≤ 2304 → length (chosen c b runs) ≤ 2306
-    choose b runs h =
+    choose : (b : ℕ) (dot : Bool) (runs : List ℕ) → length runs ≤ 2304 → length (chosen b dot runs) ≤ 2306
+    choose b dot runs h =
         cond-cases (λ w. length w ≤ 2306) (ltb b 256) (λ t. omega (arith, byte-short b)) (λ t.
-        cond-cases (λ w. length w ≤ 2306) (eqb c every) (λ e. omega arith) (λ e. omega (arith, length-append runs (byte "]" ∷ []))))
+        cond-cases (λ w. length w ≤ 2306) dot (λ e. omega arith) (λ e. omega (arith, length-append runs (byte "]" ∷ []))))
 
 -- ---- and a letter's, with its sign
 pub letter-short : (c : ℕ) (r : Repeat) → length (classWriting c ++ repeatWriting r) ≤ 2307

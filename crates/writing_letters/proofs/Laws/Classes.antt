@@ -1,21 +1,20 @@
--- THE THREE WRITINGS OF A CLASS: of one byte, of every byte, of any other. A class below 2 ^ 256 is known by its bits, and a power of two has one.
+-- THE THREE WRITINGS OF A CLASS: its one byte; and of any other class `.` or its runs. A class below 2 ^ 256 is known by its bits, and a power of two has one.
 use mathlib.Core.Path.{_≡_, refl, sym, ap, _∙_, subst}
 use mathlib.Core.Logic.{⊎-elim}
-use mathlib.Core.Bool.{true, false, not, cond, true≢false}
+use mathlib.Core.Bool.{Bool, true, false, cond, true≢false}
 use mathlib.Core.List.{List, [], _∷_, _++_}
 use Prim.Native.Nat.{ℕ, zero, suc, _+_, _^_, _≤_, _<_}
 use native.Mathlib.Nat.{eq-or-lt-of-le}
 use native.Mathlib.Omega.{arith}
 use borrow.Author.Tests.{eq-eqb, eqb-true, ne-eqb}
 use lib.Dec.{eqb, ltb}
-use lib.Pow.{ones-lt, pow-lt, pow-pos}
+use lib.Pow.{pow-lt}
 use Rattle.model.specs.Bits.{bit}
 use Rattle.model.specs.Bytes.{byte, bytes}
-use Rattle.model.specs.Grammar.{every}
+use Rattle.model.specs.Grammar.{dotClass}
 use Rattle.model.specs.Writing.{byteWriting, classWriting, outside, sole}
-use Rattle.model.proofs.Laws.Bits.{bit-zero}
 use Rattle.model.proofs.Laws.Bool.{le-false, le-or-lt, le-true}
-use Rattle.model.proofs.Words.Bits.{bit-ext, bit-not}
+use Rattle.model.proofs.Words.Bits.{bit-ext}
 use Rattle.model.proofs.Words.Put.{bit-power}
 use Rattle.writing_letters.proofs.Laws.Runs.{All}
 
@@ -43,16 +42,6 @@ two-bytes c x y h s t b k e = omega (arith, power-of c b x e s, power-of c b y e
 pub no-byte : (c : ℕ) → All false c 0 256 → NotOne c
 no-byte c A b h e = true≢false (sym (ap (λ (n : ℕ). bit n b) e ∙ bit-power b b ∙ eq-eqb b b refl) ∙ A b (omega arith) h)
 
--- ---- the class of every byte
-every-bit : (i : ℕ) → i < 256 → bit every i ≡ true
-every-bit i h = bit-not 256 i 0 (pow-pos 256) h ∙ ap not (bit-zero i)
-
-pub every-byte : (c : ℕ) → c < 2 ^ 256 → All true c 0 256 → c ≡ every
-every-byte c s A = bit-ext 256 c every s (ones-lt 256) (λ i h. A i (omega arith) h ∙ sym (every-bit i h))
-
-pub not-every : (c r : ℕ) → r < 256 → bit c r ≡ false → c ≡ every → ⊥
-not-every c r h f e = true≢false (sym (ap (λ (n : ℕ). bit n r) e ∙ every-bit r h) ∙ f)
-
 -- ---- the only byte, as it is looked for
 sole-one : (n c b x : ℕ) → n + b ≡ 256 → b ≤ x → x < 256 → c ≡ 2 ^ x → sole n c b ≡ x
 sole-one zero c b x d h k e = absurd (omega arith)
@@ -66,27 +55,23 @@ sole-none : (n c b : ℕ) → n + b ≡ 256 → NotOne c → sole n c b ≡ 256
 sole-none zero c b d N = refl
 sole-none (suc n) c b d N = rw (ne-eqb c (2 ^ b) (N b (omega arith))) (sole-none n c (suc b) (omega arith) N)
 
--- ---- THE THREE WRITINGS, over the byte that was found and over the runs
-abbrev pub chosen : (c b : ℕ) (runs : List ℕ) → List ℕ
-chosen c b runs = cond (ltb b 256) (byteWriting b) (cond (eqb c every) (bytes ".") ((byte "[" ∷ runs) ++ (byte "]" ∷ [])))
+-- ---- THE THREE WRITINGS, over the byte that was found, whether the class is the dot's, and the runs
+abbrev pub chosen : (b : ℕ) (dot : Bool) (runs : List ℕ) → List ℕ
+chosen b dot runs = cond (ltb b 256) (byteWriting b) (cond dot (bytes ".") ((byte "[" ∷ runs) ++ (byte "]" ∷ [])))
 
-chosen-one : (c b : ℕ) (runs : List ℕ) → b < 256 → chosen c b runs ≡ byteWriting b
-chosen-one c b runs h = rw (le-true (suc b) 256 h)
+chosen-one : (b : ℕ) (dot : Bool) (runs : List ℕ) → b < 256 → chosen b dot runs ≡ byteWriting b
+chosen-one b dot runs h = rw (le-true (suc b) 256 h)
 
-chosen-every : (c b : ℕ) (runs : List ℕ) → b ≡ 256 → c ≡ every → chosen c b runs ≡ bytes "."
-chosen-every c b runs e d = rw (le-false (suc b) 256 (omega arith), eq-eqb c every d)
-
-chosen-runs : (c b : ℕ) (runs : List ℕ) → b ≡ 256 → (c ≡ every → ⊥) → chosen c b runs ≡ (byte "[" ∷ runs) ++ (byte "]" ∷ [])
-chosen-runs c b runs e d = rw (le-false (suc b) 256 (omega arith), ne-eqb c every d)
+chosen-other : (b : ℕ) (dot : Bool) (runs : List ℕ) → b ≡ 256 → chosen b dot runs ≡ cond dot (bytes ".") ((byte "[" ∷ runs) ++ (byte "]" ∷ []))
+chosen-other b dot runs e = rw (le-false (suc b) 256 (omega arith))
 
 module _ (c : ℕ) where
   pub one-written : (b : ℕ) → b < 256 → c ≡ 2 ^ b → classWriting c ≡ byteWriting b
   one-written b h e =
       let s : sole 256 c 0 ≡ b = sole-one 256 c 0 b refl (omega arith) h e in
-      chosen-one c (sole 256 c 0) (outside 256 c 0) (subst (λ (x : ℕ). x < 256) (sym s) h) ∙ ap byteWriting s
+      chosen-one (sole 256 c 0) (eqb c dotClass) (outside 256 c 0) (subst (λ (x : ℕ). x < 256) (sym s) h) ∙ ap byteWriting s
 
-  pub every-written : NotOne c → c ≡ every → classWriting c ≡ bytes "."
-  every-written N e = chosen-every c (sole 256 c 0) (outside 256 c 0) (sole-none 256 c 0 refl N) e
-
-  pub runs-written : NotOne c → (c ≡ every → ⊥) → classWriting c ≡ (byte "[" ∷ outside 256 c 0) ++ (byte "]" ∷ [])
-  runs-written N e = chosen-runs c (sole 256 c 0) (outside 256 c 0) (sole-none 256 c 0 refl N) e
+  pub other-written : NotOne c → (dot : Bool) → eqb c dotClass ≡ dot
+      → classWriting c ≡ cond dot (bytes ".") ((byte "[" ∷ outside 256 c 0) ++ (byte "]" ∷ []))
+  other-written N dot e =
+      ap (λ (d : Bool). chosen (sole 256 c 0) d (outside 256 c 0)) e ∙ chosen-other (sole 256 c 0) dot (outside 256 c 0) (sole-none 256 c 0 refl N)

@@ -1,7 +1,7 @@
 -- THE RUNS OF A CLASS, WRITTEN ONE BY ONE: bytes that are not in the class are passed over, and a run goes up to the first byte that is not in it; what
 -- is then left to write is the writing of the class from there on.
 use mathlib.Core.Path.{_≡_, refl, sym, ap, ap₂, _∙_}
-use mathlib.Core.Logic.{_⊎_, inl, inr, ⊎-elim}
+use mathlib.Core.Logic.{⊎-elim}
 use mathlib.Core.Bool.{Bool, true, false, true≢false}
 use mathlib.Core.List.{List, [], _++_, append-assoc, append-nil}
 use Prim.Native.Nat.{ℕ, zero, suc, _+_, _-_, _*_, _≤_, _<_}
@@ -23,12 +23,9 @@ module _ {v : Bool} (c a : ℕ) where
   pub all-none : All v c a a
   all-none x h k = absurd (omega arith)
 
-  pub all-more : (b : ℕ) → All v c a b → bit c b ≡ v → All v c a (b + 1)
-  all-more b A e x h k = go (le-or-lt b x)
-    where
-      go : (b ≤ x) ⊎ (x < b) → bit c x ≡ v
-      go (inl l) = let p : x ≡ b = omega arith in rw p e
-      go (inr l) = A x h l
+  -- and on to another byte
+  pub all-then : (b d : ℕ) → All v c a b → All v c b d → All v c a d
+  all-then b d A B x h k = ⊎-elim (λ l. B x l k) (λ l. A x h l) (le-or-lt b x)
 
 -- ---- the n bytes from b on, where m are from r on
 outside-skip : (n m c b r : ℕ) → n + b ≡ 256 → m + r ≡ 256 → b ≤ r → All false c b r → outside n c b ≡ outside m c r

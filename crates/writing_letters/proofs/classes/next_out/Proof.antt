@@ -1,48 +1,36 @@
--- `next_out`: every byte passed is in the class.
-use mathlib.Core.Path.{sym, _∙_}
-use mathlib.Core.Bool.{true}
-use Prim.Native.Nat.{_-_, _≤_}
-use native.Mathlib.Omega.{arith}
+-- `next_out`: the complements of the words have the bytes that are not in the class.
+use mathlib.Core.Path.{sym, subst}
+use mathlib.Core.List.{List}
+use Prim.Native.Nat.{ℕ}
 use borrow.Author.Needs.{needs}
-use Rattle.model.specs.Models.Words.{value}
-use Rattle.writing_letters.proofs.Laws.Runs.{All, all-more, all-none}
+use Rattle.model.specs.Models.Words.{notWords, value}
+use Rattle.mask.proofs.Laws.Bits.{fit-row}
+use Rattle.writing_letters.specs.Runs.{FirstIn}
+use Rattle.writing_letters.proofs.Laws.Words.{each-of, first-not}
 use Rattle.writing_letters.proofs.classes.next_out.Statement.{statement}
 use Rattle.writing_letters.proofs.classes.next_out.Tie as tie
 
-abbrev Inv-loop : tie.InvT-loop
-Inv-loop class b i₀ i = (b ≤ i) × (i ≤ 256) × All true (value class) b i
+array-read-t6 : tie.Need-array-read-t6
+array-read-t6 c = search needs
 
-abbrev μ-loop : tie.MeasureT-loop
-μ-loop class b i₀ i = 256 - i
+array-read-t10 : tie.Need-array-read-t10
+array-read-t10 c = search needs
 
-loop-holds : tie.Need-loop-holds Inv-loop μ-loop
-loop-holds c = (omega arith, c .pre, all-none (value (c .args .class)) (c .args .b))
+array-read-t14 : tie.Need-array-read-t14
+array-read-t14 c = search needs
 
-has-byte-requires : tie.Need-has-byte-requires Inv-loop μ-loop
-has-byte-requires c κs = search needs
+array-read-t18 : tie.Need-array-read-t18
+array-read-t18 c = search needs
 
-add-i : tie.Need-add-i Inv-loop μ-loop
-add-i c = search needs
+next-in-requires : tie.Need-next-in-requires
+next-in-requires c κs = search needs
 
-loop-less : tie.Need-loop-less Inv-loop μ-loop
-loop-less c = search needs
-
-loop-again : tie.Need-loop-again Inv-loop μ-loop
-loop-again c =
-    let l = c .before .before .before .loop in
-    let a = c .before .before .before .before .args in (
-      omega arith,
-      omega arith,
-      all-more (value (a .class)) (a .b) (l .i) (l .inv .2) (sym (c .before .has-byte .ensures) ∙ c .if1 .taken),
-    )
-
-returns : tie.Need-returns Inv-loop μ-loop
+returns : tie.Need-returns
 returns c =
-    let l = c .before .before .before .loop in
-    record { from = l .inv .0; upto = l .inv .1; skipped = l .inv .2; hit = λ h. sym (c .before .has-byte .ensures) ∙ c .if1 .left }
-
-returns-2 : tie.Need-returns-2 Inv-loop μ-loop
-returns-2 c = let l = c .before .loop in record { from = l .inv .0; upto = l .inv .1; skipped = l .inv .2; hit = λ h. absurd (omega arith) }
+    let a = c .before .args in
+    let four = c .before .good .0 .1 .0 .1 in
+    first-not (a .t1) four (fit-row (a .t1) (λ k. search needs)) (a .b) (c .next-in .result)
+    (subst (λ (ws : List ℕ). FirstIn (value (notWords ws)) (a .b) (c .next-in .result)) (sym (each-of (a .t1) four)) (c .next-in .ensures))
 
 pub next-out-spec : {M : Type 1} → statement M
-next-out-spec = tie.close (tie.spec Inv-loop μ-loop loop-holds has-byte-requires add-i loop-less loop-again returns returns-2)
+next-out-spec = tie.close (tie.spec array-read-t6 array-read-t10 array-read-t14 array-read-t18 next-in-requires returns)

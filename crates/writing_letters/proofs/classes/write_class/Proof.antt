@@ -1,6 +1,7 @@
--- `write_class`: the first byte in the class, the next after it and the first that is not in it tell which of the three writings is the class's.
-use mathlib.Core.Path.{_≡_, sym}
+-- `write_class`: the first byte in the class, the next after it and whether it is the dot's tell which of the three writings is the class's.
+use mathlib.Core.Path.{_≡_, sym, _∙_}
 use mathlib.Core.Logic.{⊎-elim}
+use mathlib.Core.Bool.{true, false}
 use mathlib.Core.List.{[], _∷_, _++_}
 use Prim.Native.Nat.{ℕ, _+_, _^_, _≤_, _<_}
 use native.Mathlib.Omega.{arith}
@@ -12,7 +13,7 @@ use Rattle.model.specs.Writing.{outside}
 use Rattle.model.proofs.Words.Holds.{val-below}
 use Rattle.mask.proofs.Laws.Bits.{fit-row}
 use Rattle.writing_letters.proofs.Laws.Bounds.{outside-short}
-use Rattle.writing_letters.proofs.Laws.Classes.{every-byte, every-written, no-byte, not-every, NotOne, one-byte, one-written, runs-written, two-bytes}
+use Rattle.writing_letters.proofs.Laws.Classes.{no-byte, NotOne, one-byte, one-written, other-written, two-bytes}
 use Rattle.writing_letters.proofs.Laws.Texts.{writes-as, writes-one, writes-then}
 use Rattle.writing_letters.proofs.classes.write_class.Statement.{statement}
 use Rattle.writing_letters.proofs.classes.write_class.Tie as tie
@@ -32,7 +33,7 @@ several c =
     (λ w. no-byte v (λ x h k. f .ensures .skipped x h (omega (arith, w .left))))
     (c .if1 .came)
 
--- the moment at which the class is neither one byte nor every byte, and the start
+-- the moment at which the class is neither one byte nor the dot's, and the start
 abbrev neither : tie.After-write-runs → tie.Else3
 neither c = c .before .before .before .before .before .before
 
@@ -72,8 +73,8 @@ returns c =
     (λ x h k. t .before .next-in2 .ensures .skipped x h (omega (arith, t .if2 .taken))) in
     writes-as (s .args .out .now) (s .args .at) (sym (one-written v (f .result) taken e)) (c .before .before .write-byte .ensures)
 
-next-out-requires : tie.Need-next-out-requires
-next-out-requires c κs = search needs
+is-dot-requires : tie.Need-is-dot-requires
+is-dot-requires c κs = search needs
 
 set-byte-requires : tie.Need-set-byte-requires
 set-byte-requires c κs = search needs
@@ -90,9 +91,9 @@ returns-2 c =
     let j = t .before .before in
     let s = j .before .before .before in
     let v = value (s .args .class) in
-    let e = every-byte v (small s) (λ x h k. t .before .next-out .ensures .skipped x h (omega (arith, t .if3 .taken))) in
+    let e = sym (t .before .is-dot .ensures) ∙ t .if3 .taken in
     let l = s .args .out .now in
-    writes-as l (s .args .at) (sym (every-written v (several j) e)) (writes-one l (s .args .at) (byte ".") (c .before .before .set-byte .ensures))
+    writes-as l (s .args .at) (sym (other-written v (several j) true e)) (writes-one l (s .args .at) (byte ".") (c .before .before .set-byte .ensures))
 
 set-byte-requires-2 : tie.Need-set-byte-requires-2
 set-byte-requires-2 c κs = search needs
@@ -122,15 +123,14 @@ returns-3 c =
     let w = k .write-runs in
     let m = k .before .before .before .before .set-byte2 in
     let o = neither k in
-    let f = o .before .next-out in
     let j = o .before .before in
     let s = start o in
     let v = value (s .args .class) in
     let l = s .args .out .now in
     let at = s .args .at in
     let runs = outside 256 v 0 in
-    let r : f .result < 256 = omega (arith, f .ensures .upto, o .if3 .left) in
-    writes-as l at (sym (runs-written v (several j) (not-every v (f .result) r (f .ensures .hit r))))
+    let e = sym (o .before .is-dot .ensures) ∙ o .if3 .left in
+    writes-as l at (sym (other-written v (several j) false e))
     (writes-then l at (byte "[" ∷ []) (runs ++ (byte "]" ∷ [])) (writes-one l at (byte "[") (m .ensures))
     (writes-then (m .last .0) (at + 1) runs (byte "]" ∷ []) (w .ensures)
     (writes-one (w .last .0) (w .result) (byte "]") (c .before .before .set-byte3 .ensures))))
@@ -146,7 +146,7 @@ write-class-spec =
     write-byte-requires
     same-length
     returns
-    next-out-requires
+    is-dot-requires
     set-byte-requires
     add-result
     same-length-2

@@ -7,13 +7,15 @@ use Prim.Native.Nat.{ℕ, _≤_}
 use native.Mathlib.Omega.{arith}
 use lib.ListN.{length, take}
 use Rattle.model.specs.Answers.{BuildSays, built, Counted, done, ImageOf, matched, MatchSays, NoImage, ReadBackSays, written}
+use Rattle.model.specs.Before.{ImageBefore, rewritten}
 use Rattle.model.specs.Edges.{depth, states}
 use Rattle.model.specs.Ends.{EndsAre}
 use Rattle.model.specs.Grammar.{IsRule}
 use Rattle.model.specs.Image.{image}
 use Rattle.model.specs.Place.{PlaceIs}
 use Rattle.model.specs.Tree.{Tree}
-use Rattle.model.specs.Writing.{writing}
+use Rattle.model.specs.Writing.{writing, writtenBy}
+use Rattle.model.proofs.Answers.Before.{still-image, written-now}
 use Rattle.model.proofs.Answers.Build.{build-one}
 use Rattle.model.proofs.Answers.Match.{match-one}
 use Rattle.model.proofs.Answers.ReadBack.{read-back-one}
@@ -101,6 +103,18 @@ module _ {rule before after : List ℕ} {n : ℕ} (B : BuildSays rule before (an
   reads-back {room} r l R =
       let S : ReadBackSays (take n after) room (answered (Done (length (writing t))) (done (writing t) room .lent)) = written t image-built l refl in
       one-written r (Done (length (writing t))) R S
+
+-- document 02, Wish 4: "An image made before this change stays an image, but of that other class, and read back shows it so": an image of a tree when `.`
+-- was every byte is one of that tree, and is read back with `[\x00-\xFF]` where the writing had `.`
+module _ {words : List ℕ} (t : Tree) (I : ImageBefore words t) where
+  pub stays-image : ImageOf words t
+  stays-image = still-image words t .0 I
+
+  pub shows-other-class : {room later : List ℕ} (r : Answer) → length (writing t) ≤ length room → ReadBackSays words room (answered r later)
+      → (r ≡ Done (length (writtenBy rewritten t))) × (later ≡ done (writtenBy rewritten t) room .lent)
+  shows-other-class {room} {later} r l R =
+      let S : ReadBackSays words room (answered (Done (length (writing t))) (done (writing t) room .lent)) = written t stays-image l refl in
+      subst (λ (w : List ℕ). (r ≡ Done (length w)) × (later ≡ done w room .lent)) (written-now t) (one-written r (Done (length (writing t))) R S)
 
 -- two rules have the same image exactly when they have the same plain writing
 pub same-image : {rule rule′ before before′ after after′ : List ℕ} {n n′ : ℕ} → BuildSays rule before (answered (Done n) after)

@@ -6,15 +6,14 @@ use Prim.Native.Nat.{ℕ, suc}
 use lib.Dec.{leb}
 use lib.ListN.{getD, length}
 use lib.Seq.{sets}
-use Rattle.model.specs.Bits.{mask}
 use Rattle.model.specs.Bytes.{byte, bytes}
 use Rattle.model.specs.Image.{join}
-use Rattle.model.specs.Models.Sections.{bitOf, lettersIn}
 use Rattle.model.specs.Models.LayOut.{begin, owns}
 use Rattle.model.specs.Writing.{classWriting, markWriting, repeatWriting}
 use Rattle.answers.specs.declared.Answer.{Answer}
 use Rattle.answers.specs.declared.Answer.the-variants.{Done, Refused}
 use Rattle.answers.specs.declared.Refusal.the-variants.{NoRoomForWriting}
+use Rattle.image_classes.specs.Classes.{classIn}
 use Rattle.tokens.specs.Kinds.{readKind}
 use Rattle.tokens.specs.Tokens.{markOf, repeatOf}
 use Rattle.tokens.specs.declared.token.Token.{Token}
@@ -27,21 +26,17 @@ pub record OwnMarks (t r : Tape) : Type 0 where
   pub long : r .length ≡ t .length
   pub tokens-are : tokensOf r ≡ owns (tokensOf t) begin
 
--- ---- tokens
--- the bytes that lead to a state
-abbrev pub classTo : List ℕ → (W state : ℕ) → ℕ
-classTo ws W state = mask 256 (λ b. bitOf W (lettersIn ws) b state)
-
+-- ---- tokens, by a table of the states' classes
 -- the text of the token before a state
-abbrev pub tokenText : List ℕ → ℕ → Token → ℕ → List ℕ
-tokenText ws W (Letter r) state = classWriting (classTo ws W state) ++ repeatWriting (repeatOf r)
-tokenText ws W Open state = bytes "("
-tokenText ws W Bar state = bytes "|"
-tokenText ws W (Close m) state = byte ")" ∷ markWriting (markOf m)
+abbrev pub tokenText : List ℕ → Token → ℕ → List ℕ
+tokenText table (Letter r) state = classWriting (classIn table state) ++ repeatWriting (repeatOf r)
+tokenText table Open state = bytes "("
+tokenText table Bar state = bytes "|"
+tokenText table (Close m) state = byte ")" ∷ markWriting (markOf m)
 
 -- n tokens from `from` on
-abbrev pub rangeText : List ℕ → ℕ → List ℕ → (n from : ℕ) → List ℕ
-rangeText ws W kinds n from = join n from (λ i. tokenText ws W (readKind (getD kinds i 0)) (suc i))
+abbrev pub rangeText : (table kinds : List ℕ) → (n from : ℕ) → List ℕ
+rangeText table kinds n from = join n from (λ i. tokenText table (readKind (getD kinds i 0)) (suc i))
 
 -- ---- the whole: written if there is room
 abbrev pub writtenIf : List ℕ → List ℕ → Answer

@@ -1,6 +1,5 @@
 // Ranges of states: a row of tokens, written one after another. "An alternative may itself hold unions, eight deep at most."
 use crate::letter::write_letter;
-use image_sections::Sections;
 use tokens::kind::read_kind;
 use tokens::token::Mark;
 use tokens::token::Token;
@@ -12,7 +11,6 @@ ghost use lib.ListN.{length};
 ghost use lib.Seq.{sets};
 ghost use Rattle.model.specs.Bytes.{byte};
 ghost use Rattle.model.specs.Writing.{markWriting};
-ghost use Rattle.image_sections.specs.Sections.{Placed};
 ghost use Rattle.tokens.specs.Tokens.{markOf};
 ghost use Rattle.writing.specs.Work.{rangeText, tokenText};
 
@@ -69,19 +67,18 @@ fn write_close(out: &mut [u8], at: usize, mark: Mark) -> usize
 
 // The token before a state.
 fn write_token(
-    words: &[u64],
-    sections: Sections,
+    classes: &[u64; 2048],
     token: Token,
     state: usize,
     out: &mut [u8],
     at: usize,
 ) -> usize
-    requires { ⌜ Placed (now words) sections × (state < sections .states) × (at < 2 ^ 30) ⌝ }
-    ensures place { λ r. ⌜ r ≡ at + length (tokenText (now (words .entry)) (sections .width) token state) ⌝ }
-    ensures written { λ r. ⌜ now (out .exit) ≡ sets (now (out .entry)) at (tokenText (now (words .entry)) (sections .width) token state) ⌝ }
+    requires { ⌜ (state < 512) × (at < 2 ^ 30) ⌝ }
+    ensures place { λ r. ⌜ r ≡ at + length (tokenText (now (classes .entry)) token state) ⌝ }
+    ensures written { λ r. ⌜ now (out .exit) ≡ sets (now (out .entry)) at (tokenText (now (classes .entry)) token state) ⌝ }
 {
     match token {
-        Token::Letter(repeat) => write_letter(words, sections, repeat, state, out, at),
+        Token::Letter(repeat) => write_letter(classes, repeat, state, out, at),
         Token::Open => {
             set_byte(out, at, b'(');
             at + 1
@@ -96,27 +93,26 @@ fn write_token(
 
 // The tokens from `from` to `to` less 1. After a union's open its alternatives are written by the same function on the inner range, which is shorter.
 pub fn write_range(
-    words: &[u64],
-    sections: Sections,
+    classes: &[u64; 2048],
     kinds: &[u8; 512],
     out: &mut [u8],
     at: usize,
     from: usize,
     to: usize,
 ) -> usize
-    requires { ⌜ Placed (now words) sections × (from ≤ to) × (to < sections .states) × (at ≤ 4096 * from) ⌝ }
-    ensures place { λ r. ⌜ r ≡ at + length (rangeText (now (words .entry)) (sections .width) (now (kinds .entry)) (to - from) from) ⌝ }
-    ensures written { λ r. ⌜ now (out .exit) ≡ sets (now (out .entry)) at (rangeText (now (words .entry)) (sections .width) (now (kinds .entry)) (to - from) from) ⌝ }
+    requires { ⌜ (from ≤ to) × (to ≤ 511) × (at ≤ 4096 * from) ⌝ }
+    ensures place { λ r. ⌜ r ≡ at + length (rangeText (now (classes .entry)) (now (kinds .entry)) (to - from) from) ⌝ }
+    ensures written { λ r. ⌜ now (out .exit) ≡ sets (now (out .entry)) at (rangeText (now (classes .entry)) (now (kinds .entry)) (to - from) from) ⌝ }
     ensures bound { λ r. ⌜ r ≤ 4096 * to ⌝ }
 {
     let mut p = at;
     let mut i = from;
     while i < to {
         let token = read_kind(kinds[i]);
-        let next = write_token(words, sections, token, i + 1, out, p);
+        let next = write_token(classes, token, i + 1, out, p);
         if let Token::Open = token {
             let close = close_of(kinds, i + 1, to);
-            let end = write_range(words, sections, kinds, out, next, i + 1, close);
+            let end = write_range(classes, kinds, out, next, i + 1, close);
             p = end;
             i = close;
         } else {

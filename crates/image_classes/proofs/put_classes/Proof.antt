@@ -37,7 +37,7 @@ add-put-mask : tie.Need-add-put-mask Inv-loop μ-loop
 add-put-mask c = omega (arith, mask-in c, within (c .before .before .before .before .pre .0) .short)
 
 put-mask-requires : tie.Need-put-mask-requires Inv-loop μ-loop
-put-mask-requires c κs = (c .before .loop-test .taken, within (c .before .before .before .before .pre .0) .narrow, mask-in c, c .before .before .loop .inv .1 .is-table)
+put-mask-requires c κs = (omega (arith, c .before .loop-test .taken), within (c .before .before .before .before .pre .0) .narrow, mask-in c, c .before .before .loop .inv .1 .is-table)
 
 add-byte : tie.Need-add-byte Inv-loop μ-loop
 add-byte c = search needs

@@ -1,19 +1,17 @@
--- AN IMAGE MADE BEFORE WISH 4 STAYS AN IMAGE, of the tree that it had, and read back writes `[\x00-\xFF]` where it wrote `.`. The trees of rules are the
--- well-formed ones whatever the dot is, since each is written by a rule; and only two classes are written otherwise than before.
+-- AN IMAGE MADE BEFORE WISH 4 STAYS AN IMAGE, of the tree that it had, whose writing has `[\x00-\xFF]` where it had `.`. The trees of rules are the well-formed
+-- ones whatever the dot is, since the writing of each is a rule of it; and only two classes are written otherwise than before.
 use mathlib.Core.Path.{_≡_, refl, sym, ap, ap₂, _∙_}
 use mathlib.Core.Logic.{_↔_}
 use mathlib.Core.Bool.{Bool, cond}
 use mathlib.Core.List.{List, [], _∷_, _++_}
-use Prim.Native.Nat.{ℕ, _≤_}
+use Prim.Native.Nat.{ℕ}
 use lib.Dec.{eqb, ltb, eqb→eq, lit<, lit≤}
-use lib.ListN.{length}
 use Rattle.model.specs.Bytes.{byte, bytes}
 use Rattle.model.specs.Tree.{Alts, end, last, letter, more, Tree, union}
 use Rattle.model.specs.Grammar.{dotClass}
 use Rattle.model.specs.Writing.{altsBy, altsWriting, byteWriting, classWith, classWriting, markWriting, outside, repeatWriting, sole, writing, writtenBy}
-use Rattle.model.specs.Answers.{Counted, done, ImageOf, ReadBackSays}
+use Rattle.model.specs.Answers.{ImageOf}
 use Rattle.model.specs.Before.{dotBefore, ImageBefore, rewritten}
-use Rattle.model.proofs.Answers.ReadBack.{read-back-one}
 use Rattle.model.proofs.Laws.Bool.{cond-cases, is-false}
 use Rattle.model.proofs.Reading.WellFormed.{rule-well, well-with}
 use Rattle.model.proofs.Reading.Written.{written, written-with}
@@ -38,7 +36,7 @@ class-now c =
     by : Bool → List ℕ
     by v = cond (ltb (sole 256 c 0) 256) (byteWriting (sole 256 c 0)) (cond v (bytes ".") ((byte "[" ∷ outside 256 c 0) ++ (byte "]" ∷ [])))
 
--- so in a tree's writing
+-- SO IN A TREE'S WRITING
 mutual
   pub written-now : (t : Tree) → writing t ≡ writtenBy rewritten t
   written-now end = refl
@@ -48,10 +46,3 @@ mutual
   alts-now : (a : Alts) → altsWriting a ≡ altsBy rewritten a
   alts-now (last s) = written-now s
   alts-now (more s a) = ap₂ (λ (u v : List ℕ). u ++ (byte "|" ∷ v)) (written-now s) (alts-now a)
-
--- AND READ BACK SHOWS IT SO
-pub shown-now : {words : List ℕ} {t : Tree} → ImageBefore words t → (room : List ℕ) (a : Counted) → length (writing t) ≤ length room
-    → ReadBackSays words room a → a ≡ done (writtenBy rewritten t) room
-shown-now {words} {t} I room a l R =
-    read-back-one words room a (done (writing t) room) R (ReadBackSays.written t (still-image words t .0 I) l refl)
-    ∙ ap (λ (w : List ℕ). done w room) (written-now t)

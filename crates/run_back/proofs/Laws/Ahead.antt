@@ -1,14 +1,15 @@
 -- THE FIRST SOURCE AHEAD: of m + n places the first m decide, and where they have none the n after them; the lowest source is the one below which a
 -- number has only zeros.
-use mathlib.Core.Path.{_≡_, refl, sym, ap, _∙_}
+use mathlib.Core.Path.{_≡_, refl, sym, ap, _∙_, subst}
 use mathlib.Core.Bool.{Bool, true, false, not, _&&_, _||_, and-false, cond, or-false}
-use Prim.Native.Nat.{ℕ, zero, suc, _+_, _/_, _%_, _^_, _<_}
-use native.Mathlib.Nat.{pow-suc}
+use Prim.Native.Nat.{ℕ, zero, suc, _+_, _^_, _<_}
 use native.Mathlib.Omega.{arith}
-use lib.Count.{trailingZeros, under}
-use lib.Dec.{eqb}
+use lib.Count.{trailingZeros}
+use lib.Dec.{T}
 use Rattle.model.specs.Bits.{bit}
 use Rattle.model.specs.Models.Run.{ahead}
+use Rattle.model.proofs.Words.Back.{ahead-first}
+use Rattle.model.proofs.Words.Lowest.{lowest-bit}
 
 pub ahead-split : (m n : ℕ) (above : Bool) (c f : ℕ → Bool) (x : ℕ) → ahead (m + n) above c f x ≡ ahead m (ahead n above c f (m + x)) c f x
 ahead-split zero n above c f x =
@@ -32,21 +33,11 @@ ahead-above (suc n) above c f x =
     go true v later first some e = sym (ap (λ (z : Bool). v || z) (and-false above) ∙ or-false v)
     go false v later first some e = e
 
--- ---- the lowest source
-next : (n : ℕ) (above : Bool) (c f : ℕ → Bool) (x : ℕ) → ahead n above c f (suc x) ≡ ahead n above (λ i. c (suc i)) (λ i. f (suc i)) x
-next zero above c f x = refl
-next (suc n) above c f x = ap (cond (c (suc x)) (f (suc x))) (next n above c f (suc x))
-
+-- ---- the lowest source is the first
 pub lowest : (n : ℕ) (above : Bool) (s l : ℕ) → 0 < s → s < 2 ^ n → (trailingZeros n s < n) × (bit l (trailingZeros n s) ≡ ahead n above (bit s) (bit l) 0)
-unfolding trailingZeros
-lowest zero above s l h k = absurd (omega arith)
-lowest (suc n) above s l h k = go (s % 2) refl (λ i. lowest n above (s / 2) (l / 2) i (omega (arith, pow-suc 2 n)))
-  where
-    rest : ℕ
-    rest = trailingZeros n (s / 2)
-
-    go : (d : ℕ) → s % 2 ≡ d → (0 < s / 2 → (rest < n) × (bit (l / 2) rest ≡ ahead n above (bit (s / 2)) (bit (l / 2)) 0))
-        → (under d rest < suc n) × (bit l (under d rest) ≡ cond (eqb d 1) (bit l 0) (ahead n above (bit s) (bit l) 1))
-    go zero e later = let r = later (omega arith) in (omega (arith, r .0), r .1 ∙ sym (next n above (bit s) (bit l) 0))
-    go (suc zero) e later = (omega arith, refl)
-    go (suc (suc d)) e later = absurd (omega arith)
+lowest n above s l h k =
+    let m = lowest-bit n s h k in (
+      m .0,
+      sym (ahead-first n above (bit s) (bit l) 0 (trailingZeros n s) (omega arith) (omega (arith, m .0)) (subst T (sym (m .1 .here)) tt)
+          (λ y a b t. subst T (m .1 .below y b) t)),
+    )

@@ -58,14 +58,14 @@ module _ (g : ℕ → List ℕ) (before : List ℕ) (at from : ℕ) where
       }
 
 -- ---- THE TOKENS OF A TAPE
-abbrev pub tokensOf : List ℕ → ℕ → List ℕ → ℕ → List ℕ
-tokensOf ws W kinds i = tokenText ws W (readKind (getD kinds i 0)) (suc i)
+abbrev pub tokensOf : (table kinds : List ℕ) → ℕ → List ℕ
+tokensOf table kinds i = tokenText table (readKind (getD kinds i 0)) (suc i)
 
 -- one token more
-pub wrote-token : (ws : List ℕ) (W : ℕ) (kinds before : List ℕ) (at from : ℕ) {i : ℕ} {now : List ℕ} {p : ℕ}
-    → Wrote (tokensOf ws W kinds) before at from i now p → (y : Token) → y ≡ readKind (getD kinds i 0) → {after : List ℕ} {q : ℕ}
-    → Writes now p (tokenText ws W y (i + 1)) after q → Wrote (tokensOf ws W kinds) before at from (i + 1) after q
-wrote-token ws W kinds before at from {i} {now} {p} w y e t =
-    let g = tokensOf ws W kinds in
-    let h = ap₂ (tokenText ws W) e (add-one i) in
-    wrote-then g before at from w (wrote-one g now p i (w .bound) (token-short ws W (readKind (getD kinds i 0)) (suc i)) (writes-as now p h t))
+pub wrote-token : (table kinds before : List ℕ) (at from : ℕ) {i : ℕ} {now : List ℕ} {p : ℕ}
+    → Wrote (tokensOf table kinds) before at from i now p → (y : Token) → y ≡ readKind (getD kinds i 0) → {after : List ℕ} {q : ℕ}
+    → Writes now p (tokenText table y (i + 1)) after q → Wrote (tokensOf table kinds) before at from (i + 1) after q
+wrote-token table kinds before at from {i} {now} {p} w y e t =
+    let g = tokensOf table kinds in
+    let h = ap₂ (tokenText table) e (add-one i) in
+    wrote-then g before at from w (wrote-one g now p i (w .bound) (token-short table (readKind (getD kinds i 0)) (suc i)) (writes-as now p h t))

@@ -3,17 +3,18 @@ use Prim.Native.Nat.{ℕ, _≤_}
 use mathlib.Core.List.{List}
 use native.Mathlib.Omega.{arith}
 use lib.ListN.{length}
+use Rattle.image_classes.specs.Classes.{classIn}
 use Rattle.writing_letters.proofs.Laws.Bounds.{letter-short}
 use Rattle.tokens.specs.Tokens.{repeatOf}
 use Rattle.tokens.specs.declared.token.Mark.the-variants.{Optional, Starred, Unmarked}
 use Rattle.tokens.specs.declared.token.Token.{Token}
 use Rattle.tokens.specs.declared.token.Token.the-variants.{Bar, Close, Letter, Open}
-use Rattle.writing.specs.Work.{classTo, tokenText}
+use Rattle.writing.specs.Work.{tokenText}
 
-pub token-short : (ws : List ℕ) (W : ℕ) (y : Token) (state : ℕ) → length (tokenText ws W y state) ≤ 4096
-token-short ws W (Letter r) state = omega (arith, letter-short (classTo ws W state) (repeatOf r))
-token-short ws W Open state = omega arith
-token-short ws W Bar state = omega arith
-token-short ws W (Close Unmarked) state = omega arith
-token-short ws W (Close Optional) state = omega arith
-token-short ws W (Close Starred) state = omega arith
+pub token-short : (table : List ℕ) (y : Token) (state : ℕ) → length (tokenText table y state) ≤ 4096
+token-short table (Letter r) state = omega (arith, letter-short (classIn table state) (repeatOf r))
+token-short table Open state = omega arith
+token-short table Bar state = omega arith
+token-short table (Close Unmarked) state = omega arith
+token-short table (Close Optional) state = omega arith
+token-short table (Close Starred) state = omega arith

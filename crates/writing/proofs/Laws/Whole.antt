@@ -16,16 +16,16 @@ pub nothing-lent : (part bytes : List ℕ) → length part ≡ 0 → part ++ byt
 nothing-lent [] bytes e = refl
 nothing-lent (x ∷ part) bytes e = absurd (omega arith)
 
-module _ (ws : List ℕ) (W : ℕ) (kinds : List ℕ) (n : ℕ) (before now : List ℕ) (same : now ≡ before) where
+module _ (table kinds : List ℕ) (n : ℕ) (before now : List ℕ) (same : now ≡ before) where
   abbrev text : List ℕ
-  text = rangeText ws W kinds n 0
+  text = rangeText table kinds n 0
 
   -- the range from 0 on
   abbrev ranged : List ℕ
-  ranged = rangeText ws W kinds (n - 0) 0
+  ranged = rangeText table kinds (n - 0) 0
 
   whole : ranged ≡ text
-  whole = let e : n - 0 ≡ n = omega arith in ap (λ (k : ℕ). rangeText ws W kinds k 0) e
+  whole = let e : n - 0 ≡ n = omega arith in ap (λ (k : ℕ). rangeText table kinds k 0) e
 
   pub no-room : (r : ℕ) → r ≡ 0 + length ranged → length now < r → (Refused NoRoomForWriting ≡ writtenIf text before) × (now ≡ bytesAfter text before)
   no-room r size h =

@@ -8,7 +8,7 @@ use Rattle.writing.proofs.write.Tie as tie
 
 -- from the size found, where the function began
 abbrev start : tie.After-write-range → tie.Start
-start c = c .before .before .before .before .before .before
+start c = c .before .before .before .before .before
 
 sub-write-range : tie.Need-sub-write-range
 sub-write-range c = search needs
@@ -20,7 +20,7 @@ part-write-range-end : tie.Need-part-write-range-end
 part-write-range-end c = search needs
 
 write-range-requires : tie.Need-write-range-requires
-write-range-requires c κs = let p = c .before .before .before .before .before .pre in (p .0, omega arith, p .1, omega arith)
+write-range-requires c κs = (omega arith, c .before .before .before .before .pre, omega arith)
 
 same-length : tie.Need-same-length
 same-length c = c .before .before .bytes .given .1
@@ -30,13 +30,12 @@ returns c =
     let f = c .before .before .before in
     let w = f .write-range in
     let a = start f .args in
-    let same = nothing-lent (w .last .1 .1 .1 .0) (a .bytes .now) (c .before .before .bytes .given .0) in
-    no-room (a .words .now) (a .sections .width) (a .tape .kinds) (a .tape .length) (a .bytes .now) _ same (w .result) (w .ensures .0) (c .if1 .taken)
+    let same = nothing-lent (w .last .1 .1 .0) (a .bytes .now) (c .before .before .bytes .given .0) in
+    no-room (a .classes .now) (a .tape .kinds) (a .tape .length) (a .bytes .now) _ same (w .result) (w .ensures .0) (c .if1 .taken)
 
 write-range-requires-2 : tie.Need-write-range-requires-2
 write-range-requires-2 c κs =
-    let p = start (c .before .before .before .before .before) .pre in
-    (p .0, omega arith, p .1, omega arith)
+    (omega arith, start (c .before .before .before .before .before) .pre, omega arith)
 
 same-length-2 : tie.Need-same-length-2
 same-length-2 c = c .before .bytes2 .given ∙ c .before .before .before .before .before .before .before .bytes .given .1
@@ -48,8 +47,8 @@ returns-2 c =
     let f = o .before .before .before in
     let w = f .write-range in
     let a = start f .args in
-    let same = nothing-lent (w .last .1 .1 .1 .0) (a .bytes .now) (o .before .before .bytes .given .0) in
-    room (a .words .now) (a .sections .width) (a .tape .kinds) (a .tape .length) (a .bytes .now) _ same (w .result) (v .last .1 .1 .1 .0) (w .ensures .0)
+    let same = nothing-lent (w .last .1 .1 .0) (a .bytes .now) (o .before .before .bytes .given .0) in
+    room (a .classes .now) (a .tape .kinds) (a .tape .length) (a .bytes .now) _ same (w .result) (v .last .1 .1 .0) (w .ensures .0)
     (o .if1 .left) (v .ensures .1 .0)
 
 pub write-spec : {M : Type 1} → statement M

@@ -6,7 +6,6 @@ use native.Mathlib.Omega.{arith}
 use borrow.Author.Needs.{needs}
 use lib.ListN.{length}
 use lib.Seq.{length-sets}
-use Rattle.image_sections.proofs.Laws.Within.{within}
 use Rattle.writing.proofs.Laws.Ranges.{tokensOf, Wrote, wrote-none, wrote-then, wrote-token}
 use borrow.Fn.Kinds.{In}
 use borrow.Fn.PlainCycle.{Measures, is, falls, and}
@@ -21,7 +20,7 @@ use Rattle.writing.proofs.ranges.+write_range.Tie.{close}
 
 -- how many tokens the range has
 abbrev μ-write-range : Measures 3 kinds.ps ℕ
-μ-write-range κs a = a .1 .1 .1 .1 .1 .1 .0 - a .1 .1 .1 .1 .1 .0
+μ-write-range κs a = a .1 .1 .1 .1 .1 .0 - a .1 .1 .1 .1 .0
 
 -- what is asked of this call, and of one on a shorter range
 abbrev this : ℕ → In 3 kinds.ps
@@ -44,10 +43,10 @@ callees t = (
 )
 
 abbrev Inv-loop : lts.InvT-loop
-Inv-loop words sections kinds out₀ at from to p₀ i₀ out p i = (i ≤ to) × Wrote (tokensOf words (sections .width) kinds) out₀ at from i out p
+Inv-loop classes kinds out₀ at from to p₀ i₀ out p i = (i ≤ to) × Wrote (tokensOf classes kinds) out₀ at from i out p
 
 abbrev μ-loop : lts.MeasureT-loop
-μ-loop words sections kinds out₀ at from to p₀ i₀ out p i = to - i
+μ-loop classes kinds out₀ at from to p₀ i₀ out p i = to - i
 
 -- from a union's close, the token written before it; from that, the turn of the loop; and from the turn, where the function began
 abbrev written : (t : ℕ) → lts.After-close-of (callees t) (this t) reads.Post Inv-loop μ-loop → lts.After-write-token (callees t) (this t) reads.Post Inv-loop μ-loop
@@ -57,21 +56,20 @@ abbrev turn-of : (t : ℕ) → lts.After-write-token (callees t) (this t) reads.
 turn-of t c = c .before .before .before .before
 
 abbrev start : (t : ℕ) → lts.In-loop (callees t) (this t) reads.Post Inv-loop μ-loop → lts.Start (callees t) (this t) reads.Post Inv-loop μ-loop
-start t c = c .before .before .before .before
+start t c = c .before .before .before
 
 -- in a turn, numbers are small
 small : (t : ℕ) (c : lts.In-loop (callees t) (this t) reads.Post Inv-loop μ-loop)
     → (c .before .loop .i < 511) × (c .before .loop .p ≤ 4096 * 511)
 small t c =
     let q = start t c .pre .1 in
-    let I = within (q .0) in
-    omega (arith, c .loop-test .taken, q .2, I .room, I .narrow, c .before .loop .inv .1 .bound)
+    omega (arith, c .loop-test .taken, q .1, c .before .loop .inv .1 .bound)
 
 loop-holds : (t : ℕ) → lts.Need-loop-holds (callees t) (this t) reads.Post Inv-loop μ-loop
 loop-holds t c =
-    let a = c .before .before .args in
-    let q = c .before .before .pre .1 in
-    (q .1, wrote-none (tokensOf (a .words .now) (a .sections .width) (a .kinds .now)) (a .out .now) (a .at) (a .from) (q .3))
+    let a = c .before .args in
+    let q = c .before .pre .1 in
+    (q .0, wrote-none (tokensOf (a .classes .now) (a .kinds .now)) (a .out .now) (a .at) (a .from) (q .2))
 
 element-copy-out-read-kind : (t : ℕ) → lts.Need-element-copy-out-read-kind (callees t) (this t) reads.Post Inv-loop μ-loop
 element-copy-out-read-kind t c = omega (arith, small t c)
@@ -83,10 +81,7 @@ add-write-token : (t : ℕ) → lts.Need-add-write-token (callees t) (this t) re
 add-write-token t c = omega (arith, small t (c .before .before))
 
 write-token-requires : (t : ℕ) → lts.Need-write-token-requires (callees t) (this t) reads.Post Inv-loop μ-loop
-write-token-requires t c κs =
-    let turn = c .before .before .before in
-    let q = start t turn .pre .1 in
-    (q .0, omega (arith, turn .loop-test .taken, q .2), omega (arith, small t turn))
+write-token-requires t c κs = omega (arith, small t (c .before .before .before))
 
 enum-told : (t : ℕ) → lts.Need-enum-told (callees t) (this t) reads.Post Inv-loop μ-loop
 enum-told t c = search needs
@@ -97,9 +92,7 @@ add-close-of t c = omega (arith, small t (turn-of t (c .before .before .before .
 close-of-requires : (t : ℕ) → lts.Need-close-of-requires (callees t) (this t) reads.Post Inv-loop μ-loop
 close-of-requires t c κs =
     let turn = turn-of t (c .before .before .before .before) in
-    let q = start t turn .pre .1 in
-    let I = within (q .0) in
-    omega (arith, turn .loop-test .taken, q .2, I .room, I .narrow)
+    omega (arith, turn .loop-test .taken, start t turn .pre .1 .1)
 
 add-write-range : (t : ℕ) → lts.Need-add-write-range (callees t) (this t) reads.Post Inv-loop μ-loop
 add-write-range t c = omega (arith, small t (turn-of t (written t (c .before))))
@@ -113,9 +106,9 @@ write-range-requires t c κs =
     let s = start t turn in
     let a = s .args in
     let q = s .pre in
-    let w = wrote-token (a .words .now) (a .sections .width) (a .kinds .now) (a .out .now) (a .at) (a .from) (turn .before .loop .inv .1) (read .result) (read .ensures) (write .write-token .ensures) in (
+    let w = wrote-token (a .classes .now) (a .kinds .now) (a .out .now) (a .at) (a .from) (turn .before .loop .inv .1) (read .result) (read .ensures) (write .write-token .ensures) in (
       omega (arith, q .0, close .0, close .1, turn .before .loop .inv .1 .since, turn .loop-test .taken),
-      (q .1 .0, close .0, omega (arith, close .1, q .1 .2), w .bound),
+      (close .0, omega (arith, close .1, q .1 .1), w .bound),
     )
 
 loop-less : (t : ℕ) → lts.Need-loop-less (callees t) (this t) reads.Post Inv-loop μ-loop
@@ -131,10 +124,10 @@ loop-again t c =
     let read = write .before .before .read-kind in
     let turn = turn-of t write in
     let a = start t turn .args in
-    let w = wrote-token (a .words .now) (a .sections .width) (a .kinds .now) (a .out .now) (a .at) (a .from) (turn .before .loop .inv .1) (read .result) (read .ensures) (write .write-token .ensures) in
+    let w = wrote-token (a .classes .now) (a .kinds .now) (a .out .now) (a .at) (a .from) (turn .before .loop .inv .1) (read .result) (read .ensures) (write .write-token .ensures) in
     let r = c .before .before .write-range .ensures in (
       close .1,
-      wrote-then (tokensOf (a .words .now) (a .sections .width) (a .kinds .now)) (a .out .now) (a .at) (a .from) w
+      wrote-then (tokensOf (a .classes .now) (a .kinds .now)) (a .out .now) (a .at) (a .from) w
           (record { since = close .0; text = (r .0, r .1 .0); bound = r .1 .1 }),
     )
 
@@ -150,16 +143,16 @@ loop-again-2 t c =
     let read = write .before .before .read-kind in
     let turn = turn-of t write in
     let a = start t turn .args in
-    (omega (arith, turn .loop-test .taken), wrote-token (a .words .now) (a .sections .width) (a .kinds .now) (a .out .now) (a .at) (a .from) (turn .before .loop .inv .1) (read .result) (read .ensures) (write .write-token .ensures))
+    (omega (arith, turn .loop-test .taken), wrote-token (a .classes .now) (a .kinds .now) (a .out .now) (a .at) (a .from) (turn .before .loop .inv .1) (read .result) (read .ensures) (write .write-token .ensures))
 
 same-length : (t : ℕ) → lts.Need-same-length (callees t) (this t) reads.Post Inv-loop μ-loop
 same-length t c = let l = c .before .loop in ap length (l .inv .1 .text .1) ∙ simp length-sets
 
 returns : (t : ℕ) → lts.Need-returns (callees t) (this t) reads.Post Inv-loop μ-loop
 returns t c =
-    let a = c .before .before .before .before .args in
+    let a = c .before .before .before .args in
     let l = c .before .loop in
-    let g = tokensOf (a .words .now) (a .sections .width) (a .kinds .now) in
+    let g = tokensOf (a .classes .now) (a .kinds .now) in
     let e : l .i ≡ a .to = omega (arith, l .inv .0, c .loop-test .left) in
     let w = subst (λ (n : ℕ). Wrote g (a .out .now) (a .at) (a .from) n (l .out) (l .p)) e (l .inv .1) in
     (w .text .0, (w .text .1, w .bound))

@@ -11,7 +11,7 @@ use Rattle.writing.proofs.ranges.write_token.Tie as tie
 
 -- the text of any token at the place of this one
 abbrev text : tie.Start → Token → List ℕ
-text s y = tokenText (s .args .words .now) (s .args .sections .width) y (s .args .state)
+text s y = tokenText (s .args .classes .now) y (s .args .state)
 
 enum-known-token : tie.Need-enum-known-token
 enum-known-token c = search needs
@@ -48,7 +48,7 @@ same-length c = search needs
 
 returns : tie.Need-returns
 returns c =
-    let s = c .before .before .before .before .before .before .before .before .before in
+    let s = c .before .before .before .before .before .before .before .before in
     let a = s .args in
     writes-as (a .out .now) (a .at) (sym (ap (text s) (c .before .before .before .before .before .token .given .1))) (c .before .before .write-letter .ensures)
 
@@ -57,7 +57,7 @@ same-length-2 c = search needs
 
 returns-2 : tie.Need-returns-2
 returns-2 c =
-    let s = c .before .before .before .before .before .before .before .before in
+    let s = c .before .before .before .before .before .before .before in
     let a = s .args in
     writes-as (a .out .now) (a .at) (sym (ap (text s) (c .before .before .before .before .enum-told .given .1))) (writes-one (a .out .now) (a .at) 40 (c .before .before .set-byte .ensures))
 
@@ -66,7 +66,7 @@ same-length-3 c = search needs
 
 returns-3 : tie.Need-returns-3
 returns-3 c =
-    let s = c .before .before .before .before .before .before .before .before in
+    let s = c .before .before .before .before .before .before .before in
     let a = s .args in
     writes-as (a .out .now) (a .at) (sym (ap (text s) (c .before .before .before .before .enum-told2 .given .1))) (writes-one (a .out .now) (a .at) 124 (c .before .before .set-byte2 .ensures))
 
@@ -75,7 +75,7 @@ same-length-4 c = search needs
 
 returns-4 : tie.Need-returns-4
 returns-4 c =
-    let s = c .before .before .before .before .before .before .before .before .before in
+    let s = c .before .before .before .before .before .before .before .before in
     let a = s .args in
     writes-as (a .out .now) (a .at) (sym (ap (text s) (c .before .before .before .before .before .token2 .given .1))) (c .before .before .write-close .ensures)
 

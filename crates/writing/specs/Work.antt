@@ -13,7 +13,7 @@ use Rattle.model.specs.Writing.{classWriting, markWriting, repeatWriting}
 use Rattle.answers.specs.declared.Answer.{Answer}
 use Rattle.answers.specs.declared.Answer.the-variants.{Done, Refused}
 use Rattle.answers.specs.declared.Refusal.the-variants.{NoRoomForWriting}
-use Rattle.image_classes.specs.Classes.{classIn}
+use Rattle.image_classes.specs.Classes.{classTo}
 use Rattle.tokens.specs.Kinds.{readKind}
 use Rattle.tokens.specs.Tokens.{markOf, repeatOf}
 use Rattle.tokens.specs.declared.token.Token.{Token}
@@ -26,17 +26,17 @@ pub record OwnMarks (t r : Tape) : Type 0 where
   pub long : r .length ≡ t .length
   pub tokens-are : tokensOf r ≡ owns (tokensOf t) begin
 
--- ---- tokens, by a table of the states' classes
--- the text of the token before a state
-abbrev pub tokenText : List ℕ → Token → ℕ → List ℕ
-tokenText table (Letter r) state = classWriting (classIn table state) ++ repeatWriting (repeatOf r)
-tokenText table Open state = bytes "("
-tokenText table Bar state = bytes "|"
-tokenText table (Close m) state = byte ")" ∷ markWriting (markOf m)
+-- ---- tokens
+-- the text of a token, of a letter that of the class c
+abbrev pub tokenText : ℕ → Token → List ℕ
+tokenText c (Letter r) = classWriting c ++ repeatWriting (repeatOf r)
+tokenText c Open = bytes "("
+tokenText c Bar = bytes "|"
+tokenText c (Close m) = byte ")" ∷ markWriting (markOf m)
 
--- n tokens from `from` on
-abbrev pub rangeText : (table kinds : List ℕ) → (n from : ℕ) → List ℕ
-rangeText table kinds n from = join n from (λ i. tokenText table (readKind (getD kinds i 0)) (suc i))
+-- n tokens from `from` on, each with the class of the bytes that lead to the state after it
+abbrev pub rangeText : List ℕ → ℕ → List ℕ → (n from : ℕ) → List ℕ
+rangeText ws W kinds n from = join n from (λ i. tokenText (classTo ws W (suc i)) (readKind (getD kinds i 0)))
 
 -- ---- the whole: written if there is room
 abbrev pub writtenIf : List ℕ → List ℕ → Answer

@@ -5,7 +5,7 @@ use writing_letters::classes::write_class;
 use writing_letters::set_byte;
 ghost use mathlib.Core.Path.{_≡_};
 ghost use mathlib.Core.List.{_++_};
-ghost use Prim.Native.Nat.{_+_, _^_, _<_};
+ghost use Prim.Native.Nat.{_+_, _%_, _^_, _<_};
 ghost use lib.ListN.{length};
 ghost use lib.Seq.{sets};
 ghost use Rattle.model.specs.Writing.{classWriting, repeatWriting};
@@ -35,17 +35,17 @@ fn write_sign(out: &mut [u8], at: usize, repeat: Repeat) -> usize
     }
 }
 
-// A letter to a state.
+// A letter to a state of the column at hand.
 pub fn write_letter(
-    classes: &[u64; 2048],
+    classes: &[u64; 256],
     repeat: Repeat,
     state: usize,
     out: &mut [u8],
     at: usize,
 ) -> usize
-    requires { ⌜ (state < 512) × (at < 2 ^ 30) ⌝ }
-    ensures place { λ r. ⌜ r ≡ at + length (classWriting (classIn (now (classes .entry)) state) ++ repeatWriting (repeatOf repeat)) ⌝ }
-    ensures written { λ r. ⌜ now (out .exit) ≡ sets (now (out .entry)) at (classWriting (classIn (now (classes .entry)) state) ++ repeatWriting (repeatOf repeat)) ⌝ }
+    requires { ⌜ at < 2 ^ 30 ⌝ }
+    ensures place { λ r. ⌜ r ≡ at + length (classWriting (classIn (now (classes .entry)) (state % 64)) ++ repeatWriting (repeatOf repeat)) ⌝ }
+    ensures written { λ r. ⌜ now (out .exit) ≡ sets (now (out .entry)) at (classWriting (classIn (now (classes .entry)) (state % 64)) ++ repeatWriting (repeatOf repeat)) ⌝ }
 {
     let class = class_of(classes, state);
     let p = write_class(out, at, class);

@@ -8,32 +8,29 @@ use Rattle.image_classes.proofs.put_word.Statement.{statement}
 use Rattle.image_classes.proofs.put_word.Tie as tie
 
 abbrev Inv-loop : tie.InvT-loop
-Inv-loop classes₀ byte word first rest₀ classes rest = Left classes₀ byte word first classes rest
+Inv-loop classes₀ byte word rest₀ classes rest = Left classes₀ byte word classes rest
 
 abbrev μ-loop : tie.MeasureT-loop
-μ-loop classes₀ byte word first rest₀ classes rest = rest
+μ-loop classes₀ byte word rest₀ classes rest = rest
 
 -- the lowest bit is one of 64
 small : (c : tie.In-loop Inv-loop μ-loop) → trailingZeros 64 (c .before .loop .rest) < 64
 small c =
     let s = c .before .before in
     let a = s .args in
-    inside (a .classes .now) (a .byte) (a .word) (a .first) (s .pre .0) (s .pre .1) (c .before .loop .inv) (c .loop-test .taken)
+    inside (a .classes .now) (a .byte) (a .word) (s .pre .0) (c .before .loop .inv) (c .loop-test .taken)
 
 loop-holds : tie.Need-loop-holds Inv-loop μ-loop
-loop-holds c = let a = c .args in left-all (a .byte) (a .word) (a .first) (c .fits .word .fits) (c .pre .2)
+loop-holds c = let a = c .args in left-all (a .byte) (a .word) (c .fits .word .fits) (c .pre .1)
 
 cast-place : tie.Need-cast-place Inv-loop μ-loop
 cast-place c = omega (arith, small c)
 
-add-place : tie.Need-add-place Inv-loop μ-loop
-add-place c = omega (arith, small c)
-
 mul-place : tie.Need-mul-place Inv-loop μ-loop
 mul-place c = omega (arith, small c)
 
-add-place-2 : tie.Need-add-place-2 Inv-loop μ-loop
-add-place-2 c = omega (arith, small c)
+add-place : tie.Need-add-place Inv-loop μ-loop
+add-place c = omega (arith, small c)
 
 mul-classes : tie.Need-mul-classes Inv-loop μ-loop
 mul-classes c = omega (arith, small c)
@@ -60,13 +57,13 @@ loop-less : tie.Need-loop-less Inv-loop μ-loop
 loop-less c =
     let s = c .before .before .before in
     let a = s .args in
-    left-less (a .classes .now) (a .byte) (a .word) (a .first) (s .pre .0) (s .pre .1) (c .before .before .loop .inv) (c .before .loop-test .taken)
+    left-less (a .classes .now) (a .byte) (a .word) (s .pre .0) (c .before .before .loop .inv) (c .before .loop-test .taken)
 
 loop-again : tie.Need-loop-again Inv-loop μ-loop
 loop-again c =
     let s = c .before .before .before in
     let a = s .args in
-    left-next (a .classes .now) (a .byte) (a .word) (a .first) (s .pre .0) (s .pre .1) (c .before .before .loop .inv) (c .before .loop-test .taken)
+    left-next (a .classes .now) (a .byte) (a .word) (s .pre .0) (c .before .before .loop .inv) (c .before .loop-test .taken)
 
 returns : tie.Need-returns Inv-loop μ-loop
 returns c = left-none (c .loop-test .left) (c .before .loop .inv)
@@ -79,9 +76,8 @@ put-word-spec =
     μ-loop
     loop-holds
     cast-place
-    add-place
     mul-place
-    add-place-2
+    add-place
     mul-classes
     element-copy-out-classes
     shl-classes

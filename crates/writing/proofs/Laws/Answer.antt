@@ -15,11 +15,11 @@ use Rattle.model.proofs.Laws.Bool.{le-false, le-or-lt, le-true}
 use Rattle.model.proofs.Laws.Stores.{sets-fit}
 use Rattle.answers.specs.Answers.{answered}
 use Rattle.answers.specs.declared.Answer.{Answer}
+use Rattle.image_sections.specs.Sections.{Placed}
 use Rattle.image_sections.specs.declared.Sections.{Sections}
 use Rattle.tokens_masks.specs.Tapes.{isTree}
 use Rattle.tokens_masks.specs.declared.Tape.{Tape}
 use Rattle.tokens_masks.proofs.OfTree.{is-tree}
-use Rattle.image_classes.specs.Classes.{ClassesOf}
 use Rattle.image_check.proofs.Laws.Found.{Found}
 use Rattle.writing.specs.Work.{bytesAfter, OwnMarks, rangeText, writtenIf}
 use Rattle.writing.proofs.Laws.Plain.{all-written}
@@ -48,18 +48,20 @@ module _ {ws : List ℕ} {p : Sections} {t : Tape} (F : Found ws p t) where
 
   -- u has the unions' own marks
   module _ (u : Tape) (M : OwnMarks t u) where
-    pub short : u .length ≤ 511
-    short = omega (arith, M .long, F .tape-of .long, length-tokens (F .tree), I .few)
+    pub asked : Placed ws p × (u .length < p .states)
+    asked = (F .placed, omega (arith, M .long, F .tape-of .long, length-tokens (F .tree), ap (λ (q : Sections). q .states) (F .sections-are)))
+
+    abbrev text : ℕ → List ℕ
+    text W = rangeText ws W (u .kinds) (u .length) 0
 
     width-is : p .width ≡ widthWord ws
     width-is = ap (λ (q : Sections). q .width) (F .sections-are) ∙ sym (ap widthWord (I .laid))
 
     -- h is how a kind lies in memory
-    pub says-found : {A : Type 0} (h : ℕ → A) → length (map h (u .kinds)) ≡ 512 → (table : List ℕ) → ClassesOf ws (p .width) table → (before after : List ℕ) (r : Answer)
-        → (let text = rangeText table (u .kinds) (u .length) 0 in r ≡ writtenIf text before → after ≡ bytesAfter text before → ReadBackSays ws before (answered r after))
-    says-found h room table C before after r e a =
-        let text = rangeText table (u .kinds) (u .length) 0 in
+    pub says-found : {A : Type 0} (h : ℕ → A) → length (map h (u .kinds)) ≡ 512 → (before after : List ℕ) (r : Answer)
+        → r ≡ writtenIf (text (p .width)) before → after ≡ bytesAfter (text (p .width)) before → ReadBackSays ws before (answered r after)
+    says-found h room before after r e a =
         subst (λ (q : Answer). ReadBackSays ws before (answered q after)) (sym e)
-        (subst (λ (l : List ℕ). ReadBackSays ws before (answered (writtenIf text before) l)) (sym a)
-        (of-text ws (F .tree) I before text
-        (all-written ws (F .tree) I t u (F .tape-of) M (sym (length-map (u .kinds) h) ∙ room) table (subst (λ (W : ℕ). ClassesOf ws W table) width-is C))))
+        (subst (λ (l : List ℕ). ReadBackSays ws before (answered (writtenIf (text (p .width)) before) l)) (sym a)
+        (of-text ws (F .tree) I before (text (p .width))
+        (ap text width-is ∙ all-written ws (F .tree) I t u (F .tape-of) M (sym (length-map (u .kinds) h) ∙ room))))

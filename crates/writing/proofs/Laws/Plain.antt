@@ -22,7 +22,7 @@ use Rattle.model.proofs.Image.Tokens.{length-tokens}
 use Rattle.model.proofs.Image.TokenWriting.{length-owns, tokens-writing, tokensWriting, tokenWriting}
 use Rattle.model.proofs.Image.WellFormed.{well-fine, well-formed}
 use Rattle.model.proofs.Reading.WellFormed.{rule-well, WellFormed}
-use Rattle.image_classes.specs.Classes.{ClassesOf, classIn, classTo}
+use Rattle.image_classes.specs.Classes.{classTo}
 use Rattle.tokens.specs.Tokens.{bare, tokenOf}
 use Rattle.tokens_masks.specs.Tapes.{bares, readKinds, TapeOf}
 use Rattle.tokens.specs.Kinds.{readKind}
@@ -39,11 +39,11 @@ classed c anOpen = anOpen
 classed c aBar = aBar
 classed c (aClose m) = aClose m
 
-by-token : (table : List ℕ) (y : read.Token) (state : ℕ) → tokenText table y state ≡ tokenWriting (classed (classIn table state) (tokenOf y))
-by-token table (Letter r) state = refl
-by-token table Open state = refl
-by-token table Bar state = refl
-by-token table (Close m) state = refl
+by-token : (c : ℕ) (y : read.Token) → tokenText c y ≡ tokenWriting (classed c (tokenOf y))
+by-token c (Letter r) = refl
+by-token c Open = refl
+by-token c Bar = refl
+by-token c (Close m) = refl
 
 -- a token that the masks show has the class that they show, also with its union's own mark
 by-masks : (isLetter : Bool) (c : ℕ) (skips loops closes opens returns e : Bool)
@@ -78,8 +78,7 @@ written-by (y ∷ ys) a f h =
     (written-by ys (suc a) f (λ i k. (let e : suc a + i ≡ a + suc i = omega arith in ap f e) ∙ h (suc i) (omega arith)))
 
 -- ---- THE WHOLE: t is the tree's tape, and u has the unions' own marks
-module _ (ws : List ℕ) (s : Tree) (I : ImageOf ws s) (t u : Tape) (A : TapeOf s t) (M : OwnMarks t u) (room : length (u .kinds) ≡ 512)
-    (table : List ℕ) (C : ClassesOf ws (widthWord ws) table) where
+module _ (ws : List ℕ) (s : Tree) (I : ImageOf ws s) (t u : Tape) (A : TapeOf s t) (M : OwnMarks t u) (room : length (u .kinds) ≡ 512) where
   abbrev l : List Token
   l = tokens s []
 
@@ -116,18 +115,18 @@ module _ (ws : List ℕ) (s : Tree) (I : ImageOf ws s) (t u : Tape) (A : TapeOf 
   token-of i h =
       ap (λ (y : List Token). getD y i aBar) (sym taken) ∙ getD-between (stateWord ws) i (tokenAt ws) (omega (arith, size, length-owns l begin))
 
-  each-token : (i : ℕ) → i < length o → tokenText table (readKind (getD (u .kinds) i 0)) (suc i) ≡ tokenWriting (getD o i aBar)
+  each-token : (i : ℕ) → i < length o → tokenText (classTo ws W (suc i)) (readKind (getD (u .kinds) i 0)) ≡ tokenWriting (getD o i aBar)
   each-token i h =
       let c = classTo ws W (suc i) in
       let n = getD-owns l begin i in
       let e = n .1 ∙ ap (λ (y : Token). own y (n .0)) (token-of i h) in
-      by-token table (readKind (getD (u .kinds) i 0)) (suc i)
+      by-token c (readKind (getD (u .kinds) i 0))
       ∙ ap tokenWriting
-      (ap₂ classed (C (suc i)) (kind-of i h ∙ ap bare e) ∙ by-masks (anyBelow 256 (λ b. bitOf W (lettersIn ws) b (suc i))) c _ _ _ _ _ (n .0) ∙ sym e)
+      (ap (classed c) (kind-of i h ∙ ap bare e) ∙ by-masks (anyBelow 256 (λ b. bitOf W (lettersIn ws) b (suc i))) c _ _ _ _ _ (n .0) ∙ sym e)
 
-  pub all-written : rangeText table (u .kinds) (u .length) 0 ≡ writing s
+  pub all-written : rangeText ws W (u .kinds) (u .length) 0 ≡ writing s
   all-written =
-      ap (λ (n : ℕ). rangeText table (u .kinds) n 0) long
-      ∙ written-by o 0 (λ i. tokenText table (readKind (getD (u .kinds) i 0)) (suc i))
-      (λ i h. let e : 0 + i ≡ i = omega arith in subst (λ (j : ℕ). tokenText table (readKind (getD (u .kinds) j 0)) (suc j) ≡ tokenWriting (getD o i aBar)) (sym e) (each-token i h))
+      ap (λ (n : ℕ). rangeText ws W (u .kinds) n 0) long
+      ∙ written-by o 0 (λ i. tokenText (classTo ws W (suc i)) (readKind (getD (u .kinds) i 0)))
+      (λ i h. let e : 0 + i ≡ i = omega arith in subst (λ (j : ℕ). tokenText (classTo ws W (suc j)) (readKind (getD (u .kinds) j 0)) ≡ tokenWriting (getD o i aBar)) (sym e) (each-token i h))
       ∙ tokens-writing s (well-formed s .0 well .1)

@@ -2,12 +2,12 @@
 -- 4096 bytes, which bounds the places.
 use mathlib.Core.Path.{_≡_, sym, ap, ap₂, _∙_}
 use mathlib.Core.List.{List, _++_, append-assoc, append-nil}
-use Prim.Native.Nat.{ℕ, zero, suc, _+_, _-_, _*_, _≤_}
+use Prim.Native.Nat.{ℕ, zero, suc, _+_, _-_, _*_, _/_, _%_, _≤_}
 use native.Mathlib.Nat.{add-zero, zero-add}
-use native.Mathlib.Numerals.{add-one}
 use native.Mathlib.Omega.{arith}
 use lib.ListN.{getD, length}
 use Rattle.model.specs.Image.{join}
+use Rattle.image_classes.specs.Classes.{classIn, classTo, ColumnOf}
 use Rattle.tokens.specs.Kinds.{readKind}
 use Rattle.tokens.specs.declared.token.Token.{Token}
 use Rattle.writing_letters.proofs.Laws.Texts.{Writes, writes-as, writes-none, writes-then}
@@ -58,14 +58,15 @@ module _ (g : ℕ → List ℕ) (before : List ℕ) (at from : ℕ) where
       }
 
 -- ---- THE TOKENS OF A TAPE
-abbrev pub tokensOf : (table kinds : List ℕ) → ℕ → List ℕ
-tokensOf table kinds i = tokenText table (readKind (getD kinds i 0)) (suc i)
+abbrev pub tokensOf : List ℕ → ℕ → List ℕ → ℕ → List ℕ
+tokensOf ws W kinds i = tokenText (classTo ws W (suc i)) (readKind (getD kinds i 0))
 
--- one token more
-pub wrote-token : (table kinds before : List ℕ) (at from : ℕ) {i : ℕ} {now : List ℕ} {p : ℕ}
-    → Wrote (tokensOf table kinds) before at from i now p → (y : Token) → y ≡ readKind (getD kinds i 0) → {after : List ℕ} {q : ℕ}
-    → Writes now p (tokenText table y (i + 1)) after q → Wrote (tokensOf table kinds) before at from (i + 1) after q
-wrote-token table kinds before at from {i} {now} {p} w y e t =
-    let g = tokensOf table kinds in
-    let h = ap₂ (tokenText table) e (add-one i) in
-    wrote-then g before at from w (wrote-one g now p i (w .bound) (token-short table (readKind (getD kinds i 0)) (suc i)) (writes-as now p h t))
+-- one token more, by the class that the column at hand has for its state
+pub wrote-token : (ws : List ℕ) (W : ℕ) (kinds before : List ℕ) (at from : ℕ) {i : ℕ} {now : List ℕ} {p : ℕ}
+    → Wrote (tokensOf ws W kinds) before at from i now p → (table : List ℕ) → ColumnOf ws W ((i + 1) / 64) table → (y : Token) → y ≡ readKind (getD kinds i 0)
+    → {after : List ℕ} {q : ℕ} → Writes now p (tokenText (classIn table ((i + 1) % 64)) y) after q → Wrote (tokensOf ws W kinds) before at from (i + 1) after q
+wrote-token ws W kinds before at from {i} {now} {p} w table C y e t =
+    let g = tokensOf ws W kinds in
+    let s : 64 * ((i + 1) / 64) + (i + 1) % 64 ≡ suc i = omega arith in
+    let h = ap₂ tokenText (C ((i + 1) % 64) (omega arith) ∙ ap (classTo ws W) s) e in
+    wrote-then g before at from w (wrote-one g now p i (w .bound) (token-short (classTo ws W (suc i)) (readKind (getD kinds i 0))) (writes-as now p h t))

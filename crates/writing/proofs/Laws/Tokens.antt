@@ -3,7 +3,6 @@ use Prim.Native.Nat.{ℕ, _≤_}
 use mathlib.Core.List.{List}
 use native.Mathlib.Omega.{arith}
 use lib.ListN.{length}
-use Rattle.image_classes.specs.Classes.{classIn}
 use Rattle.writing_letters.proofs.Laws.Bounds.{letter-short}
 use Rattle.tokens.specs.Tokens.{repeatOf}
 use Rattle.tokens.specs.declared.token.Mark.the-variants.{Optional, Starred, Unmarked}
@@ -11,10 +10,10 @@ use Rattle.tokens.specs.declared.token.Token.{Token}
 use Rattle.tokens.specs.declared.token.Token.the-variants.{Bar, Close, Letter, Open}
 use Rattle.writing.specs.Work.{tokenText}
 
-pub token-short : (table : List ℕ) (y : Token) (state : ℕ) → length (tokenText table y state) ≤ 4096
-token-short table (Letter r) state = omega (arith, letter-short (classIn table state) (repeatOf r))
-token-short table Open state = omega arith
-token-short table Bar state = omega arith
-token-short table (Close Unmarked) state = omega arith
-token-short table (Close Optional) state = omega arith
-token-short table (Close Starred) state = omega arith
+pub token-short : (c : ℕ) (y : Token) → length (tokenText c y) ≤ 4096
+token-short c (Letter r) = omega (arith, letter-short c (repeatOf r))
+token-short c Open = omega arith
+token-short c Bar = omega arith
+token-short c (Close Unmarked) = omega arith
+token-short c (Close Optional) = omega arith
+token-short c (Close Starred) = omega arith

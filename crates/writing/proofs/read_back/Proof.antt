@@ -3,7 +3,7 @@ use mathlib.Core.Path.{refl}
 use borrow.Author.Needs.{needs}
 use Rattle.model.specs.Answers.{not-an-image}
 use Rattle.image_check.proofs.Laws.Found.{Found, found, not-found}
-use Rattle.writing.proofs.Laws.Answer.{found-tree, says-found, short}
+use Rattle.writing.proofs.Laws.Answer.{asked, found-tree, says-found}
 use Rattle.writing.proofs.read_back.Statement.{statement}
 use Rattle.writing.proofs.read_back.Tie as tie
 
@@ -30,11 +30,8 @@ tree-found c =
 own-marks-requires : tie.Need-own-marks-requires
 own-marks-requires c κs = found-tree (tree-found c)
 
-put-classes-requires : tie.Need-put-classes-requires
-put-classes-requires c κs = (tree-found (c .before .before) .placed, refl)
-
 write-requires : tie.Need-write-requires
-write-requires c κs = let o = c .before .before .before .before in short (tree-found (o .before)) (o .own-marks .result) (o .own-marks .ensures)
+write-requires c κs = asked (tree-found (c .before .before)) (c .before .own-marks .result) (c .before .own-marks .ensures)
 
 same-length : tie.Need-same-length
 same-length c = search needs
@@ -42,12 +39,10 @@ same-length c = search needs
 returns-2 : tie.Need-returns-2
 returns-2 c =
     let w = c .before .before .write in
-    let k = c .before .before .before .before .before in
-    let o = k .before .before in
+    let o = c .before .before .before .before in
     let a = o .before .before .before .before .before .before .before .before .args in
-    says-found (tree-found (o .before)) (o .own-marks .result) (o .own-marks .ensures) _ (o .own-marks .ok .1 .1 .0 .1 .0 .1) (k .put-classes .last .1 .1 .0) (k .put-classes .ensures)
-    (a .bytes .now) (w .last .1 .1 .0) (w .result) (w .ensures .0) (w .ensures .1)
+    says-found (tree-found (o .before)) (o .own-marks .result) (o .own-marks .ensures) _ (o .own-marks .ok .1 .1 .0 .1 .0 .1) (a .bytes .now)
+    (w .last .1 .1 .1 .0) (w .result) (w .ensures .0) (w .ensures .1)
 
 pub read-back-spec : {M : Type 1} → statement M
-read-back-spec =
-    tie.close (tie.spec check-requires enum-known-verdict enum-told returns own-marks-requires put-classes-requires write-requires same-length returns-2)
+read-back-spec = tie.close (tie.spec check-requires enum-known-verdict enum-told returns own-marks-requires write-requires same-length returns-2)

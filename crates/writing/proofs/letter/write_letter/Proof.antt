@@ -1,7 +1,7 @@
 -- The class, as the number that its four words make, and then the sign.
 use mathlib.Core.Path.{_≡_, ap, _∙_}
 use mathlib.Core.List.{List}
-use Prim.Native.Nat.{ℕ, _+_, _^_, _<_}
+use Prim.Native.Nat.{ℕ, _+_, _%_, _^_, _<_}
 use native.Mathlib.Omega.{arith}
 use lib.ListN.{length}
 use Rattle.model.specs.Models.Words.{value}
@@ -17,16 +17,16 @@ after-class : (class : ℕ) {at p : ℕ} → at < 2 ^ 30 → p ≡ at + length (
 after-class class h e = omega (arith, class-short class)
 
 class-of-requires : tie.Need-class-of-requires
-class-of-requires c κs = c .before .pre .0
+class-of-requires c κs = tt
 
 write-class-requires : tie.Need-write-class-requires
-write-class-requires c κs = c .before .before .before .pre .1
+write-class-requires c κs = c .before .before .before .pre
 
 write-sign-requires : tie.Need-write-sign-requires
 write-sign-requires c κs =
     let p = c .before .before .before .before .before .before .before .pre in
     let class = c .before .before .before .before .before .class-of .result in
-    after-class (value class) (p .1) (c .before .before .before .write-class .ensures .0)
+    after-class (value class) p (c .before .before .before .write-class .ensures .0)
 
 same-length : tie.Need-same-length
 same-length c = c .before .out2 .given ∙ c .before .before .before .before .before .out .given
@@ -35,7 +35,7 @@ returns : tie.Need-returns
 returns c =
     let o = c .before .before .before .before .before .before .before .before in
     let a = o .before .before .args in
-    writes-then (a .out .now) (a .at) (classWriting (classIn (a .classes .now) (a .state))) (repeatWriting (repeatOf (a .repeat)))
+    writes-then (a .out .now) (a .at) (classWriting (classIn (a .classes .now) (a .state % 64))) (repeatWriting (repeatOf (a .repeat)))
     (writes-as (a .out .now) (a .at) (ap (λ (w : List ℕ). classWriting (value w)) (o .class-of .ensures)) (c .before .before .before .before .before .before .write-class .ensures))
     (c .before .before .write-sign .ensures)
 

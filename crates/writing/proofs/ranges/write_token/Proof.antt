@@ -1,8 +1,9 @@
 -- By the token: a letter, the one byte of an open or a bar, or a close.
 use mathlib.Core.Path.{sym, ap}
 use mathlib.Core.List.{List}
-use Prim.Native.Nat.{ℕ}
+use Prim.Native.Nat.{ℕ, _%_}
 use borrow.Author.Needs.{needs}
+use Rattle.image_classes.specs.Classes.{classIn}
 use Rattle.tokens.specs.declared.token.Token.{Token}
 use Rattle.writing_letters.proofs.Laws.Texts.{writes-as, writes-one}
 use Rattle.writing.specs.Work.{tokenText}
@@ -11,7 +12,7 @@ use Rattle.writing.proofs.ranges.write_token.Tie as tie
 
 -- the text of any token at the place of this one
 abbrev text : tie.Start → Token → List ℕ
-text s y = tokenText (s .args .classes .now) y (s .args .state)
+text s y = tokenText (classIn (s .args .classes .now) (s .args .state % 64)) y
 
 enum-known-token : tie.Need-enum-known-token
 enum-known-token c = search needs

@@ -85,6 +85,7 @@ static int read_letter(struct reader *reader, uint64_t *class) {
         return reader->at++, read_class(reader, class);
     if (byte == '.') {
         class[0] = class[1] = class[2] = class[3] = ~(uint64_t)0;
+        clear_bit(class, 10);
         return reader->at++, 1;
     }
     if (byte == '\\')

@@ -5,12 +5,12 @@ static hs_database_t *database;
 static hs_scratch_t *scratch;
 static size_t found;
 
-// Why it can't run this rule, or 0.
+// Why it can't run this rule, or 0. Without a flag its dot is every byte but 10, as here.
 static const char *hyperscan_ready(void) {
     hs_compile_error_t *error = 0;
     if (database)
         return 0;
-    if (hs_compile(rule, HS_FLAG_DOTALL, HS_MODE_BLOCK, 0, &database, &error) != HS_SUCCESS)
+    if (hs_compile(rule, 0, HS_MODE_BLOCK, 0, &database, &error) != HS_SUCCESS)
         return "not-compiled";
     return hs_alloc_scratch(database, &scratch) == HS_SUCCESS ? 0 : "no-scratch";
 }

@@ -105,12 +105,15 @@ static size_t run_end(const uint64_t *class, size_t byte) {
     return byte;
 }
 
+// Whether it is every byte but 10.
+static int is_dot(const uint64_t *class) { return class[0] == ~((uint64_t)1 << 10) && (class[1] & class[2] & class[3]) == ~(uint64_t)0; }
+
 static void write_class(struct writer *writer, const uint64_t *class) {
-    size_t low = next_bit(class, 0, 256), high = run_end(class, low), next = next_bit(class, high + 1, 256);
-    if (low == 0 && high == 255) {
+    if (is_dot(class)) {
         put_byte(writer, '.');
         return;
     }
+    size_t low = next_bit(class, 0, 256), high = run_end(class, low), next = next_bit(class, high + 1, 256);
     if (low == high && next == 256) {
         write_byte(writer, low);
         return;

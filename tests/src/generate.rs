@@ -56,13 +56,20 @@ fn single(r: &mut Random, byte: u8, out: &mut Vec<u8>) {
     }
 }
 
-/// Most often one of the small letters that generated rules are made of.
+/// Most often one of the small letters that generated rules are made of, and often byte 10.
 pub fn any_byte(r: &mut Random) -> u8 {
-    match r.below(4) {
-        0 => r.below(256) as u8,
-        1 => *r.pick(SIGNS),
+    match r.below(8) {
+        0 => 10,
+        1 | 2 => r.below(256) as u8,
+        3 => *r.pick(SIGNS),
         _ => b'a' + r.below(6) as u8,
     }
+}
+
+fn range(r: &mut Random, low: u8, high: u8, out: &mut Vec<u8>) {
+    single(r, low, out);
+    out.push(b'-');
+    single(r, high, out);
 }
 
 fn class(r: &mut Random, out: &mut Vec<u8>) {
@@ -70,9 +77,7 @@ fn class(r: &mut Random, out: &mut Vec<u8>) {
     for _ in 0..r.between(1, 4) {
         let (a, b) = (any_byte(r), any_byte(r));
         if r.one_in(3) {
-            single(r, a.min(b), out);
-            out.push(b'-');
-            single(r, a.max(b), out);
+            range(r, a.min(b), a.max(b), out);
         } else {
             single(r, a, out);
         }
@@ -80,16 +85,31 @@ fn class(r: &mut Random, out: &mut Vec<u8>) {
     out.push(b']');
 }
 
+/// A class of every byte but one, which is 10 half of the time, or of that one too; its ranges in any order.
+fn wide_class(r: &mut Random, out: &mut Vec<u8>) {
+    let byte = if r.one_in(2) { 10 } else { r.below(256) as u8 };
+    let mut ranges: Vec<(u8, u8)> = byte.checked_sub(1).map(|high| (0, high)).into_iter().chain(byte.checked_add(1).map(|low| (low, 255))).collect();
+    if r.one_in(2) {
+        ranges.push((byte, byte));
+    }
+    let first = r.below(ranges.len());
+    ranges.rotate_left(first);
+    out.push(b'[');
+    ranges.into_iter().for_each(|(low, high)| range(r, low, high, out));
+    out.push(b']');
+}
+
 /// A letter with its repeat sign, which adds at most `most` states.
 fn letter(r: &mut Random, most: usize, out: &mut Vec<u8>) {
-    match r.below(10) {
-        0 => out.push(b'.'),
-        1 | 2 => class(r, out),
-        3 => {
+    match r.below(20) {
+        0 | 1 => out.push(b'.'),
+        2..=4 => class(r, out),
+        5 => wide_class(r, out),
+        6 | 7 => {
             let byte = any_byte(r);
             single(r, byte, out);
         }
-        4 => out.push(b'-'),
+        8 | 9 => out.push(b'-'),
         _ => out.push(b'a' + r.below(6) as u8),
     }
     let y = r.between(1, most);

@@ -2,6 +2,7 @@
 //! and texts for it.
 
 pub mod by_hand;
+pub mod dots;
 pub mod driver;
 pub mod generate;
 mod grown;
@@ -11,6 +12,7 @@ pub mod spellings;
 pub mod texts;
 pub mod watches;
 
+use dots::dotted;
 use grown::grown;
 use placed::placed;
 use std::fs;
@@ -20,13 +22,14 @@ use std::path::Path;
 pub type Runs = Vec<(usize, u64)>;
 
 /// The kinds of vectors in each folder, and the folders in the order in which their wishes landed.
-const KINDS: [(&str, &[&str]); 6] = [
+const KINDS: [(&str, &[&str]); 7] = [
     ("base", &["build", "readback", "match", "desk"]),
     ("wish-01", &["watch"]),
     ("wish-09", &["check", "propose"]),
     ("wish-03", &["build", "readback", "match", "desk", "watch", "check", "propose"]),
     ("wish-12", &["build", "readback", "match", "desk", "watch", "check", "propose"]),
     ("wish-02", &["build", "place", "desk"]),
+    ("wish-04", &["build", "readback", "match", "desk", "watch"]),
 ];
 
 /// One vector: where it stands, and its fields after the kind.
@@ -49,8 +52,8 @@ pub fn lines(folder: &Path, kind: &str) -> Vec<Vector> {
     all
 }
 
-/// The vectors of one kind in all folders: those that a later wish answers otherwise with that answer, images of six sections with the seventh, and
-/// builds and reports from before there were places with theirs.
+/// The vectors of one kind in all folders: those that a later wish answers otherwise with that answer, images of six sections with the seventh, builds
+/// and reports from before there were places with theirs, and builds and read backs from before the dot was without byte 10 with the answers of now.
 pub fn vectors(folder: &Path, kind: &str) -> Vec<Vector> {
     let mut all = lines(folder, kind);
     for (line, fields) in amended(folder).into_iter().filter(|(_, fields)| fields[0] == kind) {
@@ -61,7 +64,8 @@ pub fn vectors(folder: &Path, kind: &str) -> Vec<Vector> {
     let of = |(place, fields): Vector| {
         let lines = if is_before("wish-12", &place) { grown(kind, fields) } else { vec![fields] };
         let with_place = |fields| if is_before("wish-02", &place) { placed(kind, fields) } else { fields };
-        lines.into_iter().map(|fields| (place.clone(), with_place(fields))).collect::<Vec<_>>()
+        let with_dots = |fields| if is_before("wish-04", &place) { dotted(kind, fields) } else { vec![fields] };
+        lines.into_iter().map(with_place).flat_map(with_dots).map(|fields| (place.clone(), fields)).collect::<Vec<_>>()
     };
     all.into_iter().flat_map(of).collect()
 }
@@ -101,6 +105,14 @@ pub fn bytes(field: &str) -> Vec<u8> {
     assert!(hex.len() % 2 == 0, "odd hex: {field}");
     let once: Vec<u8> = (0..hex.len() / 2).map(|i| u8::from_str_radix(&hex[2 * i..2 * i + 2], 16).expect("hex")).collect();
     once.into_iter().cycle().take(length).collect()
+}
+
+/// Bytes as such a field.
+pub fn hex(bytes: &[u8]) -> String {
+    if bytes.is_empty() {
+        return "-".to_string();
+    }
+    bytes.iter().map(|byte| format!("{byte:02x}")).collect()
 }
 
 /// A file's bytes, or no file.

@@ -2,7 +2,7 @@
 //! finds, since the line doesn't say it.
 
 use crate::independent::{place, refusal};
-use crate::{bytes, file};
+use crate::{bytes, file, hex};
 
 /// A line of this kind with its place.
 pub fn placed(kind: &str, mut fields: Vec<String>) -> Vec<String> {
@@ -10,8 +10,7 @@ pub fn placed(kind: &str, mut fields: Vec<String>) -> Vec<String> {
     match kind {
         "build" => fields.push(if fields[2] == "2" { place_of(&fields[0]) } else { 0 }.to_string()),
         "desk" if bytes(&fields[2]) == b"refused 2\n" => {
-            let line = refusal(2, place_of(&fields[0])) + "\n";
-            fields[2] = line.bytes().map(|byte| format!("{byte:02x}")).collect();
+            fields[2] = hex((refusal(2, place_of(&fields[0])) + "\n").as_bytes());
         }
         _ => {}
     }

@@ -1,14 +1,22 @@
 //! Texts made by a fixed generator, in which a rule happens, nearly happens and does not.
 
 use crate::generate::{any_byte, Random};
-use crate::independent::{Item, Mark, Repeat};
+use crate::independent::{Class, Item, Mark, Repeat};
+
+/// A byte of a class, often byte 10 if it has that.
+fn byte_of(r: &mut Random, class: &Class) -> u8 {
+    let bytes: Vec<u8> = (0..=255).filter(|b| class.0[*b as usize]).collect();
+    if class.0[10] && r.one_in(6) {
+        return 10;
+    }
+    *r.pick(&bytes)
+}
 
 /// One way to spell a tree, each letter and each group repeated at most three times, an optional union left out one time in three.
 pub fn spelled(r: &mut Random, sequence: &[Item], out: &mut Vec<u8>) {
     for item in sequence {
         match item {
             Item::Letter(class, repeat) => {
-                let bytes: Vec<u8> = (0..=255).filter(|b| class.0[*b as usize]).collect();
                 let (least, most) = match repeat {
                     Repeat::Once => (1, 1),
                     Repeat::Option => (0, 1),
@@ -16,7 +24,7 @@ pub fn spelled(r: &mut Random, sequence: &[Item], out: &mut Vec<u8>) {
                     Repeat::Plus => (1, 3),
                 };
                 for _ in 0..r.between(least, most) {
-                    out.push(*r.pick(&bytes));
+                    out.push(byte_of(r, class));
                 }
             }
             Item::Union(Mark::Repeated, bodies) => (0..r.between(0, 3)).for_each(|_| spelled(r, &bodies[0], out)),

@@ -2,7 +2,7 @@
 //! spellings, that the one answer which the table gives is the vector's. `rt check` then computes them over a copy of the crate `model`.
 //! Usage: definitions VECTORS OUT
 
-use outside_checks::independent::{marked, parse, states, tree_of, Mark};
+use outside_checks::independent::{classes, marked, parse, states, tree_of, Class, Item, Mark};
 use outside_checks::spellings::{checks, proposals};
 use outside_checks::watches::{watches, WatchCall};
 use outside_checks::{bytes, expand, old_images, places, runs, vectors, word, Runs};
@@ -160,7 +160,13 @@ fn newest_mark(image: &Runs) -> Option<Mark> {
     Some(newest.unwrap_or(Mark::Unmarked))
 }
 
-/// Whether an image is too large, or comes with a wish and has not what is new with it: an optional union with wish 3, a repeated group with wish 12.
+/// Whether a tree has a letter of every byte, or of every byte but 10.
+fn has_wide_letter(tree: &[Item]) -> bool {
+    classes(tree).into_iter().any(|class| *class == Class::every() || *class == Class::dot())
+}
+
+/// Whether an image is too large, or comes with a wish and has not what is new with it: an optional union with wish 3, a repeated group with wish 12, one
+/// of the widest letters with wish 4.
 fn left_out(place: &str, image: &Runs) -> bool {
     let mark = newest_mark(image);
     let most = match mark {
@@ -173,7 +179,8 @@ fn left_out(place: &str, image: &Runs) -> bool {
         Some(Mark::Optional) => place.starts_with("wish-12"),
         None | Some(Mark::Repeated) => false,
     };
-    word(image, 1) > most || like_others
+    let shows_dot = || tree_of(&expand(image)).is_some_and(|tree| has_wide_letter(&tree));
+    word(image, 1) > most || like_others || place.starts_with("wish-04") && !shows_dot()
 }
 
 /// Whether a build is too large. A refusal for room (5) needs the image's length, and so its masks; one for states or depth (3, 4) the whole tree, which is
@@ -188,6 +195,12 @@ fn build_left_out(rule: &[u8], number: &str) -> bool {
     }
 }
 
+/// Whether a build comes with a wish and shows nothing that is new with it: with wish 2 a place, with wish 4 one of the widest letters.
+fn build_like_others(place: &str, rule: &[u8], number: &str) -> bool {
+    let shows_dot = || number == "0" && parse(rule).is_some_and(|tree| has_wide_letter(&tree));
+    place.starts_with("wish-02") && number != "2" || place.starts_with("wish-04") && !shows_dot()
+}
+
 /// What is claimed of an answer: its number, place and count, and what was lent as it is afterwards.
 fn answer(number: &str, place: &str, count: &str, after: &Runs) -> String {
     format!("{number} {place} {count} {}", list(after))
@@ -197,13 +210,12 @@ fn build_call(rule: &[u8], room: usize) -> String {
     format!("buildAnswer {} {}", numbers(rule.iter().map(|b| u64::from(*b))), before(room))
 }
 
-/// Builds, of those that come with wish 2 the ones that have a place; and of the lines of places those of short rules that are refused with 2, each rule
-/// once, and with no room at all, since 2 comes before 5.
+/// Builds; and of the lines of places those of short rules that are refused with 2, each rule once, and with no room at all, since 2 comes before 5.
 fn builds(folder: &Path, t: &mut Theorems) {
     let mut refused = HashSet::new();
     for (place, v) in vectors(folder, "build") {
         let (rule, room, number) = (bytes(&v[0]), v[1].parse::<usize>().unwrap(), v[2].as_str());
-        if build_left_out(&rule, number) || place.starts_with("wish-02") && number != "2" {
+        if build_left_out(&rule, number) || build_like_others(&place, &rule, number) {
             t.left_out += 1;
             continue;
         }

@@ -65,8 +65,8 @@ fn files(checks: &mut Checks) {
     let (a, aba) = (File::of("a"), File::of("aba"));
     checks.beside("document 01's example", &a, &aba, "a\ntotal 2\n1\n3\n");
     checks.beside("a closing newline in the rule", &File::of("a\n"), &aba, "refused 2 at 1\n");
-    checks.beside("a closing newline in the journal", &File::of("."), &File::of("aba\n"), ".\ntotal 4\n");
-    checks.beside("every byte in the journal", &File::of("."), &File::of((0..=255).collect::<Vec<u8>>()), ".\ntotal 256\n");
+    checks.beside("a closing newline in the journal", &File::of("[\\x00-\\xFF]"), &File::of("aba\n"), "[\\x00-\\xFF]\ntotal 4\n");
+    checks.beside("every byte in the journal", &File::of("[\\x00-\\xFF]"), &File::of((0..=255).collect::<Vec<u8>>()), "[\\x00-\\xFF]\ntotal 256\n");
     for nothing in [File::Missing, File::Folder, File::of("")] {
         checks.beside("no rule", &nothing, &aba, "refused 2 at 0\n");
         checks.beside("no journal", &File::of("b?"), &nothing, "b?\ntotal 1\n0\n");
@@ -78,6 +78,24 @@ fn files(checks: &mut Checks) {
 fn places(checks: &mut Checks) {
     for (rule, place) in PLACES {
         checks.beside("a place", &File::of(rule), &File::of("aba"), &format!("refused 2 at {place}\n"));
+    }
+}
+
+/// Within a record and across its end; written as a dot only where byte 10 alone is missing.
+fn dots(checks: &mut Checks) {
+    let journal = File::of("Monday\nTuesday\n");
+    let rules = [
+        (".", ".\ntotal 13\n"),
+        ("o.*d", "o.*d\ntotal 1\n4\n"),
+        ("o[\\x00-\\x09\\x0B-\\xFF]*d", "o.*d\ntotal 1\n4\n"),
+        ("o[\\x00-\\xFF]*d", "o[\\x00-\\xFF]*d\ntotal 2\n4\n12\n"),
+        ("o[\\x00-\\x08\\x0A-\\xFF]*d", "o[\\x00-\\x08\\x0A-\\xFF]*d\ntotal 2\n4\n12\n"),
+        ("y.T", "y.T\ntotal 0\n"),
+        ("y(.|\\x0A)T", "y(.|\\x0A)T\ntotal 1\n8\n"),
+        ("\\.", "\\.\ntotal 0\n"),
+    ];
+    for (rule, begins) in rules {
+        checks.beside("a dot", &File::of(rule), &journal, begins);
     }
 }
 
@@ -197,6 +215,7 @@ fn main() {
     checks.part("faults planted in copies of an answer", faults);
     checks.part("files", files);
     checks.part("places", places);
+    checks.part("dots", dots);
     checks.part("optional groups", optional_groups);
     checks.part("repeated groups", repeated_groups);
     checks.part("limits", limits);

@@ -118,6 +118,13 @@ fn every_place(checks: &mut Checks, what: &str, rule: &[u8], journal: &[u8], end
     }
 }
 
+/// Within a record alone, and across its end.
+fn dots(checks: &mut Checks) {
+    every_place(checks, "a dot", b"o.*d", b"Monday\nTuesday\n", &[4]);
+    every_place(checks, "every byte", b"o[\\x00-\\xFF]*d", b"Monday\nTuesday\n", &[4, 12]);
+    checks.says("a dot across a record's end", &File::of("y.T"), &File::of("y\nT"), "start 0\nend 3\n1 y state 1\n2 \\x0A state 2\n3 T state 3\n", "no\n");
+}
+
 /// Left out and taken; one in another; and a group that is the whole rule, which is left out at every place.
 fn optional_groups(checks: &mut Checks) {
     every_place(checks, "an optional group", b"O(flush|drain)?C", b"OCOflushCOrinseCOdrainC", &[2, 9, 23]);
@@ -220,7 +227,7 @@ fn limits(checks: &mut Checks) {
         checks.says("the last state changed", &rule, &file, &(record[..record.len() - 2].to_string() + "9\n"), "no\n");
     }
     let every: Vec<u8> = (0..=255).collect();
-    checks.explained("every byte", b".{256}", &every, 256);
+    checks.explained("every byte", b"[\\x00-\\xFF]{256}", &every, 256);
 }
 
 fn seeds(checks: &mut Checks) {
@@ -255,6 +262,7 @@ fn main() {
     let mut checks = Checks::new("explain", program, folder);
     checks.part("shipped examples", |c| examples(c, Path::new(shipped)));
     checks.part("the valve's record", |c| valve(c, Path::new(shipped)));
+    checks.part("dots", dots);
     checks.part("optional groups", optional_groups);
     checks.part("repeated groups", repeated_groups);
     checks.part("refusals", refusals);

@@ -147,6 +147,10 @@ fn open_pipes(checks: &mut Checks) {
     checks.note("the valve's second opening is seen at once", running.line() == "8");
     checks.note("and the total at the end", running.rest() == ["total 1"]);
     checks.at_once("place 0", b"b?", b"ab");
+    for (rule, places) in [("o.*d", &["4", "total 1"][..]), ("o[\\x00-\\xFF]*d", &["4", "12", "total 2"])] {
+        checks.fed("a record's end", rule.as_bytes(), &[b"Monday\nTue", b"sday\n"], &places.iter().map(|line| line.to_string()).collect::<Vec<_>>());
+        checks.at_once("a record's end", rule.as_bytes(), b"Monday\nTuesday\n");
+    }
     checks.at_once("place 0 of an optional group", b"(ab)?", b"ab");
     checks.at_once("an optional group", b"O(flush|drain)?C", b"OCOflushCOrinseCOdrainC");
     checks.at_once("place 0 of a repeated group", b"(ab)*", b"abab");
@@ -203,7 +207,9 @@ fn limits(checks: &mut Checks) {
     let output = command.output().expect("the program");
     checks.note("a journal that can't be read is at its end", output.stdout == b"0\ntotal 1\n");
     let every: Vec<u8> = (0..=255).collect();
-    checks.fed("every byte", b".", &[&every], &expected(b".", &every));
+    for rule in [".", "[\\x00-\\xFF]"] {
+        checks.fed("every byte", rule.as_bytes(), &[&every], &expected(rule.as_bytes(), &every));
+    }
     for length in [4095, 4096, 4097, 8192, 65535, 65536, 65537] {
         let journal = vec![b'a'; length];
         checks.fed(&format!("{length} bytes, each an end"), b".", &[&journal], &expected(b".", &journal));

@@ -2,9 +2,10 @@
 //! every cut of a short text, how many states nested `+` asks for, and places of rules by completion. Usage: itself
 
 use outside_checks::by_hand::PLACES;
+use outside_checks::dots::{rule_of_now, writing_of_now};
 use outside_checks::generate::{change, nested, other_mark, short_texts, sized, small, Random};
-use outside_checks::independent::{build, depth, ends, image, latest_starts, marked, parse, place, states, tree_of, writing};
-use outside_checks::independent::{Built, Edges, Item, Mark, Repeat, Sequence, LONGEST_IMAGE, MOST_DEPTH, MOST_STATES};
+use outside_checks::independent::{build, depth, ends, image, latest_starts, marked, parse, parse_with, place, states, tree_of, writing, writing_with};
+use outside_checks::independent::{Built, Class, Edges, Item, Mark, Repeat, Sequence, LONGEST_IMAGE, MOST_DEPTH, MOST_STATES};
 use outside_checks::texts::text;
 
 /// The tree of a rule from a seed below 2,000: small, deep and large ones. None that passes the limits.
@@ -31,6 +32,19 @@ fn round_trips() {
         cycles += usize::from(!marked(&tree, Mark::Repeated).is_empty());
     }
     println!("itself: {trees} trees, {cycles} of them with a repeated group, come back from their writing and from their image");
+}
+
+/// With the dot from before Wish 4 a tree comes back from its writing too; letter by letter as it is written now that is a rule of it, and its writing.
+fn writings_before() {
+    let (mut trees, every) = (0, Class::every());
+    for (_, tree) in (0..2000).filter_map(seeded) {
+        let (before, now) = (writing_with(&every, &tree), writing(&tree));
+        assert_eq!(parse_with(every.clone(), &before).as_ref(), Some(&tree), "{}", before.escape_ascii());
+        assert_eq!(parse(&rule_of_now(&before)).as_ref(), Some(&tree), "{}", before.escape_ascii());
+        assert_eq!(writing_of_now(&before), now, "{}", before.escape_ascii());
+        trees += usize::from(before != now);
+    }
+    println!("itself: {trees} of these trees were written otherwise before Wish 4, and come back from that writing too");
 }
 
 /// Words are no image, or that of another tree, which has a rule. Whether they are.
@@ -198,6 +212,7 @@ fn places_of_rules() {
 
 fn main() {
     round_trips();
+    writings_before();
     other_marks();
     edge_sections();
     short_ends();

@@ -1,6 +1,7 @@
 //! The independent program against the outside vectors: every number, count, word, byte and place. Usage: vectors VECTORS
 
-use outside_checks::independent::{begin, build, check, desk, match_ends, propose, read_back, step, LONGEST_IMAGE};
+use outside_checks::dots::writing_of_now;
+use outside_checks::independent::{begin, build, check, desk, match_ends, parse, parse_with, propose, read_back, step, Class, LONGEST_IMAGE};
 use outside_checks::spellings::{checks, proposals};
 use outside_checks::watches::watches;
 use outside_checks::{amended, bytes, expand, file, is_before, lines, old_images, places, runs, vectors};
@@ -21,6 +22,10 @@ fn main() {
     println!("vectors: {} lines of places agree with it", placed(folder));
     let [builds, reports] = unplaced(folder);
     println!("vectors: {builds} builds and {reports} reports from before Wish 2 are refused with 2, and take their place from it");
+    let [builds, read_backs] = moved(folder);
+    println!("vectors: {builds} builds and {read_backs} read backs from before Wish 4 have a dot, and were made with the answers of now");
+    let more = vectors(folder, "readback").len() - lines(folder, "readback").len();
+    println!("vectors: {more} of the read backs had too little room for that, and were made in their room and in more");
 }
 
 /// How many lines of places agree: number and place with room for every image.
@@ -37,6 +42,14 @@ fn placed(folder: &Path) -> usize {
 fn unplaced(folder: &Path) -> [usize; 2] {
     let older = |kind| vectors(folder, kind).into_iter().filter(|(line, _)| is_before("wish-02", line));
     [older("build").filter(|(_, v)| v[2] == "2").count(), older("desk").filter(|(_, v)| bytes(&v[2]).starts_with(b"refused 2 at ")).count()]
+}
+
+/// How many builds and read backs have other words or another writing since the dot is without byte 10.
+fn moved(folder: &Path) -> [usize; 2] {
+    let done = |kind| lines(folder, kind).into_iter().filter(|(line, v)| is_before("wish-04", line) && v[2] == "0");
+    let has_dot = |rule: &[u8]| parse(rule) != parse_with(Class::every(), rule);
+    let written_otherwise = |writing: Vec<u8>| writing_of_now(&writing) != writing;
+    [done("build").filter(|(_, v)| has_dot(&bytes(&v[0]))).count(), done("readback").filter(|(_, v)| written_otherwise(bytes(&v[4]))).count()]
 }
 
 /// How many images of six sections there are, which are all refused.

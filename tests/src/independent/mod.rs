@@ -19,12 +19,12 @@ pub use edges::Edges;
 pub use ends::ends;
 pub use image::image;
 pub use place::place;
-pub use rules::parse;
+pub use rules::{parse, parse_with};
 pub use spelling::{check, latest_starts, propose, proposed, Checker, Proposal, Starts};
-pub use states::{can_be_empty, depth, marked, states};
+pub use states::{can_be_empty, classes, depth, marked, states};
 pub use tree::tree_of;
 pub use watch::{begin, step, Watch, LAST_PLACE};
-pub use writing::writing;
+pub use writing::{writing, writing_with};
 
 #[derive(Clone, Copy, PartialEq, Eq, Debug)]
 pub enum Repeat {
@@ -80,6 +80,16 @@ impl Class {
     fn one(byte: u8) -> Class {
         let mut class = Class::none();
         class.0[byte as usize] = true;
+        class
+    }
+    /// Every byte, which `.` was before Wish 4.
+    pub fn every() -> Class {
+        Class([true; 256])
+    }
+    /// What `.` is: every byte but 10.
+    pub fn dot() -> Class {
+        let mut class = Class::every();
+        class.0[10] = false;
         class
     }
 }

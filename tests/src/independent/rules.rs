@@ -6,11 +6,17 @@ use super::{is_plain, Class, Item, Mark, Repeat, Sequence, MOST_STATES, SIGNS};
 struct Parser<'a> {
     rule: &'a [u8],
     at: usize,
+    dot: Class,
 }
 
 /// The tree of a rule, if the bytes are one. A tree of more than 512 states may lack some that `+` asks for, but is left with more than 512.
 pub fn parse(rule: &[u8]) -> Option<Sequence> {
-    let mut parser = Parser { rule, at: 0 };
+    parse_with(Class::dot(), rule)
+}
+
+/// The same with this class for `.`.
+pub fn parse_with(dot: Class, rule: &[u8]) -> Option<Sequence> {
+    let mut parser = Parser { rule, at: 0, dot };
     let alternatives = parser.alternatives()?;
     (parser.at == rule.len()).then(|| bracketed(alternatives))
 }
@@ -106,7 +112,7 @@ impl Parser<'_> {
         match self.peek()? {
             b'.' => {
                 self.at += 1;
-                Some(Class([true; 256]))
+                Some(self.dot.clone())
             }
             b'[' => {
                 self.at += 1;

@@ -43,6 +43,11 @@ pub fn marked(tree: &[Item], wanted: Mark) -> Vec<&[Sequence]> {
     tree.iter().flat_map(of).collect()
 }
 
+/// The classes of all letters of a tree.
+pub fn classes(tree: &[Item]) -> Vec<&Class> {
+    Parts::of(tree).letters.into_iter().map(|letter| letter.class).collect()
+}
+
 /// A letter from a state to the next.
 pub struct Letter<'a> {
     pub class: &'a Class,

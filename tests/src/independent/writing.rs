@@ -12,7 +12,10 @@ fn write_byte(byte: u8, out: &mut Vec<u8>) {
     }
 }
 
-fn write_class(class: &Class, out: &mut Vec<u8>) {
+fn write_class(dot: &Class, class: &Class, out: &mut Vec<u8>) {
+    if class == dot {
+        return out.push(b'.');
+    }
     let mut runs: Vec<(u8, u8)> = Vec::new();
     for byte in (0..=255u8).filter(|b| class.0[*b as usize]) {
         match runs.last_mut() {
@@ -21,7 +24,6 @@ fn write_class(class: &Class, out: &mut Vec<u8>) {
         }
     }
     match runs[..] {
-        [(0, 255)] => out.push(b'.'),
         [(low, high)] if low == high => write_byte(low, out),
         _ => {
             out.push(b'[');
@@ -38,11 +40,16 @@ fn write_class(class: &Class, out: &mut Vec<u8>) {
 }
 
 pub fn writing(sequence: &[Item]) -> Vec<u8> {
+    writing_with(&Class::dot(), sequence)
+}
+
+/// The same with `.` for this class.
+pub fn writing_with(dot: &Class, sequence: &[Item]) -> Vec<u8> {
     let mut out = Vec::new();
     for item in sequence {
         match item {
             Item::Letter(class, repeat) => {
-                write_class(class, &mut out);
+                write_class(dot, class, &mut out);
                 match repeat {
                     Repeat::Once => {}
                     Repeat::Option => out.push(b'?'),
@@ -51,7 +58,7 @@ pub fn writing(sequence: &[Item]) -> Vec<u8> {
                 }
             }
             Item::Union(mark, alternatives) => {
-                let written: Vec<Vec<u8>> = alternatives.iter().map(|a| writing(a)).collect();
+                let written: Vec<Vec<u8>> = alternatives.iter().map(|a| writing_with(dot, a)).collect();
                 out.push(b'(');
                 out.extend(written.join(&b'|'));
                 out.push(b')');

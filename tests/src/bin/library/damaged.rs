@@ -14,7 +14,7 @@ use outside_checks::independent::{depth, ends, image, marked, parse, states, wri
 use outside_checks::texts::text;
 
 pub fn all(checks: &mut Checks) {
-    checks.part("damage: every bit of ten images", every_bit);
+    checks.part("damage: every bit of eleven images", every_bit);
     checks.part("damage: every bit of seventh sections, and back edges moved", back_sections);
     checks.part("damage: images of rules from seeds", seeds);
     checks.part("damage: images of trees that no rule has or past the limits", ill_formed);
@@ -78,7 +78,7 @@ fn other_class(checks: &mut Checks, r: &mut Random, name: &str, tree: &Sequence)
 /// another.
 fn every_bit(checks: &mut Checks) {
     let mut tally = Tally::default();
-    for rule in ["a", "(a|b*)", "(a)?", "(a|b*c)?", "((a)?b+)?", "((a|b))?", "(a)?b?(c|d)?", "(a)*", "((a|b))*", "((a)*b?)*(c)?"] {
+    for rule in ["a", ".", "(a|b*)", "(a)?", "(a|b*c)?", "((a)?b+)?", "((a|b))?", "(a)?b?(c|d)?", "(a)*", "((a|b))*", "((a)*b?)*(c)?"] {
         let mut damage = Damage::of(checks, &mut tally, rule.to_string(), &tree_of(rule.as_bytes()));
         for place in 0..damage.image.len() {
             (0..64).for_each(|bit| damage.flipped(place, bit));

@@ -1,12 +1,13 @@
 //! The library for C, called through tests/driver.c: the outside vectors, document 01's examples and limits, generated rules beside the independent
-//! program, texts in cuttings, spellings, and damaged images; number, count and everything lent. Usage: library VECTORS DRIVER (tests/library makes the
-//! driver)
+//! program, images from before a dot was without byte 10, texts in cuttings, spellings, and damaged images; number, count and everything lent.
+//! Usage: library VECTORS EXAMPLES DRIVER (tests/library makes the driver)
 
 mod build;
 mod checks;
 mod cuttings;
 mod damage;
 mod damaged;
+mod dots;
 mod masks;
 mod mutations;
 mod match_ends;
@@ -27,8 +28,8 @@ use std::process::exit;
 
 fn main() {
     let arguments: Vec<String> = std::env::args().collect();
-    let [_, folder, driver] = &arguments[..] else {
-        eprintln!("usage: library VECTORS DRIVER");
+    let [_, folder, examples, driver] = &arguments[..] else {
+        eprintln!("usage: library VECTORS EXAMPLES DRIVER");
         exit(2);
     };
     let mut checks = Checks::start(driver);
@@ -37,6 +38,7 @@ fn main() {
     read_back::all(&mut checks, Path::new(folder));
     optional::all(&mut checks);
     repeated::all(&mut checks);
+    dots::all(&mut checks, Path::new(examples));
     match_ends::all(&mut checks, Path::new(folder));
     watch::all(&mut checks);
     cuttings::all(&mut checks);

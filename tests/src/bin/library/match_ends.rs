@@ -35,7 +35,7 @@ fn finds(checks: &mut Checks, what: &str, rule: &[u8], text: &[u8], ends: &[u32]
 }
 
 /// Rules, texts and their ends.
-pub const EXAMPLES: [(&str, &str, &[u32]); 29] = [
+pub const EXAMPLES: [(&str, &str, &[u32]); 35] = [
     ("a", "aba", &[1, 3]),
     ("b?", "", &[0]),
     ("b?", "ab", &[0, 1, 2]),
@@ -50,6 +50,13 @@ pub const EXAMPLES: [(&str, &str, &[u32]); 29] = [
     ("a((b|c)d|e)f", "abdfacdfaef", &[4, 8, 11]),
     ("a{64}b", "", &[]),
     ("(a|b)(c|d)", "acbdad", &[2, 4, 6]),
+    // the dot, which takes all bytes but 10
+    (".", "a\nb", &[1, 3]),
+    ("[\\x00-\\xFF]", "a\nb", &[1, 2, 3]),
+    ("(.|\\x0A)", "a\nb", &[1, 2, 3]),
+    ("\\.", "a\n.", &[3]),
+    ("a.*c", "ab\nbcac", &[7]),
+    ("a[\\x00-\\xFF]*c", "ab\nbcac", &[5, 7]),
     // optional groups
     ("(ab)?", "ab", &[0, 1, 2]),
     ("x(ab)?y", "xyxabxay", &[2]),

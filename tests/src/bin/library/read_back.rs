@@ -22,7 +22,7 @@ pub fn all(checks: &mut Checks, folder: &Path) {
 // ---- images read back in every room
 
 /// An image of a tree with this plain writing: room for more, just enough, one byte short, none.
-fn rooms(checks: &mut Checks, what: &str, image: &[u64], plain: &[u8]) {
+pub fn rooms(checks: &mut Checks, what: &str, image: &[u64], plain: &[u8]) {
     for room in [plain.len() + 9, plain.len()] {
         checks.read_back(what, image, &Answer::of(0, plain, room));
     }

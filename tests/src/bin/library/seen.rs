@@ -1,7 +1,7 @@
 //! What kinds of trees and calls there were, so that none goes missing.
 
 use crate::checks::Checks;
-use outside_checks::independent::{can_be_empty, depth, marked, states, Item, Mark};
+use outside_checks::independent::{can_be_empty, classes, depth, marked, states, Class, Item, Mark};
 
 /// How many there were of each kind.
 #[derive(Default)]
@@ -20,9 +20,13 @@ impl Seen {
         self.add(kind, usize::from(is_one));
     }
 
-    /// A tree, by its size, its optional unions and its repeated groups.
+    /// A tree, by its size, its widest letters, its optional unions and its repeated groups.
     pub fn tree(&mut self, tree: &[Item]) {
-        let (optional, repeated) = (marked(tree, Mark::Optional), marked(tree, Mark::Repeated));
+        let (classes, optional, repeated) = (classes(tree), marked(tree, Mark::Optional), marked(tree, Mark::Repeated));
+        let mut without = classes.iter().map(|class| (0..256).filter(|byte| !class.0[*byte]).collect::<Vec<_>>());
+        self.note("with a dot", classes.contains(&&Class::dot()));
+        self.note("with a letter of every byte", classes.contains(&&Class::every()));
+        self.note("of every byte but another than 10", without.any(|bytes| bytes.len() == 1 && bytes[0] != 10));
         self.note("with an optional union of one alternative", optional.iter().any(|all| all.len() == 1));
         self.note("of several", optional.iter().any(|all| all.len() > 1));
         self.note("with a repeated group", !repeated.is_empty());

@@ -104,7 +104,7 @@ fn seeds(checks: &mut Checks) {
         let mut r = Random::new(seed);
         let (size, length) = ([40, 100, 240][r.below(3)], [300, 1000, 5000, r.between(6000, 20_000)][r.below(4)]);
         let [first, last] = [0, 1].map(|_| if seed % 2 == 0 { sized(&mut r, size, 2) } else { small(&mut r) });
-        let rule = [b"\\x01(", &first[..], b").*(", &last, b")\\x02"].concat();
+        let rule = [b"\\x01(", &first[..], b")[\\x00-\\xFF]*(", &last, b")\\x02"].concat();
         let [first, last] = [first, last].map(|rule| parse(&rule).expect("a rule"));
         let text = between(&mut r, &first, length, &last);
         spelled(checks, &rule, &[&text], &mut |s| {

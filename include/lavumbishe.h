@@ -26,7 +26,7 @@
  *    byte of a rule, text or writing 1. An area to be written must not overlap any other. A pointer must be aligned for its type and must not be
  *    null, also where the length is 0. Nothing may change an area during a call.
  *  - Stack, in bytes, and in brackets the most that the tests have measured on x86-64 (docs/SPEED.md, "Stack"): build 1,048,576 (738,600), since the
- *    readers nest as deep as the rule's brackets may; read back 16,384 (13,300); match, begin and step 65,536 (18,500); check 65,536 (18,500);
+ *    readers nest as deep as the rule's brackets may; read back 16,384 (14,900); match, begin and step 65,536 (18,500); check 65,536 (18,500);
  *    propose 131,072 (107,100). Build may be left to the desk: a panel that gets images needs match alone, or begin and step.
  *  - memcpy, memmove and memset, which the compiler may call. Nothing else is called.
  *
@@ -39,7 +39,7 @@
  *    that were found ("The check alone").
  *  - Match and step, for each byte besides: 22 for the smallest rules to 2,526 for 500 states eight deep; with repeated groups, where cycles go round
  *    at every byte, up to 5,922 ("Match and step", "Cycles").
- *  - Build of a rule of 1,024 bytes: at most 1,022,000. Read back: 21,600 for the rule `a`, at most 19,833,600 ("Build, read back ..").
+ *  - Build of a rule of 1,024 bytes: at most 1,022,000. Read back: 13,200 for the rule `a`, at most 16,042,600 ("Build, read back ..").
  *  - Check and propose: by the bytes from start to end; for 65,535 bytes and 512 states up to 1,460 million and 1,150 million ("Spellings").
  */
 #ifndef LAVUMBISHE_H

@@ -1,5 +1,5 @@
 //! The examples of docs/RULES.md against the independent program. A table of them is an indented block: its first line names the columns, of which the
-//! first is the rule, and two blanks or more stand between the cells. Usage: rules docs/RULES.md
+//! first is the rule, and two blanks or more stand between the cells. In a text `\n` stands for byte 10. Usage: rules docs/RULES.md
 
 use outside_checks::independent::{build, depth, ends, image, parse, states, writing, LONGEST_IMAGE};
 
@@ -14,7 +14,8 @@ fn computed(rule: &[u8], text: Option<&str>, column: &str) -> Option<String> {
         "number" => Some(build(rule, LONGEST_IMAGE).number.to_string()),
         "place" => Some(build(rule, LONGEST_IMAGE).place.to_string()),
         "ends" => {
-            let places: Vec<String> = ends(&tree, text.expect("a text").as_bytes()).iter().map(u32::to_string).collect();
+            let text = text.expect("a text").replace("\\n", "\n");
+            let places: Vec<String> = ends(&tree, text.as_bytes()).iter().map(u32::to_string).collect();
             Some(if places.is_empty() { "none".to_string() } else { places.join(", ") })
         }
         "rule" | "text" | "why" => None,

@@ -86,6 +86,13 @@ fn show_repeated() {
     show(b"((a)+)+", b"aab");
 }
 
+// Two records: a dot takes every byte but 10.
+fn show_dots() {
+    show(b"O.*S", b"OPS\nOP\nS");
+    show(b"O[\\x00-\\xFF]*S", b"OPS\nOP\nS");
+    show(b"[\\x0B-\\xFF\\x00-\\x09]", b"a\n");
+}
+
 fn show_refusals() {
     show(b"", b"");
     show(b"()", b"");
@@ -113,6 +120,7 @@ fn main() {
     show_letters();
     show_unions();
     show_repeated();
+    show_dots();
     show_refusals();
     show_places();
 }

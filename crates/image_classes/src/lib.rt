@@ -3,7 +3,7 @@
 // of one column, 64 states.
 use image_sections::Sections;
 ghost use mathlib.Core.Path.{_≡_};
-ghost use Prim.Native.Nat.{_-_, _/_, _%_, _≤_, _<_};
+ghost use Prim.Native.Nat.{_-_, _/_, _%_, _<_};
 ghost use Rattle.image_sections.specs.Sections.{Placed};
 ghost use Rattle.image_classes.specs.Classes.{ColumnOf, fourOf, Table, With};
 

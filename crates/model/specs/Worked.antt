@@ -1,5 +1,5 @@
--- THE WORKED EXAMPLES OF DOCUMENT 01 ("Measured examples"), and some of document 02's optional and repeated groups (Wishes 3 and 12), the dot (Wish 4), places (Wish 2) and spellings (Wish 9),
--- as rows of a rule and what is claimed of it.
+-- THE WORKED EXAMPLES OF DOCUMENT 01 ("Measured examples"), and some of document 02's optional and repeated groups (Wishes 3 and 12), the dot (Wish 4),
+-- places (Wish 2) and spellings (Wish 9), as rows of a rule and what is claimed of it.
 -- Nothing here is believed: proofs/Examples.antt proves every row.
 use mathlib.Core.Path.{_≡_}
 use mathlib.Core.Bool.{Bool}

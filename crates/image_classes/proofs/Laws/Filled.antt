@@ -16,7 +16,7 @@ use lib.Pow.{pow-lt}
 use lib.Seq.{getD-drop, getD-take}
 use Rattle.model.specs.Bits.{bit}
 use Rattle.model.specs.Models.Sections.{bitOf, chunk, lettersAt, lettersIn}
-use Rattle.model.specs.Models.Words.{Fit, putBit, value}
+use Rattle.model.specs.Models.Words.{Fit, putBit}
 use Rattle.model.proofs.Image.SameBits.{fit-drop, fit-take}
 use Rattle.model.proofs.Laws.Bits.{bit-zero}
 use Rattle.model.proofs.Laws.Bool.{le-or-lt}

@@ -2,7 +2,6 @@
 use mathlib.Core.Path.{_≡_, subst}
 use Prim.Native.Nat.{ℕ, _-_, _/_}
 use native.Mathlib.Omega.{arith}
-use borrow.Author.Needs.{needs}
 use Rattle.image_sections.proofs.Laws.Within.{within}
 use Rattle.image_classes.specs.Classes.{ColumnOf}
 use Rattle.image_classes.proofs.move_on.Statement.{statement}

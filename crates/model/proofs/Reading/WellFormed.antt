@@ -14,7 +14,7 @@ use Rattle.model.specs.Lists.{within}
 use Rattle.model.specs.Bits.{bit}
 use Rattle.model.specs.Bytes.{byte, IsEscape, number, plain, sign, signs}
 use Rattle.model.specs.Tree.{Alts, end, glue, last, letter, Mark, more, once, option, optional, plus, Repeat, Seq, star, starred, union, unmarked}
-use Rattle.model.specs.Grammar.{absent, also, AltsWith, any-number, asterisk, beside, braces, bracket, class, copies, cross, cycle, dot, dotClass, escape, escaped, group, grouped, IsMark, IsMember, IsMembers, IsRule, IsSign, IsSingle, item, ItemWith, itself, LetterWith, lone, member, nothing, only, plain-byte, query, question, range, repeated, rule, RuleWith, SeqWith, Sign, single, some-number, span, then, times}
+use Rattle.model.specs.Grammar.{absent, also, AltsWith, any-number, asterisk, beside, braces, bracket, class, copies, cross, cycle, dot, escape, escaped, group, grouped, IsMark, IsMember, IsMembers, IsRule, IsSign, IsSingle, item, ItemWith, itself, LetterWith, lone, member, nothing, only, plain-byte, query, question, range, repeated, rule, RuleWith, SeqWith, Sign, single, some-number, span, then, times}
 use Rattle.model.specs.Edges.{altsEmpty}
 use Rattle.model.specs.Models.Tokens.{several}
 use Rattle.model.proofs.Laws.Bits.{bit-some}

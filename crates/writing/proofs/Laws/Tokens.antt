@@ -1,6 +1,5 @@
 -- A TOKEN'S TEXT is at most 4096 bytes long: none is longer than a class's with a sign.
 use Prim.Native.Nat.{ℕ, _≤_}
-use mathlib.Core.List.{List}
 use native.Mathlib.Omega.{arith}
 use lib.ListN.{length}
 use Rattle.writing_letters.proofs.Laws.Bounds.{letter-short}

@@ -3,7 +3,6 @@ use mathlib.Core.Path.{_∙_}
 use mathlib.Core.List.{List}
 use Prim.Native.Nat.{ℕ}
 use borrow.Author.Needs.{needs}
-use native.Mathlib.Omega.{arith}
 use Rattle.writing.specs.Work.{rangeText}
 use Rattle.writing.proofs.Laws.Whole.{no-room, nothing-lent, room}
 use Rattle.writing.proofs.write.Statement.{statement}

@@ -2,17 +2,18 @@
 -- ones whatever the dot is, since the writing of each is a rule of it; and only two classes are written otherwise than before.
 use mathlib.Core.Path.{_≡_, refl, sym, ap, ap₂, _∙_}
 use mathlib.Core.Logic.{_↔_}
-use mathlib.Core.Bool.{Bool, cond}
-use mathlib.Core.List.{List, [], _∷_, _++_}
+use mathlib.Core.Bool.{Bool}
+use mathlib.Core.List.{List, _∷_, _++_}
 use Prim.Native.Nat.{ℕ}
-use lib.Dec.{eqb, ltb, eqb→eq, lit<, lit≤}
-use Rattle.model.specs.Bytes.{byte, bytes}
+use lib.Dec.{eqb, eqb→eq, lit<, lit≤}
+use Rattle.model.specs.Bytes.{byte}
 use Rattle.model.specs.Tree.{Alts, end, last, letter, more, Tree, union}
 use Rattle.model.specs.Grammar.{dotClass}
-use Rattle.model.specs.Writing.{altsBy, altsWriting, byteWriting, classWith, classWriting, markWriting, outside, repeatWriting, sole, writing, writtenBy}
+use Rattle.model.specs.Writing.{altsBy, altsWriting, classWith, classWriting, markWriting, outside, repeatWriting, sole, writing, writtenBy}
 use Rattle.model.specs.Answers.{ImageOf}
 use Rattle.model.specs.Before.{dotBefore, ImageBefore, rewritten}
 use Rattle.model.proofs.Laws.Bool.{cond-cases, is-false}
+use Rattle.model.proofs.Reading.ClassWritten.{chosen}
 use Rattle.model.proofs.Reading.WellFormed.{rule-well, well-with}
 use Rattle.model.proofs.Reading.Written.{written, written-with}
 
@@ -30,11 +31,7 @@ class-now : (c : ℕ) → classWriting c ≡ rewritten c
 class-now c =
     cond-cases (λ w. classWriting c ≡ w) (eqb c dotBefore) (λ t. ap classWriting (eqb→eq c dotBefore t)) (λ f.
     cond-cases (λ w. classWriting c ≡ w) (eqb c dotClass) (λ t. ap classWriting (eqb→eq c dotClass t)) (λ g.
-    ap by (is-false (eqb c dotClass) g ∙ sym (is-false (eqb c dotBefore) f))))
-  where
-    -- its writing, by whether it is the dot's
-    by : Bool → List ℕ
-    by v = cond (ltb (sole 256 c 0) 256) (byteWriting (sole 256 c 0)) (cond v (bytes ".") ((byte "[" ∷ outside 256 c 0) ++ (byte "]" ∷ [])))
+    ap (λ (dot : Bool). chosen (sole 256 c 0) dot (outside 256 c 0)) (is-false (eqb c dotClass) g ∙ sym (is-false (eqb c dotBefore) f))))
 
 -- SO IN A TREE'S WRITING
 mutual

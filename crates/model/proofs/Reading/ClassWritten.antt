@@ -164,12 +164,15 @@ sole-is : (n c b : ℕ) → sole n c b < 256 → c ≡ 2 ^ sole n c b
 sole-is zero c b = λ h. absurd (omega arith)
 sole-is (suc n) c b = cond-cases (λ x. x < 256 → c ≡ 2 ^ x) (eqb c (2 ^ b)) (λ t h. eqb→eq c (2 ^ b) t) (λ t. sole-is n c (suc b))
 
+-- the writing of a class by its only byte, whether it is the dot's, and its runs
+abbrev pub chosen : (b : ℕ) (dots : Bool) (runs : List ℕ) → List ℕ
+chosen b dots runs = cond (ltb b 256) (byteWriting b) (cond dots (bytes ".") ((byte "[" ∷ runs) ++ (byte "]" ∷ [])))
+
 -- THE WRITING OF A CLASS IS A LETTER OF THAT CLASS, whatever the dot's is
 pub class-letter : (dots c : ℕ) → Class c → LetterWith dots (classWith dots c) c
 class-letter dots c h = choose (sole 256 c 0) 256 (sole-is 256 c 0) (all-members c (outside 256 c 0) h (outside-rest 256 c 0 refl))
   where
-    choose : (b n : ℕ) → (b < 256 → c ≡ 2 ^ b) → IsMembers (outside n c 0) c
-        → LetterWith dots (cond (ltb b 256) (byteWriting b) (cond (eqb c dots) (bytes ".") ((byte "[" ∷ outside n c 0) ++ (byte "]" ∷ [])))) c
+    choose : (b n : ℕ) → (b < 256 → c ≡ 2 ^ b) → IsMembers (outside n c 0) c → LetterWith dots (chosen b (eqb c dots) (outside n c 0)) c
     choose b n s m =
         cond-cases (λ w. LetterWith dots w c) (ltb b 256) (λ t. let k = ltb→lt b 256 t in rw (s k) (byte-letter b k)) (λ t.
         cond-cases (λ w. LetterWith dots w c) (eqb c dots) (λ e. dot refl (eqb→eq c dots e)) (λ e. class refl m))

@@ -11,8 +11,8 @@ use Rattle.model.specs.Grammar.{dotClass}
 use Rattle.model.specs.Tree.{once, option, plus, Repeat, star}
 use Rattle.model.specs.Writing.{classWriting, inside, outside, repeatWriting, runWriting, sole}
 use Rattle.model.proofs.Laws.Bool.{cond-cases}
+use Rattle.model.proofs.Reading.ClassWritten.{chosen}
 use Rattle.writing_letters.proofs.Laws.Bytes.{byte-short, run-short}
-use Rattle.writing_letters.proofs.Laws.Classes.{chosen}
 
 mutual
   pub outside-short : (n c b : ℕ) → length (outside n c b) ≤ 9 * n

@@ -7,13 +7,14 @@ use Prim.Native.Nat.{ℕ, zero, suc, _+_, _^_, _≤_, _<_}
 use native.Mathlib.Nat.{eq-or-lt-of-le}
 use native.Mathlib.Omega.{arith}
 use borrow.Author.Tests.{eq-eqb, eqb-true, ne-eqb}
-use lib.Dec.{eqb, ltb}
+use lib.Dec.{eqb}
 use lib.Pow.{pow-lt}
 use Rattle.model.specs.Bits.{bit}
 use Rattle.model.specs.Bytes.{byte, bytes}
 use Rattle.model.specs.Grammar.{dotClass}
 use Rattle.model.specs.Writing.{byteWriting, classWriting, outside, sole}
 use Rattle.model.proofs.Laws.Bool.{le-false, le-or-lt, le-true}
+use Rattle.model.proofs.Reading.ClassWritten.{chosen}
 use Rattle.model.proofs.Words.Bits.{bit-ext}
 use Rattle.model.proofs.Words.Put.{bit-power}
 use Rattle.writing_letters.proofs.Laws.Runs.{All}
@@ -56,9 +57,6 @@ sole-none zero c b d N = refl
 sole-none (suc n) c b d N = rw (ne-eqb c (2 ^ b) (N b (omega arith))) (sole-none n c (suc b) (omega arith) N)
 
 -- ---- THE THREE WRITINGS, over the byte that was found, whether the class is the dot's, and the runs
-abbrev pub chosen : (b : ℕ) (dot : Bool) (runs : List ℕ) → List ℕ
-chosen b dot runs = cond (ltb b 256) (byteWriting b) (cond dot (bytes ".") ((byte "[" ∷ runs) ++ (byte "]" ∷ [])))
-
 chosen-one : (b : ℕ) (dot : Bool) (runs : List ℕ) → b < 256 → chosen b dot runs ≡ byteWriting b
 chosen-one b dot runs h = rw (le-true (suc b) 256 h)
 

@@ -6,7 +6,7 @@ use mathlib.Core.Bool.{Bool}
 use mathlib.Core.List.{List, _∷_, _++_}
 use Prim.Native.Nat.{ℕ}
 use lib.Dec.{eqb, eqb→eq, lit<, lit≤}
-use Rattle.model.specs.Bytes.{byte}
+use Rattle.model.specs.Bytes.{byte, bytes}
 use Rattle.model.specs.Tree.{Alts, end, last, letter, more, Tree, union}
 use Rattle.model.specs.Grammar.{dotClass}
 use Rattle.model.specs.Writing.{altsBy, altsWriting, classWith, classWriting, markWriting, outside, repeatWriting, sole, writing, writtenBy}
@@ -27,10 +27,16 @@ still-image words t = (
 )
 
 -- THE CLASS OF ALL 256 BYTES AND THAT OF THE 255 ARE WRITTEN OTHERWISE, and no other
+pub all-written : classWriting dotBefore ≡ bytes "[\\x00-\\xFF]"
+all-written = refl
+
+pub dot-written : classWriting dotClass ≡ bytes "."
+dot-written = refl
+
 class-now : (c : ℕ) → classWriting c ≡ rewritten c
 class-now c =
-    cond-cases (λ w. classWriting c ≡ w) (eqb c dotBefore) (λ t. ap classWriting (eqb→eq c dotBefore t)) (λ f.
-    cond-cases (λ w. classWriting c ≡ w) (eqb c dotClass) (λ t. ap classWriting (eqb→eq c dotClass t)) (λ g.
+    cond-cases (λ w. classWriting c ≡ w) (eqb c dotBefore) (λ t. ap classWriting (eqb→eq c dotBefore t) ∙ all-written) (λ f.
+    cond-cases (λ w. classWriting c ≡ w) (eqb c dotClass) (λ t. ap classWriting (eqb→eq c dotClass t) ∙ dot-written) (λ g.
     ap (λ (dot : Bool). chosen (sole 256 c 0) dot (outside 256 c 0)) (is-false (eqb c dotClass) g ∙ sym (is-false (eqb c dotBefore) f))))
 
 -- SO IN A TREE'S WRITING

@@ -1,4 +1,7 @@
 // What the operations answer: done, with what they give by value, or a refusal. The numbers of the documents' tables stand here, and nowhere else in code.
+
+#![tactic(auto)]
+
 ghost use Rattle.std.specs.Prelude.{◌≡◌};
 ghost use Rattle.answers.specs.Answers.{number_of, place_of};
 

@@ -1,4 +1,7 @@
 // The desk program (document 01): reads the files `rule` and `journal` of the current folder whole, every byte counting, and writes its report.
+
+#![tactic(auto)]
+
 use desk_report::report;
 use program_files::read_file;
 

@@ -1,4 +1,7 @@
 // What the desk program writes (document 01, "The desk program"), from the bytes of its two files: every check is made before the first byte is written.
+
+#![tactic(auto)]
+
 ghost use Rattle.std.specs.Prelude.{◌≤◌, length, take};
 ghost use Rattle.program_lines.specs.Lines.{Reports};
 ghost use Rattle.program_lines.specs.Work.{PutAt};

@@ -1,5 +1,8 @@
 // The examples of document 01, and those of repeated groups and of places, through build, read back and match: what the desk program writes about a rule
 // and a text, and the masks that the document prints.
+
+#![tactic(auto)]
+
 ghost use Rattle.std.specs.Prelude.{◌+◌, ◌≤◌, ◌<◌};
 
 use desk_report::report;

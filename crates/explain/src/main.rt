@@ -1,5 +1,8 @@
 // The program `explain` (document 02, Wish 9): which bytes of a journal did it. Reads the files `rule` and `journal` of the current folder, and from standard
 // input either the line `place N`, for which it writes a record of the proposal, or such a record, of which it says `yes` or `no`.
+
+#![tactic(auto)]
+
 mod reading;
 mod record;
 

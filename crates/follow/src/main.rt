@@ -1,5 +1,8 @@
 // The program `follow` (document 02, Wish 1): reads the file `rule` of the current folder and then a journal from standard input as it arrives, and writes
 // each end's place as soon as it is found; at the end of the journal the total.
+
+#![tactic(auto)]
+
 ghost use Rattle.io.specs.Counts.{IsPrefixLen};
 
 use follow_report::{Watching, close, hear, open};

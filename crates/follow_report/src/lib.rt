@@ -1,5 +1,8 @@
 // What the program `follow` writes (document 02, Wish 1), from the bytes of its rule and of the stretches in which its journal arrives: at the opening, for
 // each stretch, and at the end.
+
+#![tactic(auto)]
+
 ghost use Rattle.std.specs.Prelude.{◌≡◌, ◌≤◌, length, take};
 ghost use Rattle.program_lines.specs.Lines.{Reports, total_text};
 ghost use Rattle.follow_report.specs.Follow.{Begins, Hears, Opens};

@@ -1,6 +1,8 @@
 // The image, written: document 01, "The image". A tree comes as its tokens, five words for each, is laid out (crate tokens_masks), and goes
 // into the words lent, section after section. `tape` has the tape, `letter_masks` the masks of bytes, `sections` the writing.
 
+#![tactic(auto)]
+
 mod letter_masks;
 mod sections;
 mod tape;

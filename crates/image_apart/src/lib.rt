@@ -1,6 +1,8 @@
 // Take apart: of any words at all their header, and, where they have one, the tape that the masks show (`marks`). Nothing is read at a place before the
 // length is known to reach it.
 
+#![tactic(auto)]
+
 mod marks;
 
 ghost use Rattle.std.specs.Prelude.{◌≡◌};

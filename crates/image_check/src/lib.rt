@@ -2,6 +2,8 @@
 // nothing before they are checked; the tape is taken from the masks (the crate `image_apart` does both), laid out, and what is laid out is compared with
 // the words (`compare`). What was compared is what is run: nothing is copied and then trusted.
 
+#![tactic(auto)]
+
 mod compare;
 
 ghost use Rattle.std.specs.Prelude.{◌≡◌};

@@ -1,6 +1,9 @@
 // The classes of an image's letters: for each state the bytes that lead to it. A mask of the letters has a bit for each state that its byte leads to. They are
 // gone over by columns, one word of every mask, and in a word only the bits that are set are looked at. Whoever goes from state to state keeps the classes
 // of one column, 64 states.
+
+#![tactic(auto)]
+
 ghost use Rattle.std.specs.Prelude.{◌≡◌, ◌-◌, ◌/◌, ◌%◌, ◌<◌};
 ghost use Rattle.image_sections.specs.Sections.{Placed};
 ghost use Rattle.image_classes.specs.Classes.{ColumnOf, four_of, Table, With};

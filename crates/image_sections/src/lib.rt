@@ -1,5 +1,8 @@
 // Where the words of an image lie (document 01, "The image"): from the numbers of its shape the place of each section, in one record by value; the places of a
 // byte's masks; and the header of any words at all, read in one place. Only the shape's own words are written elsewhere, by `image`.
+
+#![tactic(auto)]
+
 mod reader;
 
 ghost use Rattle.std.specs.Prelude.{◌≡◌, ◌≤◌};

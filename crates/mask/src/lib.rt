@@ -1,4 +1,7 @@
 // Masks: document 01, "A mask is one record of eight 64-bit words in work". By value everywhere; state i is bit i mod 64 of word i / 64.
+
+#![tactic(auto)]
+
 ghost use Rattle.std.specs.Prelude.{◌≡◌, replicate};
 ghost use Rattle.mask.specs.Rows.{Upto};
 
@@ -6,7 +9,7 @@ pub mod bits;
 pub mod logic;
 pub mod sums;
 
-#[derive(Drop)]
+#[derive(Clone, Copy)]
 pub struct Mask {
     pub words: [u64; 8],
 }

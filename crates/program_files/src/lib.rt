@@ -1,4 +1,7 @@
 // Files read whole, for the programs.
+
+#![tactic(auto)]
+
 ghost use Rattle.io.specs.Counts.{IsPrefixLen};
 
 // The bytes of a file, as many as there is room for. "A file that can't be opened counts as empty."

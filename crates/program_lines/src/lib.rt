@@ -1,5 +1,8 @@
 // Lines of bytes and numbers in a lent text, as far as there is room. The place after them has to be a number of 64 bits; the line of a number has at most
 // 21 bytes.
+
+#![tactic(auto)]
+
 ghost use Rattle.std.specs.Prelude.{◌≡◌, ◌+◌, ◌*◌, ◌^◌, ◌≤◌, ◌<◌, min, length, take};
 ghost use Rattle.answers.specs.Answers.{number_of, place_of};
 ghost use Rattle.program_lines.specs.Lines.{decimal, end_lines, line, refused_text, total_text};

@@ -1,5 +1,8 @@
 // Rules read: document 01, "The grammar". Readers go over the rule's bytes from a place on, letter by letter (crate rule_letters), and answer the place
 // after what they read, or the place of the first byte that cannot be read. What an answer says is defined in specs/Parts.antt.
+
+#![tactic(auto)]
+
 ghost use Rattle.std.specs.Prelude.{◌≡◌};
 ghost use Rattle.rule.specs.Says.{outcome_of, reading, ReadSays};
 ghost use Rattle.rule.specs.Tokens.{no_tokens};

@@ -1,5 +1,8 @@
 // The bytes of a rule: the byte at a place, and its kind, "A 256-entry table gives each byte its kind" (document 01), with the tests that the readers
 // make by it.
+
+#![tactic(auto)]
+
 ghost use Rattle.std.specs.Prelude.{◌≡◌, ◌∷◌, get_or};
 ghost use Rattle.model.specs.Bytes.{byte, digital, hexadecimal, kind as kind_of, plain, signs};
 ghost use Rattle.model.specs.Grammar.{bare};

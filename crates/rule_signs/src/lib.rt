@@ -1,6 +1,9 @@
 // What one repeat sign is: document 01, "The grammar". Readers go over the rule's bytes from a place on and answer what they read and the place after
 // it, or the place of the first byte that cannot be read. A reader of a number is told the least one that will do, and stops at the digit after
 // which that is out of reach.
+
+#![tactic(auto)]
+
 ghost use Rattle.std.specs.Prelude.{true, ◌≡◌, ◌-◌, ◌≤◌, drop, length};
 ghost use Rattle.model.specs.Bytes.{byte, digital};
 ghost use Rattle.model.specs.Models.Reader.{close as closeOf, read_bounds, read_braces, read_digits};

@@ -1,11 +1,8 @@
 -- THE MASKS OF WORK: as they lie in the words of an image, with words of zeros above; in series; and in one table the nine series side by side, then the back
 -- edges' masks.
 use Rattle.std.specs.Prelude.{◌≡◌, ◌≢◌, true, List, [], ◌∷◌, ◌++◌, ℕ, zero, suc, ◌+◌, ◌-◌, ◌*◌, ◌≤◌, ◌<◌, drop, get_or, length, replicate, take}
-use Rattle.model.specs.Answers.{ImageOf}
-use Rattle.model.specs.Models.Idle.{Calm}
 use Rattle.model.specs.Models.Sections.{back_at, depth_word, gather_at, letter_place, propagate_at, repeat_place, scatter_at, three_place, two_place}
 use Rattle.model.specs.Models.Run.{Masks, move_by, pass_words, step_words}
-use Rattle.model.specs.Tree.{Tree}
 use Rattle.image_sections.specs.Sections.{Placed, width_of}
 use Rattle.image_sections.specs.declared.Sections.{Sections}
 use Rattle.run_moves.specs.Less.{less_one, plus_words, start_words}
@@ -52,8 +49,8 @@ series_row ws W d j k =
 abbrev pub SeriesOf : List ℕ → (W d j : ℕ) → List (List ℕ) → Type 0
 SeriesOf ws W d j masks = (k : ℕ) → k < 9 → get_or masks k [] ≡ series_row ws W d j k
 
--- ---- THE TABLE: the nine series side by side, from row 81 on the source and the target of the back edges of each depth, and from row 97 on three rows of
--- several depths. What it is to put the first masks of a series, and all; and to put the first rows of the back edges
+-- ---- THE TABLE: the nine series side by side, and from row 81 on the source and the target of the back edges of each depth. What it is to put the first masks
+-- of a series, and all; and to put the first rows of the back edges
 pub record PutTo (count j : ℕ) (masks table new : List (List ℕ)) : Type 0 where
   pub here : (k : ℕ) → k < count → get_or new (9 * k + j) [] ≡ get_or masks k []
   pub there : (k i : ℕ) → i < 9 → i ≢ j → get_or new (9 * k + i) [] ≡ get_or table (9 * k + i) []
@@ -70,50 +67,17 @@ pub record PutBacks (count : ℕ) (ws : List ℕ) (W d : ℕ) (table new : List 
   pub there : (i : ℕ) → i < 81 → get_or new i [] ≡ get_or table i []
   pub long : length new ≡ length table
 
+pub record Tabled (ws : List ℕ) (W d : ℕ) (table : List (List ℕ)) : Type 0 where
+  pub passes : Entered ws W d table
+  pub backs : (i : ℕ) → i < 2 * d → get_or table (81 + i) [] ≡ row_at ws (back_at W d + W * i) W
+
 -- the back edges' rows up to depth d are whole masks
 abbrev pub Whole : List (List ℕ) → ℕ → Type 0
 Whole table d = (i : ℕ) → i < 2 * d → length (get_or table (81 + i) []) ≡ 8
 
--- ---- ROWS OF SEVERAL DEPTHS IN ONE: what is apart from it is apart from the mask that it began with and from each row, every `by` from a place on
-abbrev pub WholeFrom : List (List ℕ) → (at by count : ℕ) → Type 0
-WholeFrom table at by count = (k : ℕ) → k < count → (at + by * k < 97) × (length (get_or table (at + by * k) []) ≡ 8)
-
-pub record Joined (table : List (List ℕ)) (first : List ℕ) (at by count : ℕ) (row : List ℕ) : Type 0 where
-  pub begun : (n : ℕ) (live : List ℕ) → Apart n row live → Apart n first live
-  pub each : (n : ℕ) (live : List ℕ) → Apart n row live → (k : ℕ) → k < count → Apart n (get_or table (at + by * k) []) live
-
--- what the inner depths could move on the way up, gather's sources and the chains; and on the way down, scatter's sources and the chains
-abbrev pub InnerUp : List (List ℕ) → ℕ → List ℕ → Type 0
-InnerUp table d row =
-    (n : ℕ) (live : List ℕ) → Apart n row live → (k : ℕ) → k < d → Apart n (get_or table (9 * k + 4) []) live × Apart n (get_or table (9 * suc k + 6) []) live
-
-abbrev pub InnerDown : List (List ℕ) → ℕ → List ℕ → Type 0
-InnerDown table d row =
-    (n : ℕ) (live : List ℕ) → Apart n row live → (k : ℕ) → k < d → Apart n (get_or table (9 * k + 1) []) live × Apart n (get_or table (9 * suc k + 6) []) live
-
--- all sources of back edges
+-- a row has all their sources: whatever is apart from it is apart from those of each depth
 abbrev pub Sources : List (List ℕ) → ℕ → List ℕ → Type 0
 Sources table d row = (n : ℕ) (live : List ℕ) → Apart n row live → (k : ℕ) → k < d → Apart n (get_or table (81 + 2 * k) []) live
-
--- the rows that are joined are whole masks; the three put into the table's last rows
-pub record WholeInner (table : List (List ℕ)) (d : ℕ) : Type 0 where
-  pub chains : WholeFrom table 15 9 d
-  pub gathers : WholeFrom table 4 9 d
-  pub scatters : WholeFrom table 1 9 d
-  pub backs : WholeFrom table 81 2 d
-
-pub record PutInner (d : ℕ) (table new : List (List ℕ)) : Type 0 where
-  pub up : InnerUp table d (get_or new 97 [])
-  pub down : InnerDown table d (get_or new 98 [])
-  pub sources : Sources table d (get_or new 99 [])
-  pub there : (i : ℕ) → i < 97 → get_or new i [] ≡ get_or table i []
-
-pub record Tabled (ws : List ℕ) (W d : ℕ) (table : List (List ℕ)) : Type 0 where
-  pub passes : Entered ws W d table
-  pub backs : (i : ℕ) → i < 2 * d → get_or table (81 + i) [] ≡ row_at ws (back_at W d + W * i) W
-  pub up : InnerUp table d (get_or table 97 [])
-  pub down : InnerDown table d (get_or table 98 [])
-  pub sources : Sources table d (get_or table 99 [])
 
 -- a rule without a back edge
 abbrev pub NoBack : List (List ℕ) → ℕ → Type 0
@@ -175,42 +139,31 @@ abbrev pub no_words : List ℕ
 no_words = replicate 8 0
 
 -- ---- what is asked
--- words that are an image: the run is promised for no others
-abbrev pub IsImage : List ℕ → Type 0
-IsImage ws = (t : Tree) × ImageOf ws t
-
--- of the tests for idle depths: at most eight words, the rows that they look at, and masks that make nothing of no live state
-pub record Tests (n : ℕ) (table : List (List ℕ)) (d : ℕ) : Type 0 where
-  pub narrow : n ≤ 8
-  pub up : InnerUp table d (get_or table 97 [])
-  pub down : InnerDown table d (get_or table 98 [])
-  pub calm : Calm (pass_masks n table) n d
-
 -- of one byte, for a rule of at least two words
-pub record Steps (ws : List ℕ) (W d : ℕ) (table : List (List ℕ)) : Type 0 where
+pub record Steps (ws : List ℕ) (W d : ℕ) : Type 0 where
   pub wide : 2 ≤ W
+  pub narrow : W ≤ 8
   pub long : repeat_place W 256 ≤ length ws
   pub shallow : d ≤ 8
-  pub tests : Tests W table d
 
--- of one byte of a rule with back edges
-pub record Turns (ws : List ℕ) (W d : ℕ) (table : List (List ℕ)) : Type 0 where
-  pub steps : Steps ws W d table
+-- of one byte of a rule with back edges, of which a row has all sources
+pub record Turns (ws : List ℕ) (W d : ℕ) (table : List (List ℕ)) (row : List ℕ) : Type 0 where
+  pub steps : Steps ws W d
   pub whole : Whole table d
-  pub sources : Sources table d (get_or table 99 [])
+  pub sources : Sources table d row
 
 -- of the loop over a stretch
 pub record Overs (ws stretch : List ℕ) (place found W d last : ℕ) (table : List (List ℕ)) : Type 0 where
-  pub turns : Turns ws W d table
+  pub steps : Steps ws W d
   pub limits : Limits place found stretch
   pub within : last < 64 * W
+  pub whole : Whole table d
 
 -- of a whole text
 pub record NotesEnds (ws : List ℕ) (p : Sections) (text : List ℕ) (table : List (List ℕ)) : Type 0 where
   pub placed : Placed ws p
   pub many : 64 < p.states
   pub small : length text ≤ 65535
-  pub image : IsImage ws
   pub tabled : Tabled ws p.width p.depth table
 
 -- of a stretch from the words of a mask: as many of them as the image's masks have
@@ -218,4 +171,3 @@ pub record Goes (ws : List ℕ) (p : Sections) (mask : List ℕ) (place : ℕ) (
   pub placed : Placed ws p
   pub long : length mask ≡ p.width
   pub limits : Limits place 0 stretch
-  pub image : IsImage ws

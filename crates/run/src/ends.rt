@@ -3,7 +3,7 @@ ghost use Rattle.std.specs.Prelude.{◌-◌, ◌≤◌, ◌<◌, length};
 ghost use Rattle.model.specs.Models.Run.{ends_with};
 ghost use Rattle.image_sections.specs.Sections.{Placed};
 ghost use Rattle.run.specs.Says.{FindSays, GoOnSays};
-ghost use Rattle.run.specs.Work.{Goes, IsImage, masks_of, NotesEnds, rule_masks};
+ghost use Rattle.run.specs.Work.{Goes, masks_of, NotesEnds, rule_masks};
 ghost use Rattle.run_word.specs.Ends.{Noted};
 
 use crate::rounds::close;
@@ -32,7 +32,7 @@ fn note_ends(image: &[u64], sections: Sections, text: &[u8], ends: &mut [u32], t
 
 // The same with the table of the words.
 fn find_words(image: &[u64], sections: Sections, text: &[u8], ends: &mut [u32]) -> u64
-    requires { Placed image.now sections × (64 < sections.states) × (length text.now ≤ 65535) × IsImage image.now }
+    requires { Placed image.now sections × (64 < sections.states) × (length text.now ≤ 65535) }
     ensures { Noted (ends_with (masks_of image.now) sections.depth (sections.states - 1) text.now)
         ends.old result ends.new }
 {
@@ -42,7 +42,7 @@ fn find_words(image: &[u64], sections: Sections, text: &[u8], ends: &mut [u32]) 
 
 // The ends of a text: the total, and the first that fit in what is lent, rising.
 pub fn find(image: &[u64], sections: Sections, text: &[u8], ends: &mut [u32]) -> u64
-    requires { Placed image.now sections × (length text.now ≤ 65535) × IsImage image.now }
+    requires { Placed image.now sections × (length text.now ≤ 65535) }
     ensures { FindSays image.now text.now ends.old result ends.new }
 {
     if sections.states <= 64 {
@@ -86,7 +86,7 @@ fn go_on_word(
     ensures { GoOnSays image.now mask.now place stretch.now ends.old result.words result.total ends.new }
 {
     let first = mask[0];
-    let ran = run_word::ends::go_on(image, sections, first, place, 0, stretch, ends);
+    let ran = run_word::ends::go_on(image, sections, first, place, stretch, ends);
     let mut words = [0u64; 8];
     words[0] = ran.live;
     Ran {

@@ -41,13 +41,12 @@ fn returns(first: Mask, depth: usize, n: usize, table: &Table) -> Mask
     r
 }
 
-// The same with the row of all sources: mostly none of them is live, and nothing is added.
-pub fn come_round(first: Mask, depth: usize, n: usize, table: &Table) -> Mask
-    requires { (depth ≤ 8) × Whole table.now depth × Sources table.now depth (get_or table.now 99 []) }
+// The same where all sources are at hand: mostly none of them is live, and nothing is added.
+pub fn come_round(first: Mask, depth: usize, n: usize, table: &Table, sources: Mask) -> Mask
+    requires { (depth ≤ 8) × Whole table.now depth × Sources table.now depth sources.words }
     ensures { take n result.words ≡ returns_words (pass_masks n table.now) depth (take n first.words) (take n first.words) }
 {
-    let sources = table[99];
-    if meet(Mask { words: sources }, first, n) {
+    if meet(sources, first, n) {
         return returns(first, depth, n, table);
     }
     first

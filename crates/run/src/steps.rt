@@ -2,15 +2,15 @@
 // Only the first n words of a mask count.
 ghost use Rattle.std.specs.Prelude.{true, [], ◌≡◌, ◌+◌, ◌*◌, ◌≤◌, get_or, length, take};
 ghost use Rattle.model.specs.Models.Sections.{letter_place, repeat_place};
-ghost use Rattle.model.specs.Models.Run.{fall_words, gather_words, move_words, pass_words, propagate_by, propagate_words, rise_words, scatter_words};
+ghost use Rattle.model.specs.Models.Run.{fall_words, gather_words, move_words, pass_words, propagate_words, rise_words, scatter_words};
 ghost use Rattle.run_moves.specs.Less.{plus_words, start_words};
-ghost use Rattle.run.specs.Work.{pass_masks, row_at, Tests};
+ghost use Rattle.run.specs.Work.{pass_masks, row_at};
 
 use crate::rows::row_at;
 use crate::table::Table;
 use image_sections::{letters_at, repeats_at};
 use mask::Mask;
-use run_moves::{advance, gather, meet, propagate, scatter, start};
+use run_moves::{advance, gather, propagate, scatter, start};
 
 // Scatter, gather and propagate with the nine masks of depth k.
 fn scatter_at(live: Mask, k: usize, n: usize, table: &Table) -> Mask
@@ -64,10 +64,10 @@ fn propagate_at(live: Mask, k: usize, n: usize, table: &Table) -> Mask
     )
 }
 
-// Up from the deepest alternatives, to depth 0's own chains: along a depth's chains before its ends go up one depth.
-fn climb(live: Mask, depth: usize, n: usize, table: &Table) -> Mask
+// Up from the deepest alternatives to the rule's own sequence: along a depth's chains before its ends go up one depth.
+pub fn rise(live: Mask, depth: usize, n: usize, table: &Table) -> Mask
     requires { depth ≤ 8 }
-    ensures { propagate_by (pass_masks n table.now) 0 (take n result.words) ≡ rise_words (pass_masks n table.now) depth (take n live.words) }
+    ensures { take n result.words ≡ rise_words (pass_masks n table.now) depth (take n live.words) }
 {
     let mut r = live;
     let mut k = depth;
@@ -76,29 +76,7 @@ fn climb(live: Mask, depth: usize, n: usize, table: &Table) -> Mask
         k -= 1;
         r = gather_at(along, k, n, table);
     }
-    r
-}
-
-// Up to the rule's own sequence.
-pub fn rise(live: Mask, depth: usize, n: usize, table: &Table) -> Mask
-    requires { depth ≤ 8 }
-    ensures { take n result.words ≡ rise_words (pass_masks n table.now) depth (take n live.words) }
-{
-    let up = climb(live, depth, n, table);
-    propagate_at(up, 0, n, table)
-}
-
-// The same where the inner depths are mostly idle: one test on all that they could move.
-pub fn rise_awake(live: Mask, depth: usize, n: usize, table: &Table) -> Mask
-    requires { (depth ≤ 8) × Tests n table.now depth }
-    ensures { take n result.words ≡ rise_words (pass_masks n table.now) depth (take n live.words) }
-{
-    let inner = table[97];
-    let mut up = live;
-    if meet(Mask { words: inner }, live, n) {
-        up = climb(live, depth, n, table);
-    }
-    propagate_at(up, 0, n, table)
+    propagate_at(r, 0, n, table)
 }
 
 // Down again, rising from depth 1 to d: inner alternatives start only once the outer ones have.
@@ -117,18 +95,6 @@ pub fn fall(live: Mask, depth: usize, n: usize, table: &Table) -> Mask
     r
 }
 
-// The same where the inner depths are mostly idle.
-pub fn fall_awake(live: Mask, depth: usize, n: usize, table: &Table) -> Mask
-    requires { (depth ≤ 8) × Tests n table.now depth }
-    ensures { take n result.words ≡ fall_words (pass_masks n table.now) depth 0 (take n live.words) }
-{
-    let inner = table[98];
-    if meet(Mask { words: inner }, live, n) {
-        return fall(live, depth, n, table);
-    }
-    live
-}
-
 // Up and down: all that the live states reach by edges without a letter.
 pub fn pass(live: Mask, depth: usize, n: usize, table: &Table) -> Mask
     requires { depth ≤ 8 }
@@ -138,12 +104,11 @@ pub fn pass(live: Mask, depth: usize, n: usize, table: &Table) -> Mask
     fall(up, depth, n, table)
 }
 
-// The live states moved by a byte, and state 0; the byte's masks are read where they lie. That the live states are eight words is told besides: whoever
-// only borrows them cannot see it.
+// The live states moved by a byte, and state 0; the byte's masks are read where they lie.
 pub fn moved(live: Mask, image: &[u64], width: usize, n: usize, byte: u8) -> Mask
     requires { (width ≤ 8) × (repeat_place width 256 ≤ length image.now) }
-    ensures { (take n result.words ≡ move_words (take n (row_at image.now (letter_place width byte) width))
-        (take n (row_at image.now (repeat_place width byte) width)) (take n start_words) (take n live.words)) × (length live.words ≡ 8) }
+    ensures { take n result.words ≡ move_words (take n (row_at image.now (letter_place width byte) width))
+        (take n (row_at image.now (repeat_place width byte) width)) (take n start_words) (take n live.words) }
 {
     let letters = row_at(image, letters_at(width, byte), width);
     let repeats = row_at(image, repeats_at(width, byte), width);

@@ -2,10 +2,10 @@
 ghost use Rattle.std.specs.Prelude.{◌≡◌, ◌/◌, ◌≤◌, ◌<◌, length, take};
 ghost use Rattle.model.specs.Bits.{bit};
 ghost use Rattle.model.specs.Models.Words.{value};
-ghost use Rattle.run.specs.Work.{NoBack, Overs, rule_masks};
+ghost use Rattle.run.specs.Work.{NoBack, Overs, rule_masks, Sources};
 ghost use Rattle.run_word.specs.Ends.{RanOver};
 
-use crate::table::Table;
+use crate::table::{Table, all_sources};
 use crate::turns::turn_by;
 use crate::widths::step_by;
 use mask::Mask;
@@ -86,8 +86,9 @@ fn run_back(
     last: usize,
     first: [u64; 8],
     table: &Table,
+    sources: Mask,
 ) -> Ran
-    requires { Overs image.now stretch.now place found width depth last table.now }
+    requires { Overs image.now stretch.now place found width depth last table.now × Sources table.now depth sources.words }
     ensures { RanOver (rule_masks image.now width table.now) width depth last place found stretch.now (take width first)
         places.old result.words result.total places.new }
 {
@@ -97,7 +98,7 @@ fn run_back(
     while p < stretch.len() {
         let stop = portion(p, stretch.len());
         while p < stop {
-            turn_by(&mut live, image, width, stretch[p], depth, table);
+            turn_by(&mut live, image, width, stretch[p], depth, table, sources);
             p += 1;
             total = note(
                 places,
@@ -130,13 +131,13 @@ pub fn run_over(
     ensures { RanOver (rule_masks image.now width table.now) width depth last place found stretch.now (take width first)
         places.old result.words result.total places.new }
 {
-    let sources = table[99];
-    if same(Mask { words: sources }, mask::none(), 8) {
+    let sources = all_sources(table, depth);
+    if same(sources, mask::none(), 8) {
         return run_plain(
             image, stretch, places, place, found, width, depth, last, first, table,
         );
     }
     run_back(
-        image, stretch, places, place, found, width, depth, last, first, table,
+        image, stretch, places, place, found, width, depth, last, first, table, sources,
     )
 }

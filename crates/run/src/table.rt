@@ -2,7 +2,7 @@
 // masks of the back edges after them.
 ghost use Rattle.std.specs.Prelude.{◌≡◌, ◌+◌, ◌*◌, ◌≤◌, ◌<◌, length};
 ghost use Rattle.image_sections.specs.Sections.{Placed};
-ghost use Rattle.run.specs.Work.{Joined, Lessened, Put, PutBacks, PutInner, series_at, SeriesOf, Tabled, WholeFrom, WholeInner};
+ghost use Rattle.run.specs.Work.{Lessened, Put, PutBacks, series_at, SeriesOf, Sources, Tabled, Whole};
 
 use crate::rows::row_at;
 use image_sections::Sections;
@@ -13,9 +13,8 @@ use run_moves::less_one;
 // A series: one of the three masks of a section, block, source or target, for each of the depths 0 to 8.
 pub type Series = [[u64; 8]; 9];
 
-// Nine series, nine masks to a depth; then the source and the target of the back edges of depths 0 to 7; then three rows of several depths: what the inner
-// ones could move on the way up and on the way down, and all sources of back edges.
-pub type Table = [[u64; 8]; 100];
+// Nine series, nine masks to a depth; then the source and the target of the back edges of depths 0 to 7.
+pub type Table = [[u64; 8]; 97];
 
 // Mask `which` of the three of each depth below count, from a section's first word on.
 fn series_at(image: &[u64], at: usize, width: usize, count: usize, which: usize) -> Series
@@ -70,7 +69,7 @@ fn series(image: &[u64], sections: Sections, j: usize) -> Series
 
 // The masks of series j into their places.
 fn put_series(table: &mut Table, j: usize, masks: Series)
-    requires { (j < 9) × (length table.old ≡ 100) }
+    requires { (j < 9) × (length table.old ≡ 97) }
     ensures { Put j masks table.old table.new }
 {
     let mut k = 0;
@@ -83,7 +82,7 @@ fn put_series(table: &mut Table, j: usize, masks: Series)
 
 // The masks of the back edges into theirs.
 fn put_backs(table: &mut Table, image: &[u64], sections: Sections)
-    requires { Placed image.now sections × (length table.old ≡ 100) }
+    requires { Placed image.now sections × (length table.old ≡ 97) }
     ensures { PutBacks (2 * sections.depth) image.now sections.width sections.depth table.old table.new }
 {
     let at = sections.back;
@@ -97,36 +96,19 @@ fn put_backs(table: &mut Table, image: &[u64], sections: Sections)
     }
 }
 
-// A mask with `count` rows of the table besides, every `by` from a place on.
-fn join(table: &Table, first: Mask, at: usize, by: usize, count: usize) -> Mask
-    requires { WholeFrom table.now at by count }
-    ensures { Joined table.now first.words at by count result.words }
+// All sources of the back edges up to a depth.
+pub fn all_sources(table: &Table, depth: usize) -> Mask
+    requires { (depth ≤ 8) × Whole table.now depth }
+    ensures { Sources table.now depth result.words }
 {
-    let mut r = first;
+    let mut r = mask::none();
     let mut k = 0;
-    while k < count {
-        let row = table[at + by * k];
+    while k < depth {
+        let row = table[81 + 2 * k];
         r = or(r, Mask { words: row }, 8);
         k += 1;
     }
     r
-}
-
-// The three rows of several depths into theirs.
-fn put_inner(table: &mut Table, depth: usize)
-    requires { (depth ≤ 8) × (length table.old ≡ 100) × WholeInner table.old depth }
-    ensures { PutInner depth table.old table.new }
-{
-    let chains = join(table, mask::none(), 15, 9, depth);
-    let up = join(table, chains, 4, 9, depth);
-    let down = join(table, chains, 1, 9, depth);
-    let back = join(table, mask::none(), 81, 2, depth);
-    let row = up.words;
-    table[97] = row;
-    let row = down.words;
-    table[98] = row;
-    let row = back.words;
-    table[99] = row;
 }
 
 pub fn table(image: &[u64], sections: Sections) -> Table
@@ -134,7 +116,7 @@ pub fn table(image: &[u64], sections: Sections) -> Table
     ensures { Tabled image.now sections.width sections.depth result }
 {
     let none = [0u64; 8];
-    let mut r = [none; 100];
+    let mut r = [none; 97];
     let mut j = 0;
     while j < 9 {
         let masks = series(image, sections, j);
@@ -142,6 +124,5 @@ pub fn table(image: &[u64], sections: Sections) -> Table
         j += 1;
     }
     put_backs(&mut r, image, sections);
-    put_inner(&mut r, sections.depth);
     r
 }

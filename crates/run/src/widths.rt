@@ -2,91 +2,97 @@
 // for each byte. The live states are borrowed and not handed on, so that only the words that count are moved.
 ghost use Rattle.run.specs.Work.{Stepped, Steps};
 
-use crate::rows::put_row;
-use crate::steps::{fall_awake, moved, rise_awake};
+use crate::steps::{fall, moved, rise};
 use crate::table::Table;
 use mask::Mask;
 
 fn step_2(live: &mut [u64; 8], image: &[u64], byte: u8, depth: usize, table: &Table)
-    requires { Steps image.now 2 depth table.now }
+    requires { Steps image.now 2 depth }
     ensures { Stepped 2 image.now byte depth table.now live.old live.new }
 {
     let words = *live;
     let on = moved(Mask { words }, image, 2, 2, byte);
-    let up = rise_awake(on, depth, 2, table);
-    let down = fall_awake(up, depth, 2, table);
-    put_row(live, down, 2);
+    let up = rise(on, depth, 2, table);
+    let down = fall(up, depth, 2, table);
+    let words = down.words;
+    *live = words;
 }
 
 fn step_3(live: &mut [u64; 8], image: &[u64], byte: u8, depth: usize, table: &Table)
-    requires { Steps image.now 3 depth table.now }
+    requires { Steps image.now 3 depth }
     ensures { Stepped 3 image.now byte depth table.now live.old live.new }
 {
     let words = *live;
     let on = moved(Mask { words }, image, 3, 3, byte);
-    let up = rise_awake(on, depth, 3, table);
-    let down = fall_awake(up, depth, 3, table);
-    put_row(live, down, 3);
+    let up = rise(on, depth, 3, table);
+    let down = fall(up, depth, 3, table);
+    let words = down.words;
+    *live = words;
 }
 
 fn step_4(live: &mut [u64; 8], image: &[u64], byte: u8, depth: usize, table: &Table)
-    requires { Steps image.now 4 depth table.now }
+    requires { Steps image.now 4 depth }
     ensures { Stepped 4 image.now byte depth table.now live.old live.new }
 {
     let words = *live;
     let on = moved(Mask { words }, image, 4, 4, byte);
-    let up = rise_awake(on, depth, 4, table);
-    let down = fall_awake(up, depth, 4, table);
-    put_row(live, down, 4);
+    let up = rise(on, depth, 4, table);
+    let down = fall(up, depth, 4, table);
+    let words = down.words;
+    *live = words;
 }
 
 fn step_5(live: &mut [u64; 8], image: &[u64], byte: u8, depth: usize, table: &Table)
-    requires { Steps image.now 5 depth table.now }
+    requires { Steps image.now 5 depth }
     ensures { Stepped 5 image.now byte depth table.now live.old live.new }
 {
     let words = *live;
     let on = moved(Mask { words }, image, 5, 5, byte);
-    let up = rise_awake(on, depth, 5, table);
-    let down = fall_awake(up, depth, 5, table);
-    put_row(live, down, 5);
+    let up = rise(on, depth, 5, table);
+    let down = fall(up, depth, 5, table);
+    let words = down.words;
+    *live = words;
 }
 
 fn step_6(live: &mut [u64; 8], image: &[u64], byte: u8, depth: usize, table: &Table)
-    requires { Steps image.now 6 depth table.now }
+    requires { Steps image.now 6 depth }
     ensures { Stepped 6 image.now byte depth table.now live.old live.new }
 {
     let words = *live;
     let on = moved(Mask { words }, image, 6, 6, byte);
-    let up = rise_awake(on, depth, 6, table);
-    let down = fall_awake(up, depth, 6, table);
-    put_row(live, down, 6);
+    let up = rise(on, depth, 6, table);
+    let down = fall(up, depth, 6, table);
+    let words = down.words;
+    *live = words;
 }
 
 fn step_7(live: &mut [u64; 8], image: &[u64], byte: u8, depth: usize, table: &Table)
-    requires { Steps image.now 7 depth table.now }
+    requires { Steps image.now 7 depth }
     ensures { Stepped 7 image.now byte depth table.now live.old live.new }
 {
     let words = *live;
     let on = moved(Mask { words }, image, 7, 7, byte);
-    let up = rise_awake(on, depth, 7, table);
-    let down = fall_awake(up, depth, 7, table);
-    put_row(live, down, 7);
+    let up = rise(on, depth, 7, table);
+    let down = fall(up, depth, 7, table);
+    let words = down.words;
+    *live = words;
 }
 
 fn step_8(live: &mut [u64; 8], image: &[u64], byte: u8, depth: usize, table: &Table)
-    requires { Steps image.now 8 depth table.now }
+    requires { Steps image.now 8 depth }
     ensures { Stepped 8 image.now byte depth table.now live.old live.new }
 {
     let words = *live;
     let on = moved(Mask { words }, image, 8, 8, byte);
-    let up = rise_awake(on, depth, 8, table);
-    let down = fall_awake(up, depth, 8, table);
-    put_row(live, down, 8);
+    let up = rise(on, depth, 8, table);
+    let down = fall(up, depth, 8, table);
+    let words = down.words;
+    *live = words;
 }
 
 // The same with n words.
 pub fn step_by(live: &mut [u64; 8], image: &[u64], n: usize, byte: u8, depth: usize, table: &Table)
-    requires { Steps image.now n depth table.now }
+    requires { Steps image.now n depth }
     ensures { Stepped n image.now byte depth table.now live.old live.new }
 {
     if n <= 4 {

@@ -1,5 +1,8 @@
 // The back step on one word: from the live sources of back edges to their targets. A target's source is the first one at or past it, and what is known
 // there has to go down, which no sum does: so it is found for every place at once, over twice as many places at each step.
+
+#![tactic(auto)]
+
 ghost use Rattle.std.specs.Prelude.{◌≡◌, ◌<◌};
 ghost use Rattle.model.specs.Bits.{bit};
 ghost use Rattle.model.specs.Models.Run.{ahead, back_word};

@@ -1,5 +1,8 @@
 // Single edges (document 01, "States and edges"): what a state reaches without a letter, what a byte enters from a set of states, and what it leaves into
 // one. Spellings go forward and back along them.
+
+#![tactic(auto)]
+
 ghost use Rattle.std.specs.Prelude.{◌≡◌};
 ghost use Rattle.image_sections.specs.Sections.{Placed};
 ghost use Rattle.run_edges.specs.Reach.{EnterSays, enter_words, LeaveSays, leave_words, letters_of, ReachSays, reach_words, repeats_of, unshift_words, WorkOf};

@@ -2,6 +2,9 @@
 // subtraction for propagate" (document 01). Each takes its masks by value and keeps the states that were live, but the move. The fifth goes back along
 // the edges of repeated groups (document 02), which neither sum nor difference does. Only the first n words count: with n as a literal every loop over
 // words becomes straight code.
+
+#![tactic(auto)]
+
 ghost use Rattle.std.specs.Prelude.{◌≡◌, false, true, take};
 ghost use Rattle.model.specs.Models.Run.{gather_words, move_words, propagate_words, return_words, scatter_words};
 ghost use Rattle.model.specs.Models.Verdict.{same_words};
@@ -82,18 +85,19 @@ fn lead_back(live: Mask, source: Mask, target: Mask, n: usize) -> Mask
     r
 }
 
-// Whether a state is in both. No word has a branch of its own: one that cannot be foretold would cost more than all of them.
+// Whether a state is in both.
 pub fn meet(a: Mask, b: Mask, n: usize) -> bool
     ensures { Meets n a.words b.words result }
 {
     let stop = upto(n);
-    let mut both: u64 = 0;
     let mut i = 0;
     while i < stop {
-        both = both | (a.words[i] & b.words[i]);
+        if a.words[i] & b.words[i] != 0 {
+            return true;
+        }
         i += 1;
     }
-    both != 0
+    false
 }
 
 // Whether every state of b is in a.

@@ -14,8 +14,8 @@ pub record RanOver (M : Masks) (W d last place found : ℕ) (stretch live before
   pub stored : after ≡ sets before found (ends_after M d last place live stretch)
   pub runs : take W words ≡ run_from M d live stretch
 
--- its limits: of one stretch, of the whole text, and of what was found before, one end for a place at most
+-- its limits: of one stretch, of the whole text, and of what was found before
 pub record Limits (place found : ℕ) (stretch : List ℕ) : Type 0 where
   pub small : length stretch ≤ 65535
   pub near : place + length stretch ≤ 4294967295
-  pub few : found + length stretch ≤ 65536
+  pub few : found ≤ 1

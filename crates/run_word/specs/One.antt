@@ -1,8 +1,7 @@
 -- THE MASKS OF A RULE OF AT MOST 64 STATES: each is one word, as it lies in the image.
-use Rattle.std.specs.Prelude.{◌≡◌, ℕ, zero, suc, ◌+◌, ◌-◌, ◌*◌, ◌/◌, ◌%◌, ◌<◌, ◌≤◌, Bool, false, cond, List, [], ◌∷◌, ◌==◌, bit_and, nat_lt, slice_index, slice_index_or}
+use Rattle.std.specs.Prelude.{◌≡◌, ℕ, zero, suc, ◌+◌, ◌-◌, ◌*◌, ◌/◌, ◌%◌, ◌<◌, ◌≤◌, Bool, false, cond, List, [], ◌∷◌, ◌==◌, nat_lt, slice_index, slice_index_or}
 use Rattle.model.specs.Models.Sections.{back_at, depth_word, gather_at, letter_place, propagate_at, repeat_place, scatter_at, three_place, two_place}
-use Rattle.model.specs.Models.Idle.{Calm}
-use Rattle.model.specs.Models.Run.{close_words, fall_words, Masks, pass_words, propagate_by, returns_words, rise_words, second_round}
+use Rattle.model.specs.Models.Run.{close_words, fall_words, Masks, pass_words, propagate_by, returns_words, rise_words}
 use Rattle.model.specs.Models.Words.{wrap_add, wrap_sub}
 
 -- word i as a row of one
@@ -77,22 +76,6 @@ Backs ws d backs = (i : ℕ) → i < 2 * d → slice_index backs i ≡ slice_ind
 abbrev pub NoBack : List ℕ → ℕ → Bool → Type 0
 NoBack backs d any = any ≡ false → (i : ℕ) → i < 2 * d → slice_index backs i ≡ 0
 
--- WHAT THE INNER DEPTHS COULD MOVE, in one word: what is apart from it is apart, on the way up, from every gather source and every chain of theirs, and on
--- the way down from every scatter source and every chain
-abbrev pub InnerUp : List ℕ → (d up : ℕ) → Type 0
-InnerUp table d up =
-    (live : ℕ) → bit_and live up ≡ 0 → (k : ℕ) → k < d → (bit_and live (slice_index table (9 * suc k + 4)) ≡ 0) × (bit_and live (slice_index table (9 * suc k + 6)) ≡ 0)
-
-abbrev pub InnerDown : List ℕ → (d down : ℕ) → Type 0
-InnerDown table d down =
-    (live : ℕ) → bit_and live down ≡ 0 → (k : ℕ) → k < d → (bit_and live (slice_index table (9 * suc k + 1)) ≡ 0) × (bit_and live (slice_index table (9 * suc k + 6)) ≡ 0)
-
--- what the tests of both ways ask: the two words, and masks that make nothing of no live state
-pub record Tests (any : Bool) (table : List ℕ) (d up down : ℕ) : Type 0 where
-  pub rising : InnerUp table d up
-  pub falling : InnerDown table d down
-  pub calm : Calm (work_masks [] any table []) 1 d
-
 -- THE WAY UP to depth 0's own chains, which come after it, and THE WAY DOWN: neither looks at the letters, at the chains of depth 0 nor at back edges
 abbrev pub Risen : (any : Bool) → List ℕ → (d live r : ℕ) → Type 0
 Risen any table d live r =
@@ -111,9 +94,6 @@ Passed any block below target table d live r =
 abbrev pub Returned : List ℕ → (d live r : ℕ) → Type 0
 Returned backs d live r =
     (ws : List ℕ) (any : Bool) (block below target : ℕ) (table : List ℕ) → r ∷ [] ≡ returns_words (table_masks ws any block below target table backs) d (live ∷ []) (live ∷ [])
-
-abbrev pub Again : (any : Bool) → (table backs : List ℕ) → (d first r : ℕ) → Type 0
-Again any table backs d first r = (ws : List ℕ) → r ∷ [] ≡ second_round (work_masks ws any table backs) d (first ∷ [])
 
 abbrev pub Closed : (any : Bool) → (table backs : List ℕ) → (d live r : ℕ) → Type 0
 Closed any table backs d live r = (ws : List ℕ) → r ∷ [] ≡ close_words (work_masks ws any table backs) d (live ∷ [])

@@ -1,10 +1,9 @@
 -- THE RUN OVER A STRETCH on one word: what its loops ask, and what they make.
 use Rattle.std.specs.Prelude.{◌≡◌, ℕ, ◌<◌, ◌≤◌, Bool, List, [], ◌∷◌, length}
 use Rattle.model.specs.Models.Sections.{depth_word, repeat_place}
-use Rattle.model.specs.Models.Idle.{Calm}
 use Rattle.model.specs.Models.Run.{Masks}
 use Rattle.run_word.specs.Ends.{Limits, RanOver}
-use Rattle.run_word.specs.One.{Backs, Entered, NoChain, one_masks}
+use Rattle.run_word.specs.One.{Backs, Entered, NoChain}
 use Rattle.run_word.specs.declared.stretch.From.{From}
 use Rattle.run_word.specs.declared.stretch.Ran.{Ran}
 
@@ -26,4 +25,3 @@ pub record Chosen (ws stretch : List ℕ) (from : From) (last d : ℕ) (any : Bo
   pub entered : Entered ws d table
   pub none : NoChain table d any
   pub edges : Backs ws d backs
-  pub calm : Calm (one_masks ws) 1 d

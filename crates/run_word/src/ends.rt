@@ -1,6 +1,5 @@
 // The ends of a text and of a stretch for a rule of at most 64 states, from the words of its image.
 ghost use Rattle.std.specs.Prelude.{◌-◌, ◌≤◌, [], ◌∷◌, length};
-ghost use Rattle.model.specs.Models.Idle.{Calm};
 ghost use Rattle.model.specs.Models.Run.{ends_with};
 ghost use Rattle.run_word.specs.Ends.{Limits, Noted, RanOver};
 ghost use Rattle.image_sections.specs.Sections.{Placed};
@@ -15,7 +14,7 @@ use image_sections::Sections;
 // The ends of a text for a rule of at most 64 states: the total, and the first that fit in what is lent, rising. A beginning, with place 0, and the text as
 // one stretch.
 pub fn find(image: &[u64], sections: Sections, text: &[u8], ends: &mut [u32]) -> u64
-    requires { Placed image.now sections × (sections.states ≤ 64) × (length text.now ≤ 65535) × Calm (one_masks image.now) 1 sections.depth }
+    requires { Placed image.now sections × (sections.states ≤ 64) × (length text.now ≤ 65535) }
     ensures { Noted (ends_with (one_masks image.now) sections.depth (sections.states - 1) text.now)
         ends.old result ends.new }
 {
@@ -35,18 +34,17 @@ pub fn find(image: &[u64], sections: Sections, text: &[u8], ends: &mut [u32]) ->
     ran.total
 }
 
-// A stretch from any live states and any place, where so many ends were found before: the live states after it, the total with those, and the first that fit.
+// A stretch from any live states and any place: the live states after it, the total of its ends, and the first that fit.
 pub fn go_on(
     image: &[u64],
     sections: Sections,
     live: u64,
     place: u64,
-    found: usize,
     stretch: &[u8],
     ends: &mut [u32],
 ) -> Ran
-    requires { Placed image.now sections × (sections.states ≤ 64) × Limits place found stretch.now × Calm (one_masks image.now) 1 sections.depth }
-    ensures { RanOver (one_masks image.now) 1 sections.depth (sections.states - 1) place found stretch.now (live ∷ [])
+    requires { Placed image.now sections × (sections.states ≤ 64) × Limits place 0 stretch.now }
+    ensures { RanOver (one_masks image.now) 1 sections.depth (sections.states - 1) place 0 stretch.now (live ∷ [])
         ends.old (result.live ∷ []) result.total ends.new }
 {
     let deep = sections.depth;
@@ -54,6 +52,10 @@ pub fn go_on(
     let masks = table(image, sections);
     let any = any_chain(&masks, deep);
     let edges = backs(image, sections);
-    let from = From { live, place, found };
+    let from = From {
+        live,
+        place,
+        found: 0,
+    };
     run_over(image, stretch, ends, from, last, deep, any, &masks, &edges)
 }

@@ -1,4 +1,7 @@
 // The run of a rule of at most 64 states, on plain 64-bit words; and the writing of an end, which the run of wider rules shares.
+
+#![tactic(auto)]
+
 pub mod ends;
 pub mod passes;
 pub mod places;

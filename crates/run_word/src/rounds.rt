@@ -2,9 +2,9 @@
 ghost use Rattle.std.specs.Prelude.{◌≡◌, ◌+◌, ◌*◌, ◌<◌, ◌≤◌, [], ◌∷◌};
 ghost use Rattle.model.specs.Models.Run.{return_words};
 ghost use Rattle.model.specs.Models.Words.{or_words};
-ghost use Rattle.run_word.specs.One.{Again, Closed, Returned, Tests, word_at};
+ghost use Rattle.run_word.specs.One.{Closed, Returned, word_at};
 
-use crate::steps::{reach, reach_awake};
+use crate::steps::reach;
 use run_back::lead_back;
 
 // The targets of depth k added, where `first` is what the passes gave: none without a live source, and no new one where all are live.
@@ -37,40 +37,15 @@ fn returns(first: u64, depth: usize, backs: &[u64; 16]) -> u64
     r
 }
 
-// The second round, made only where the back edges add something to what the first gave.
-fn again(first: u64, depth: usize, any: bool, table: &[u64; 81], backs: &[u64; 16]) -> u64
-    requires { depth ≤ 8 }
-    ensures { Again any table.now backs.now depth first result }
-{
-    let more = returns(first, depth, backs);
-    if more == first {
-        return first;
-    }
-    reach(more, depth, any, table)
-}
-
-// All that the live states reach by edges without a letter.
+// All that the live states reach by edges without a letter: the second round only where the back edges add something.
 pub fn close(live: u64, depth: usize, any: bool, table: &[u64; 81], backs: &[u64; 16]) -> u64
     requires { depth ≤ 8 }
     ensures { Closed any table.now backs.now depth live result }
 {
     let first = reach(live, depth, any, table);
-    again(first, depth, any, table, backs)
-}
-
-// The same with the tests for idle depths in the first round: what makes a second is awake.
-pub fn close_awake(
-    live: u64,
-    depth: usize,
-    any: bool,
-    up: u64,
-    down: u64,
-    table: &[u64; 81],
-    backs: &[u64; 16],
-) -> u64
-    requires { (depth ≤ 8) × Tests any table.now depth up down }
-    ensures { Closed any table.now backs.now depth live result }
-{
-    let first = reach_awake(live, depth, any, up, down, table);
-    again(first, depth, any, table, backs)
+    let more = returns(first, depth, backs);
+    if more == first {
+        return first;
+    }
+    reach(more, depth, any, table)
 }

@@ -3,7 +3,7 @@ ghost use Rattle.std.specs.Prelude.{◌≡◌, ◌+◌, ◌*◌, ◌≤◌, [], 
 ghost use Rattle.model.specs.Models.Sections.{letter_place, repeat_place};
 ghost use Rattle.model.specs.Models.Run.{gather_words, move_words, propagate_words, scatter_words};
 ghost use Rattle.model.specs.Models.Words.{wrap_add};
-ghost use Rattle.run_word.specs.One.{Fallen, Passed, Risen, Tests, word_at};
+ghost use Rattle.run_word.specs.One.{Fallen, Passed, Risen, word_at};
 
 use crate::passes::{advance, along, gather, scatter};
 use image_sections::{letters_at, repeats_at};
@@ -93,22 +93,6 @@ pub fn reach(live: u64, depth: usize, any: bool, table: &[u64; 81]) -> u64
     let up = rise(live, depth, any, table);
     let level = along(up, any, table[6], table[7], table[8]);
     fall(level, depth, any, table)
-}
-
-// The same where the inner depths are mostly idle: one test before the way up and one before the way down, on all that they could move there.
-pub fn reach_awake(live: u64, depth: usize, any: bool, up: u64, down: u64, table: &[u64; 81]) -> u64
-    requires { (depth ≤ 8) × Tests any table.now depth up down }
-    ensures { Passed any (slice_index table.now 6) (slice_index table.now 7) (slice_index table.now 8) table.now depth live result }
-{
-    let mut r = live;
-    if r & up != 0 {
-        r = rise(r, depth, any, table);
-    }
-    r = along(r, any, table[6], table[7], table[8]);
-    if r & down != 0 {
-        r = fall(r, depth, any, table);
-    }
-    r
 }
 
 // The live states moved by a byte, and state 0.

@@ -4,14 +4,14 @@ ghost use Rattle.std.specs.Prelude.{◌≡◌, ◌<◌, ◌≤◌, true, false, 
 ghost use Rattle.model.specs.Bits.{bit};
 ghost use Rattle.model.specs.Models.Sections.{repeat_place};
 ghost use Rattle.model.specs.Models.Words.{value};
-ghost use Rattle.run_word.specs.One.{one_masks, table_masks, Tests, work_masks};
+ghost use Rattle.run_word.specs.One.{one_masks, table_masks, work_masks};
 ghost use Rattle.run_word.specs.Ends.{Limits, RanOver};
 ghost use Rattle.run_word.specs.Stretch.{Chosen, Overs, RanFrom};
 
 use crate::places::note;
-use crate::rounds::close_awake;
-use crate::steps::{moved, pass, reach_awake};
-use crate::table::{any_back, inner_down, inner_up};
+use crate::rounds::close;
+use crate::steps::{moved, pass};
+use crate::table::any_back;
 
 // Where a stretch begins: the live states, the place in the whole text, and how many ends were found before.
 #[derive(Drop)]
@@ -70,7 +70,7 @@ fn over(
     }
 }
 
-// The loop for depths 0 and 1, with and without chains.
+// The loop for depths 0 and 1 with and without chains; for depth 2 with chains.
 fn over_0(
     image: &[u64],
     stretch: &[u8],
@@ -155,41 +155,25 @@ fn over_1_plain(
     )
 }
 
-// The loop of deeper rules, whose inner depths are mostly idle.
-fn over_deep(
+fn over_2(
     image: &[u64],
     stretch: &[u8],
     ends: &mut [u32],
     from: From,
     last: usize,
-    depth: usize,
-    any: bool,
-    up: u64,
-    down: u64,
+    block: u64,
+    below: u64,
+    target: u64,
     table: &[u64; 81],
 ) -> Ran
-    requires { Overs image.now stretch.now from last × (depth ≤ 8) × Tests any table.now depth up down }
-    ensures { RanFrom (work_masks image.now any table.now []) depth last stretch.now from
+    requires { Overs image.now stretch.now from last }
+    ensures { RanFrom (table_masks image.now true block below target table.now []) 2 last stretch.now from
         ends.old result ends.new }
 {
-    let mut live = from.live;
-    let mut total = from.found;
-    let mut p: usize = 0;
-    while p < stretch.len() {
-        let next = moved(live, image, stretch[p]);
-        live = reach_awake(next, depth, any, up, down, table);
-        p += 1;
-        total = note(
-            ends,
-            total,
-            (from.place + p as u64) as u32,
-            is_live(live, last),
-        );
-    }
-    Ran {
-        live,
-        total: total as u64,
-    }
+    over(
+        image, stretch, ends, from.live, from.place, from.found, last, 2, true, block, below,
+        target, table,
+    )
 }
 
 // The loop of a rule with back edges: each step closes in two rounds.
@@ -201,12 +185,10 @@ fn over_back(
     last: usize,
     depth: usize,
     any: bool,
-    up: u64,
-    down: u64,
     table: &[u64; 81],
     backs: &[u64; 16],
 ) -> Ran
-    requires { Overs image.now stretch.now from last × (depth ≤ 8) × Tests any table.now depth up down }
+    requires { Overs image.now stretch.now from last × (depth ≤ 8) }
     ensures { RanFrom (work_masks image.now any table.now backs.now) depth last stretch.now from
         ends.old result ends.new }
 {
@@ -215,7 +197,7 @@ fn over_back(
     let mut p: usize = 0;
     while p < stretch.len() {
         let next = moved(live, image, stretch[p]);
-        live = close_awake(next, depth, any, up, down, table, backs);
+        live = close(next, depth, any, table, backs);
         p += 1;
         total = note(
             ends,
@@ -261,12 +243,13 @@ fn run_plain(
         }
         return over_1_plain(image, stretch, ends, from, last, block, below, target, &t);
     }
-    let up = inner_up(&t, depth);
-    let down = inner_down(&t, depth);
     if depth == 2 {
-        return over_deep(image, stretch, ends, from, last, 2, true, up, down, &t);
+        return over_2(image, stretch, ends, from, last, block, below, target, &t);
     }
-    over_deep(image, stretch, ends, from, last, depth, any, up, down, &t)
+    over(
+        image, stretch, ends, from.live, from.place, from.found, last, depth, any, block, below,
+        target, &t,
+    )
 }
 
 // With or without back edges: a rule without one pays nothing for them after this.
@@ -287,11 +270,7 @@ pub fn run_over(
     if any_back(backs, depth) {
         let t = *table;
         let b = *backs;
-        let up = inner_up(&t, depth);
-        let down = inner_down(&t, depth);
-        return over_back(
-            image, stretch, ends, from, last, depth, any, up, down, &t, &b,
-        );
+        return over_back(image, stretch, ends, from, last, depth, any, &t, &b);
     }
     run_plain(image, stretch, ends, from, last, depth, any, table)
 }

@@ -1,7 +1,7 @@
 // The table of work: the masks of scatter, gather and propagate for each depth, from the image's words; and beside it those of the back edges.
 ghost use Rattle.std.specs.Prelude.{◌≡◌, ◌<◌, ◌≤◌, length};
 ghost use Rattle.image_sections.specs.Sections.{Single};
-ghost use Rattle.run_word.specs.One.{Backs, Entered, entry_at, InnerDown, InnerUp, NoBack, NoChain};
+ghost use Rattle.run_word.specs.One.{Backs, Entered, entry_at, NoBack, NoChain};
 
 use image_sections::Sections;
 
@@ -51,34 +51,6 @@ pub fn any_chain(table: &[u64; 81], depth: usize) -> bool
         k += 1;
     }
     false
-}
-
-// All that the inner depths could move on the way up: the gather sources and the chains.
-pub fn inner_up(table: &[u64; 81], depth: usize) -> u64
-    requires { depth ≤ 8 }
-    ensures { InnerUp table.now depth result }
-{
-    let mut r: u64 = 0;
-    let mut k = 0;
-    while k < depth {
-        k += 1;
-        r = r | (table[9 * k + 4] | table[9 * k + 6]);
-    }
-    r
-}
-
-// And on the way down: the scatter sources and the chains.
-pub fn inner_down(table: &[u64; 81], depth: usize) -> u64
-    requires { depth ≤ 8 }
-    ensures { InnerDown table.now depth result }
-{
-    let mut r: u64 = 0;
-    let mut k = 0;
-    while k < depth {
-        k += 1;
-        r = r | (table[9 * k + 1] | table[9 * k + 6]);
-    }
-    r
 }
 
 // Source and target of the back edges of each depth below d, zeros after.

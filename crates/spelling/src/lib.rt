@@ -1,6 +1,8 @@
 // Spellings (document 02, Wish 9): which bytes of a text did it, and by which states. The check of a proposal, whoever made it; the crate `spelling_propose` makes
 // one.
 
+#![tactic(auto)]
+
 mod follow;
 
 ghost use Rattle.answers.specs.Answers.{judgement};

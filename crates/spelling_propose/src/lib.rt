@@ -3,6 +3,8 @@
 // state 0 is among them is the latest start. Going forward from there, each byte enters a state of the next place's set. The sets of every 256th
 // place are kept, and those of one stretch of 256 computed anew: every byte is gone back over twice, however long the text is.
 
+#![tactic(auto)]
+
 mod earlier;
 mod origins;
 mod search;

@@ -1,5 +1,8 @@
 // What the scan over a tape knows before each token, and which tokens may stand there. The open unions are in a row of frames beside it, outermost
 // first, which is not handed on from token to token: the innermost frame is read, and one frame is stored.
+
+#![tactic(auto)]
+
 pub mod kind;
 pub mod token;
 

@@ -3,6 +3,8 @@
 // A tree with m states is a row of m - 1 tokens, one between each two neighbouring states. One scan over them, from left to right, knows all that
 // the masks need: the crate `tokens` has the tokens and what is known before each, `stroke` the strokes of one token, `masks` the masks.
 
+#![tactic(auto)]
+
 mod masks;
 pub mod plane;
 mod stroke;

@@ -2,6 +2,8 @@
 // place and the ends found in that stretch. Nothing else is kept between calls. No caller is trusted: the image is checked in every call, and a refusal
 // changes nothing that was lent.
 
+#![tactic(auto)]
+
 mod words;
 
 ghost use Rattle.model.specs.Watch.{BeginSays, StepSays, watch};
@@ -11,7 +13,7 @@ use crate::words::{is_mask, put_words};
 use answers::{Answer, Refusal};
 use image_check::{Verdict, check};
 use mask::bits::row_has_bit;
-use run_cached::ends::go_on;
+use run::ends::go_on;
 use run_word::places::note;
 
 // Begin: the live states before any byte into the mask, place 0, and place 0 as an end if it is one. The refusals are 6 and 9; done gives the total of ends at

@@ -1,6 +1,8 @@
 // The watcher's operations: document 01, "Numbers given back", and document 02's watch and spellings. No caller is trusted; a refusal changes nothing
 // that was lent and gives count 0. What each answer means in the documents' tables is defined in the crate `answers`.
 
+#![tactic(auto)]
+
 ghost use Rattle.model.specs.Answers.{BuildSays, MatchSays, ReadBackSays};
 ghost use Rattle.model.specs.Spelling.{CheckSays, ProposeSays};
 ghost use Rattle.model.specs.Watch.{BeginSays, StepSays, watch};
@@ -10,7 +12,7 @@ use answers::{Answer, Judged, Proposed, Refusal};
 use image::store;
 use image_check::{Verdict, check};
 use rule::{Outcome, read_rule};
-use run_cached::ends::find;
+use run::ends::find;
 
 // Build: from rule bytes to an image in lent words. The refusals are 1 to 5; done gives the image's length.
 pub fn build(rule: &[u8], image: &mut [u64]) -> Answer

@@ -2,6 +2,8 @@
 // only. Then the same functions first find how long the writing is, with no room lent, and then write it: what would lie past the room is counted and
 // not written.
 
+#![tactic(auto)]
+
 mod letter;
 mod own;
 mod ranges;

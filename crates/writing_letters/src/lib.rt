@@ -1,4 +1,7 @@
 // Plain writing (document 01) of single bytes and runs of them; `classes` has that of classes. What would lie past the room is counted and not written.
+
+#![tactic(auto)]
+
 pub mod classes;
 
 ghost use Rattle.std.specs.Prelude.{◌≡◌, ◌+◌, ◌^◌, ◌<◌, length, set};

@@ -102,10 +102,12 @@ module _ {A : Type 0} where
   beyond_firm {R} {x} {xs} (got_at {a} f) = gets [] refl at
     where
       at : (t : List ℕ) → Alike (x ∷ xs) t → R t ≡ got a t
+      at [] h = elim h [ ]
       at (y ∷ t) same_byte = f t
   beyond_firm {R} {x} {xs} (bad_at f) = stops [] refl at
     where
       at : (t : List ℕ) → Alike (x ∷ xs) t → R t ≡ bad t
+      at [] h = elim h [ ]
       at (y ∷ t) same_byte = f t
 
   -- a reader by what it does at the end, as Q does, and by what it does with a first byte

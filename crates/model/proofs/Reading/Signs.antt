@@ -1,6 +1,6 @@
 -- Repeat signs: the reader and the grammar agree. A number goes on as long as digits come, `,` and `}` are no digits, and a letter's sign is
 -- absent exactly if none of `? * + {` comes next.
-use mathlib.Core.Path.{◌≡◌, refl, subst}
+use mathlib.Core.Path.{◌≡◌, ap₂, refl, subst, sym}
 use mathlib.Core.Logic.{◌⊎◌, inl, inr}
 use mathlib.Core.Bool.{false, not}
 use mathlib.Core.List.{List, [], ◌∷◌, ◌++◌, append_assoc}
@@ -86,7 +86,8 @@ complete_number m g (two {n} {x} {y} {d} {e} p q k a b) r f =
       le_true m (10 * (10 * d + e) + 9) (omega arith),
       q,
     )
-    (digits_halt 1 m (10 * d + e) r (omega arith) f)
+    (subst (λ (v : ℕ). read_digits 1 m v r ≡ got (10 * d + e) r) (sym (ap₂ (λ (i j : ℕ). 10 * i + j) (digit_value a) (digit_value b)))
+    (digits_halt 1 m (10 * d + e) r (omega arith) f))
 complete_number m g (three {n} {x} {y} {z} {d} {e} {f = i} p q k a b c) r f =
     let v : 10 * (10 * d + e) + i ≡ n = omega arith in
     rw (

@@ -11,7 +11,7 @@ use Rattle.model.specs.Live.{Takes}
 use Rattle.model.proofs.Definitions.Below.{takes_rises}
 use Rattle.model.proofs.Definitions.Takes.{takes_is}
 use Rattle.model.proofs.Ends.Run.{letter_set, loops_byte, loop_set, Moved, moved_in, moved_out}
-use Rattle.model.proofs.Language.Arcs.{ArcKind, arcs, Byte, fork_arc, letter_arc, loop_arc, propagate_arc}
+use Rattle.model.proofs.Language.Arcs.{ArcKind, arcs, back_arc, Byte, fork_arc, letter_arc, loop_arc, propagate_arc}
 use Rattle.model.proofs.Laws.Bool.{and_both, and_split, or_left, or_right, or_split}
 use Rattle.model.proofs.Laws.Lists.{any_out}
 use Rattle.model.proofs.Words.Full.{Full}
@@ -59,6 +59,7 @@ module _ (t : Tree) (F : Full t) (b : ℕ) where
       way (loop_arc c) i j h = (h, refl, refl)
       way propagate_arc i j h = absurd h
       way (fork_arc xs) i j h = absurd h
+      way back_arc i j h = elim h [ ]
 
   module _ (D : ℕ → Bool) where
     -- WHAT IS ENTERED from a set

@@ -42,7 +42,7 @@ use Rattle.run.specs.Says.{Gone, StatesAre}
 use Rattle.run.specs.Work.{masks_of, row_at, rule_masks, Tabled}
 use Rattle.run.proofs.Image.Carry.{carried}
 use Rattle.run.proofs.Image.Live.{depth_is}
-use Rattle.run.proofs.Laws.One.{mask_back, mask_cut, one as one_wide}
+use Rattle.run.proofs.Laws.One.{mask_back, mask_cut, one as one-wide}
 use Rattle.run.proofs.Laws.Table.{back_cut, work_cut}
 
 -- ---- the first W words of eight
@@ -127,7 +127,7 @@ module _ (ws : List ℕ) (t : Tree) (I : ImageOf ws t) (fits : Fit ws) (table : 
   abbrev wide : ℕ
   wide = width (states t)
 
-  pub wide_is : width_of ws ≡ wide
+  wide_is : width_of ws ≡ wide
   wide_is = ap width_of (as_arcs ws t I)
 
   work : Cuts wide (depth t) (masks_of ws) (rule_masks ws wide table)
@@ -137,15 +137,12 @@ module _ (ws : List ℕ) (t : Tree) (I : ImageOf ws t) (fits : Fit ws) (table : 
       (subst (λ (n : ℕ). Cuts n (depth_word ws) (masks_of ws) (rule_masks ws n table)) wide_is
       (work_cut ws fits S table E (width_of ws), back_cut ws fits S table E (width_of ws) (le_refl (width_of ws))))
 
-  pub work_carry : Carry (states t) wide t (rule_masks ws wide table)
-  work_carry = first_carry (states t) I.few t (masks_of ws) (rule_masks ws wide table) (carried ws t I) work.0 work.1
-
   pub went : {p : Sections} → Placed ws p → (mask : List ℕ) → Fit mask → IsMask (states t) mask → (place : ℕ) (stretch : List ℕ) → Bytes stretch
       → (first before words : List ℕ) (total : ℕ) (after : List ℕ) → first ≡ row_at mask 0 p.width
       → RanOver (rule_masks ws p.width table) p.width p.depth (p.states - 1) place 0 stretch (take p.width first) before words total after
       → Gone t mask place stretch before words total after
   went {p} P mask fit M place stretch B first before words total after e G =
-      gone t (rule_full t I.is_rule) wide p.depth (p.states - 1) (rule_masks ws wide table) work_carry refl
+      gone t (rule_full t I.is_rule) wide p.depth (p.states - 1) (rule_masks ws wide table) (first_carry (states t) I.few t (masks_of ws) (rule_masks ws wide table) (carried ws t I) work.0 work.1) refl
       (own_depth P ∙ depth_is ws t I) last_is mask fit M place stretch B (take wide first) before words total after row_is
       (subst (λ (n : ℕ). RanOver (rule_masks ws n table) n p.depth (p.states - 1) place 0 stretch (take n first) before words total after) w G)
     where
@@ -171,8 +168,8 @@ module _ (ws : List ℕ) (t : Tree) (I : ImageOf ws t) (few : state_word ws ≤ 
   abbrev wide₁ : ℕ
   wide₁ = width (states t)
 
-  pub one_is : 1 ≡ wide₁
-  one_is = sym (one_wide ws (own_placed (image_placed ws t I)) few) ∙ ap width_of (as_arcs ws t I)
+  one_is : 1 ≡ wide₁
+  one_is = sym (one-wide ws (own_placed (image_placed ws t I)) few) ∙ ap width_of (as_arcs ws t I)
 
   word_work : Cuts wide₁ (depth t) (masks_of ws) (one_masks ws)
   word_work =
@@ -180,14 +177,12 @@ module _ (ws : List ℕ) (t : Tree) (I : ImageOf ws t) (few : state_word ws ≤ 
       subst (λ (n : ℕ). Cuts wide₁ n (masks_of ws) (one_masks ws)) (depth_is ws t I)
       (subst (λ (n : ℕ). Cuts n (depth_word ws) (masks_of ws) (one_masks ws)) one_is (mask_cut ws S few, mask_back ws S few))
 
-  pub word_carry : Carry (states t) wide₁ t (one_masks ws)
-  word_carry = first_carry (states t) I.few t (masks_of ws) (one_masks ws) (carried ws t I) word_work.0 word_work.1
-
   pub went_word : {p : Sections} → Placed ws p → (mask : List ℕ) → Fit mask → IsMask (states t) mask → (place : ℕ) (stretch : List ℕ) → Bytes stretch → {r : ℕ} (before : List ℕ)
       (total : ℕ) (after : List ℕ) → RanOver (one_masks ws) 1 p.depth (p.states - 1) place 0 stretch (get_or mask 0 0 ∷ []) before (r ∷ []) total after
       → Gone t mask place stretch before (set (replicate 8 0) 0 r) total after
   went_word {p} P mask fit M place stretch B {r} before total after G =
-      gone t (rule_full t I.is_rule) wide₁ p.depth (p.states - 1) (one_masks ws) word_carry refl (own_depth P ∙ depth_is ws t I) last_is mask fit M place stretch B
+      gone t (rule_full t I.is_rule) wide₁ p.depth (p.states - 1) (one_masks ws)
+      (first_carry (states t) I.few t (masks_of ws) (one_masks ws) (carried ws t I) word_work.0 word_work.1) refl (own_depth P ∙ depth_is ws t I) last_is mask fit M place stretch B
       (get_or mask 0 0 ∷ []) before (set (replicate 8 0) 0 r) total after (one_word mask (M.long ∙ sym one_is))
       (subst (λ (n : ℕ). RanOver (one_masks ws) n p.depth (p.states - 1) place 0 stretch (get_or mask 0 0 ∷ []) before (set (replicate 8 0) 0 r) total after) one_is
       (record { counted = G.counted; stored = G.stored; runs = G.runs }))

@@ -1,19 +1,16 @@
 -- TWO ROUNDS: one turn of the loop over the depths' back edges; that neither round looks at a letter; that nothing is added without a live source; and one
 -- byte with both, of which the first is all for a rule without a back edge.
 use mathlib.Core.Path.{◌≡◌, refl, sym, ap, ◌∙◌}
-use mathlib.Core.Logic.{inl, inr}
 use mathlib.Core.Bool.{true, false, cond}
 use mathlib.Core.List.{List, []}
 use Prim.Native.Nat.{ℕ, zero, suc, ◌+◌, ◌-◌, ◌*◌, ◌≤◌, ◌<◌}
 use native.Mathlib.Nat.{le_refl, not-suc-le-zero}
 use native.Mathlib.Omega.{arith}
 use lib.Bits.{bit_and}
-use lib.ListN.{get_or, length, get_or-eq_default, replicate, take}
-use lib.Seq.{get_or-take}
+use lib.ListN.{get_or, length, replicate, take}
 use Rattle.model.specs.Models.Run.{close_words, fall_words, Masks, pass_words, returns_words, return_words, rise_words, second_round}
 use Rattle.model.specs.Models.Verdict.{same_words}
 use Rattle.model.specs.Models.Words.{or_words}
-use Rattle.model.proofs.Laws.Bool.{le_or_lt}
 use Rattle.mask.proofs.Laws.Same.{same_true}
 use Rattle.run_word.proofs.Laws.Rounds.{no_more, one_more}
 use Rattle.run_moves.specs.Sets.{Apart}
@@ -68,13 +65,6 @@ module _ (n : ℕ) (table : List (List ℕ)) (d : ℕ) (row : List ℕ) (W : Who
   second_none =
       no_more (pass_masks n table) d (take n first) (take n first) (sym (returns_none d (le_refl d))) (same_true (take n first) (take n first) refl)
 
--- where the first eight words of the row of all sources are none, there is no back edge: no source has a word past them
-pub no_back : (table : List (List ℕ)) (d : ℕ) (row : List ℕ) → Whole table d → Sources table d row → take 8 row ≡ replicate 8 0 → NoBack table d
-no_back table d row W S e n live A k h i l = elim (le_or_lt 8 i) [
-  | inl g ↦ ap (λ (x : ℕ). bit_and x (get_or live i 0)) (get_or-eq_default (get_or table (81 + 2 * k) []) 0 (omega (arith, W (2 * k) (omega arith))))
-  | inr g ↦ S 8 live (λ j m. ap (λ (x : ℕ). bit_and x (get_or live j 0)) (sym (get_or-take 8 row j 0 m) ∙ ap (λ (w : List ℕ). get_or w j 0) e ∙ no_word 8 j)) k h i g
-]
-
 -- ---- ONE BYTE, from what it is with one round: with the second too, and without where there is no back edge
 module _ {n : ℕ} {ws : List ℕ} {b d : ℕ} {table : List (List ℕ)} {live first : List ℕ} (S : Stepped n ws b d table live first) where
   twice_made : (r : List ℕ) → take n r ≡ second_round (pass_masks n table) d (take n first) → length r ≡ 8 → SteppedOn n ws b d table live r
@@ -88,8 +78,8 @@ module _ {n : ℕ} {ws : List ℕ} {b d : ℕ} {table : List (List ℕ)} {live f
 
   -- with what the back edges add to the first round: nothing, or the passes once more
   module _ (more : List ℕ) (e : let f = take n first in take n more ≡ returns_words (pass_masks n table) d f f) where
-    pub turn_once : same_words (take n more) (take n first) ≡ true → (r : List ℕ) → take n r ≡ take n first → length r ≡ 8 → SteppedOn n ws b d table live r
-    turn_once t r q long = twice_made r (q ∙ no_more (pass_masks n table) d (take n first) (take n more) e t) long
+    pub turn_once : same_words (take n more) (take n first) ≡ true → SteppedOn n ws b d table live first
+    turn_once t = twice_made first (no_more (pass_masks n table) d (take n first) (take n more) e t) S.eight
 
     pub turn_twice : same_words (take n more) (take n first) ≡ false → (up second : List ℕ) → take n up ≡ rise_words (pass_masks n table) d (take n more)
         → take n second ≡ fall_words (pass_masks n table) d 0 (take n up) → length second ≡ 8 → SteppedOn n ws b d table live second

@@ -124,7 +124,7 @@ module _ (ws : List ℕ) (fits : Fit ws) (S : Placed ws (sections_in ws)) (table
 pub put_begin : (j : ℕ) (masks table : List (List ℕ)) → PutTo 0 j masks table table
 put_begin j masks table = record { here = λ k h. absurd (not-suc-le-zero h); there = λ k i h q. refl; long = refl }
 
-pub put_more : {c j : ℕ} {masks table new : List (List ℕ)} → PutTo c j masks table new → c < 9 → j < 9 → length table ≡ 100
+pub put_more : {c j : ℕ} {masks table new : List (List ℕ)} → PutTo c j masks table new → c < 9 → j < 9 → length table ≡ 97
     → PutTo (c + 1) j masks table (set new (9 * c + j) (get_or masks c []))
 put_more {c} {j} {masks} {table} {new} P h l long = record {
   here = below_more (λ (k : ℕ). get_or (set new (9 * c + j) v) (9 * k + j) [] ≡ get_or masks k []) c

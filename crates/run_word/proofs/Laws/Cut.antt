@@ -73,17 +73,17 @@ three_same f live {b} {b'} {s} {s'} {t} {t'} p q r =
     ap₂ (λ (x y : List ℕ). f x y t live) p q ∙ ap (λ (x : List ℕ). f b' s' x live) r
 
 module _ (n d : ℕ) (M N : Masks) (C : Cut n d M N) where
-  pub scattered : (k : ℕ) → k < d → (live : List ℕ) → take n (scatter_by M k live) ≡ scatter_by N k (take n live)
+  scattered : (k : ℕ) → k < d → (live : List ℕ) → take n (scatter_by M k live) ≡ scatter_by N k (take n live)
   scattered k h live =
       take_scatter n (M.scatter_mask k 0) (M.scatter_mask k 1) (M.scatter_mask k 2) live
       ∙ three_same scatter_words (take n live) (C.scatters k 0 h (omega arith)) (C.scatters k 1 h (omega arith)) (C.scatters k 2 h (omega arith))
 
-  pub gathered : (k : ℕ) → k < d → (live : List ℕ) → take n (gather_by M k live) ≡ gather_by N k (take n live)
+  gathered : (k : ℕ) → k < d → (live : List ℕ) → take n (gather_by M k live) ≡ gather_by N k (take n live)
   gathered k h live =
       take_gather n (M.gather_mask k 0) (M.gather_mask k 1) (M.gather_mask k 2) live
       ∙ three_same gather_words (take n live) (C.gathers k 0 h (omega arith)) (C.gathers k 1 h (omega arith)) (C.gathers k 2 h (omega arith))
 
-  pub propagated : (k : ℕ) → k ≤ d → (live : List ℕ) → take n (propagate_by M k live) ≡ propagate_by N k (take n live)
+  propagated : (k : ℕ) → k ≤ d → (live : List ℕ) → take n (propagate_by M k live) ≡ propagate_by N k (take n live)
   propagated k h live =
       take_propagate n (M.propagate_mask k 0) (M.propagate_mask k 1) (M.propagate_mask k 2) live
       ∙ three_same propagate_words (take n live) (C.propagates k 0 h (omega arith)) (C.propagates k 1 h (omega arith)) (C.propagates k 2 h (omega arith))

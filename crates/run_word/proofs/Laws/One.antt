@@ -1,22 +1,21 @@
 -- THE TABLE OF WORK HOLDS THE IMAGE'S MASKS: the entries by their tests; the table's masks are those of the image, so they find the same ends; and
 -- so do the masks of eight words of a rule of one.
-use Rattle.std.proofs.Common.{◌≡◌, ℕ, zero, suc, ◌+◌, ◌-◌, ◌*◌, ◌%◌, ◌^◌, ◌<◌, ◌≤◌, Bool, true, false, cond, ◌⊎◌, List, [], ◌∷◌, length, get_or, take, sym, refl, ap, ◌∙◌, subst, inl, inr, not-suc-le-zero, eq-or-lt_of_le, arith}
+use Rattle.std.proofs.Common.{◌≡◌, ℕ, zero, suc, ◌+◌, ◌-◌, ◌*◌, ◌%◌, ◌^◌, ◌<◌, ◌≤◌, Bool, true, false, cond, ◌⊎◌, List, [], ◌∷◌, length, get_or, take, sym, refl, ap, ◌∙◌, inl, inr, not-suc-le-zero, eq-or-lt_of_le, arith}
 use lib.Seq.{sets}
 use Rattle.model.specs.Models.Sections.{back_at, depth_word, gather_at, propagate_at, scatter_at, three_place, two_place}
-use Rattle.model.specs.Models.Idle.{Calm}
-use Rattle.model.specs.Models.Run.{close_words, ends_after, Masks, propagate_by, run_from}
+use Rattle.model.specs.Models.Run.{close_words, ends_after, Masks, run_from}
 use Rattle.model.specs.Models.Words.{wrap_add, wrap_sub}
 use Rattle.model.proofs.Words.Run.{Bytes}
 use Rattle.image_sections.specs.Sections.{Placed}
 use Rattle.image_sections.specs.declared.Sections.{Sections}
 use Rattle.image_sections.proofs.Laws.Within.{single}
 use Rattle.run_word.specs.Ends.{Limits, RanOver}
-use Rattle.run_word.specs.One.{Backs, chain, Entered, entry_at, InnerDown, InnerUp, NoChain, one_masks, Tests, word_at, work_masks}
+use Rattle.run_word.specs.One.{Backs, chain, Entered, entry_at, NoChain, one_masks, word_at, work_masks}
 use Rattle.run_word.specs.Stretch.{Chosen, RanFrom}
 use Rattle.run_word.specs.declared.stretch.From.{From}
 use Rattle.run_word.specs.declared.stretch.Ran.{Ran}
 use Rattle.run_word.proofs.Laws.Back.{BackCut, Zeros}
-use Rattle.run_word.proofs.Laws.Cut.{after_cut, close_cut, Cut, gathered as cut-gather, propagated as cut-propagate, run_cut, scattered as cut-scatter}
+use Rattle.run_word.proofs.Laws.Cut.{after_cut, close_cut, Cut, run_cut}
 use Rattle.run_word.proofs.Laws.Nine.{entered_at, nine_gather, nine_scatter}
 
 pub less-one : {x s : ℕ} → s < 2 ^ 64 → (s + 1) % 2 ^ 64 ≡ x → s ≡ wrap_sub x 1
@@ -125,18 +124,6 @@ module _ (ws table backs : List ℕ) (d : ℕ) (any : Bool) (deep : d ≡ depth_
       none w zero h = absurd (not-suc-le-zero h)
       none w (suc i) h = refl
 
-  -- so they make as little of no live state as the image's do, whatever the letters and the back edges are
-  calm : Calm (one_masks ws) 1 d → Calm (work_masks [] any table []) 1 d
-  calm C = record {
-    scatters = λ k h. cut-scatter 1 d T (one_masks ws) one_cut k h (0 ∷ []) ∙ C.scatters k h;
-    gathers = λ k h. cut-gather 1 d T (one_masks ws) one_cut k h (0 ∷ []) ∙ C.gathers k h;
-    chains = chains;
-  }
-    where
-      chains : (k : ℕ) → 0 < k → k ≤ d → propagate_by T k (0 ∷ []) ≡ 0 ∷ []
-      chains zero h l = absurd (omega arith)
-      chains (suc k) h l = cut-propagate 1 d T (one_masks ws) one_cut (suc k) l (0 ∷ []) ∙ C.chains (suc k) h l
-
   -- the first words, and the run over a stretch with the depth as a literal or not
   pub one_first : {first : ℕ} → first ∷ [] ≡ close_words T d (1 ∷ []) → first ∷ [] ≡ close_words (one_masks ws) d (1 ∷ [])
   one_first e = ap (take 1) e ∙ close_cut 1 d T (one_masks ws) one_cut one_back (1 ∷ []) (omega arith)
@@ -162,13 +149,6 @@ pub chosen : {ws stretch : List ℕ} {from : From} {last d : ℕ} {any : Bool} {
     → RanFrom (work_masks ws flag table edges) n last stretch from before r after → RanFrom (one_masks ws) d last stretch from before r after
 chosen {ws} {d = d} {table = table} C fit bs flag N edges B n e r = one_over ws table edges d flag C.deep C.entered N B fit n e C.overs.few bs
 
--- with the words of all that the inner depths could move a loop has what its tests ask, for the table's masks are as calm as the image's
-pub tests : {ws stretch : List ℕ} {from : From} {last d : ℕ} {any : Bool} {table backs : List ℕ} → Chosen ws stretch from last d any table backs → ((i : ℕ) → get_or ws i 0 < 2 ^ 64)
-    → (flag : Bool) → NoChain table d flag → (n : ℕ) → d ≡ n → {up down : ℕ} → InnerUp table d up → InnerDown table d down → Tests flag table n up down
-tests {ws} {d = d} {table = table} {backs} C fit flag N n e {up} {down} U D =
-    subst (λ (k : ℕ). Tests flag table k up down) e
-    (record { rising = U; falling = D; calm = calm ws table backs d flag C.deep C.entered N C.edges fit C.calm })
-
 pub no_back : {ws stretch : List ℕ} {from : From} {last d : ℕ} {any : Bool} {table backs : List ℕ} → Chosen ws stretch from last d any table backs
     → ((i : ℕ) → i < 2 * d → get_or backs i 0 ≡ 0) → Chosen ws stretch from last d any table []
 no_back C z = record {
@@ -178,14 +158,13 @@ no_back C z = record {
   entered = C.entered;
   none = C.none;
   edges = λ i h. sym (z i h) ∙ C.edges i h;
-  calm = C.calm;
 }
 
 -- words of one word to a mask, with the table that was made of them, have what the choice of a loop asks
 pub may_choose : {ws : List ℕ} {p : Sections} → Placed ws p → p.states ≤ 64 → {any : Bool} {table backs : List ℕ} → Entered ws p.depth table
-    → NoChain table p.depth any → Backs ws p.depth backs → Calm (one_masks ws) 1 p.depth → (from : From) {stretch : List ℕ} → Limits from.place from.found stretch
+    → NoChain table p.depth any → Backs ws p.depth backs → (from : From) {stretch : List ℕ} → Limits from.place from.found stretch
     → Chosen ws stretch from (p.states - 1) p.depth any table backs
-may_choose P h E N B Q from L =
+may_choose P h E N B from L =
     let S = single P h in
     record {
       overs = record { long = omega (arith, S.long); limits = L; few = omega (arith, h, P.some) };
@@ -194,5 +173,4 @@ may_choose P h E N B Q from L =
       entered = E;
       none = N;
       edges = B;
-      calm = Q;
     }

@@ -4,7 +4,7 @@ use Rattle.model.specs.Models.Run.{close_words, Masks, pass_words, returns_words
 use Rattle.model.specs.Models.Verdict.{same_words}
 use Rattle.model.specs.Models.Words.{or_words}
 use Rattle.mask.proofs.Laws.Same.{same_false, same_true}
-use Rattle.run_word.specs.One.{Again, Closed, Passed, table_masks, word_at, work_masks}
+use Rattle.run_word.specs.One.{table_masks, word_at}
 use Rattle.run_word.proofs.Laws.Back.{one_round, Zeros}
 
 -- ---- one turn of the loop over the depths
@@ -31,18 +31,14 @@ module _ (M : Masks) (d : ℕ) (first more : List ℕ) (e : more ≡ returns_wor
   pub no_more : same_words more first ≡ true → first ≡ second_round M d first
   no_more t = by t
 
--- of one word
-module _ (M : Masks) (d first more : ℕ) (R : more ∷ [] ≡ returns_words M d (first ∷ []) (first ∷ [])) where
-  pub again_once : more ≡ first → first ∷ [] ≡ second_round M d (first ∷ [])
-  again_once e = no_more M d (first ∷ []) (more ∷ []) R (same_true (more ∷ []) (first ∷ []) (ap (λ (w : ℕ). w ∷ []) e))
+-- both rounds of one word
+module _ (M : Masks) (d : ℕ) (live : List ℕ) (first more : ℕ) (P : first ∷ [] ≡ pass_words M d live) (R : more ∷ [] ≡ returns_words M d (first ∷ []) (first ∷ [])) where
+  pub closed_once : more ≡ first → first ∷ [] ≡ close_words M d live
+  closed_once e = no_more M d (first ∷ []) (more ∷ []) R (same_true (more ∷ []) (first ∷ []) (ap (λ (w : ℕ). w ∷ []) e)) ∙ ap (second_round M d) P
 
-  pub again_twice : more ≢ first → pass_words M d (more ∷ []) ≡ second_round M d (first ∷ [])
-  again_twice n = one_more M d (first ∷ []) (more ∷ []) R (same_false (more ∷ []) (first ∷ []) (λ e. n (ap (λ (ws : List ℕ). get_or ws 0 0) e)))
-
--- both rounds, by what each made
-pub both_rounds : (any : Bool) (table backs : List ℕ) (d live first : ℕ) {r : ℕ} → Passed any (get_or table 6 0) (get_or table 7 0) (get_or table 8 0) table d live first
-    → Again any table backs d first r → Closed any table backs d live r
-both_rounds any table backs d live first P A ws = A ws ∙ ap (second_round (work_masks ws any table backs) d) (P ws backs)
+  pub closed_twice : more ≢ first → pass_words M d (more ∷ []) ≡ close_words M d live
+  closed_twice n =
+      one_more M d (first ∷ []) (more ∷ []) R (same_false (more ∷ []) (first ∷ []) (λ e. n (ap (λ (ws : List ℕ). get_or ws 0 0) e))) ∙ ap (second_round M d) P
 
 -- without back edges the passes are all
 pub no_edges : (ws : List ℕ) (any : Bool) (block below target : ℕ) (table : List ℕ) (d live : ℕ)

@@ -19,7 +19,7 @@ module _ (M : Masks) (d last place : ℕ) (stretch : List ℕ) where
   -- p bytes are done; in the end the total will be `all`, what was lent `lent` and the words `final`
   pub record At (size all : ℕ) (lent final places live : List ℕ) (total p : ℕ) : Type 0 where
     pub within : p ≤ length stretch
-    pub few : total + length stretch ≤ p + 65536
+    pub few : total ≤ p + 1
     pub long : length places ≡ size
     pub counted : total + length (to_come p live) ≡ all
     pub stored : sets places total (to_come p live) ≡ lent
@@ -29,7 +29,7 @@ module _ (M : Masks) (d last place : ℕ) (stretch : List ℕ) where
   Since places₀ live₀ total₀ p₀ =
       At (length places₀) (total₀ + length (to_come p₀ live₀)) (sets places₀ total₀ (to_come p₀ live₀)) (run_from M d live₀ (drop p₀ stretch))
 
-  pub since_now : (places live : List ℕ) (total p : ℕ) → p ≤ length stretch → total + length stretch ≤ p + 65536 → Since places live total p places live total p
+  pub since_now : (places live : List ℕ) (total p : ℕ) → p ≤ length stretch → total ≤ p + 1 → Since places live total p places live total p
   since_now places live total p h l = record { within = h; few = l; long = refl; counted = refl; stored = refl; runs = refl }
 
   pub since_then : {size all total total' p p' : ℕ} {lent final places live places' live' : List ℕ} → At size all lent final places live total p

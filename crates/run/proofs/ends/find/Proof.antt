@@ -7,7 +7,6 @@ use Rattle.image_sections.proofs.Laws.Within.{own_depth, own_placed, own_states}
 use Rattle.run_word.specs.One.{one_masks}
 use Rattle.run_word.proofs.Laws.Bytes.{all_bytes}
 use Rattle.run.specs.Work.{masks_of}
-use Rattle.run.proofs.Image.Calm.{word_calm}
 use Rattle.run.proofs.Image.Ends.{find_says}
 use Rattle.run.proofs.Laws.One.{one_same}
 use borrow.Author.Rules.{rules}
@@ -15,7 +14,7 @@ use Rattle.run.proofs.ends.find.Statement.{statement}
 use Rattle.run.proofs.ends.find.Tie as tie
 
 find-requires : tie.Need-find-requires
-find-requires c κs = let s = c.before.before.before.before.before.before in (s.requires.0, c.before.if1.true, s.requires.1, word_calm s.requires.0 c.before.if1.true s.requires.2)
+find-requires c κs = let s = c.before.before.before.before.before.before in (s.requires.0, c.before.if1.true, s.requires.1)
 
 same_length : tie.Need-same-length
 same_length c = search rules
@@ -34,7 +33,7 @@ returns c =
     ∙ one_same ws text (own_placed P) (omega (arith, own_states P, c.before.before.before.before.if1.true)) bs) r.ensures
 
 find-words-requires : tie.Need-find-words-requires
-find-words-requires c κs = let s = c.before.before.before.before.before.before in (s.requires.0, omega (arith, c.before.if1.false), s.requires.1, s.requires.2)
+find-words-requires c κs = let s = c.before.before.before.before.before.before in (s.requires.0, omega (arith, c.before.if1.false), s.requires.1)
 
 same-length-2 : tie.Need-same-length-2
 same-length-2 c = search rules

@@ -18,7 +18,7 @@ table-requires : tie.Need-table-requires
 table-requires c κs = c.before.before.before.requires.0
 
 note-ends-requires : tie.Need-note-ends-requires
-note-ends-requires c κs = let s = c.before.before.before.before.before.before in record { placed = s.requires.0; many = s.requires.1; small = s.requires.2; image = s.requires.3; tabled = c.before.before.table.ensures }
+note-ends-requires c κs = let s = c.before.before.before.before.before.before in record { placed = s.requires.0; many = s.requires.1; small = s.requires.2; tabled = c.before.before.table.ensures }
 
 same_length : tie.Need-same-length
 same_length c = search rules

@@ -1,10 +1,10 @@
 -- `go_on_words`: the loop with the table of work, from the words of a mask (`went`).
 use native.Mathlib.Omega.{arith}
 use Rattle.mask.proofs.Laws.Bits.{fit_row}
-use Rattle.image_sections.proofs.Laws.Within.{own_states, within}
+use Rattle.image_sections.proofs.Laws.Within.{bytes_fit, own_states, within}
 use Rattle.run_word.proofs.Laws.Bytes.{all_bytes}
-use Rattle.run.proofs.Image.Calm.{turns_of}
 use Rattle.run.proofs.Image.Stretch.{went}
+use Rattle.run.proofs.Laws.Backs.{whole_backs}
 use Rattle.run.proofs.Laws.Table.{tabled_of}
 use borrow.Author.Rules.{rules}
 use Rattle.run.proofs.ends.go_on_words.Statement.{statement}
@@ -21,13 +21,15 @@ row-at-requires c κs = let s = c.before.before.before.before.before.before in (
 
 run-over-requires : tie.Need-run-over-requires
 run-over-requires c κs =
-    let b = c.before.before.before in
-    let s = b.before.before.before.before.before.before in
+    let t = c.before.before.before.table in
+    let s = c.before.before.before.before.before.before.before.before.before in
     let P = s.requires.0.placed in
+    let I = within P in
     record {
-      turns = turns_of (fit_row s.args.image.now b.before.before.before.before.before.shared-slice-known.given) P s.requires.1 b.table.ensures s.requires.0.image;
+      steps = record { wide = omega (arith, I.room, s.requires.1); narrow = I.narrow; long = bytes_fit P; shallow = I.deep };
       limits = s.requires.0.limits;
-      within = omega (arith, (within P).room, own_states P, P.some);
+      within = omega (arith, I.room, own_states P, P.some);
+      whole = whole_backs t.result P t.ensures;
     }
 
 same_length : tie.Need-same-length

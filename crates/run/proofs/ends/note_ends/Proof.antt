@@ -6,11 +6,11 @@ use native.Mathlib.Omega.{arith}
 use lib.ListN.{length, take}
 use Rattle.model.specs.Models.Run.{close_words}
 use Rattle.mask.proofs.Laws.Bits.{fit_row}
-use Rattle.image_sections.proofs.Laws.Within.{own_depth, own_placed, own_states, own_width, within}
+use Rattle.image_sections.proofs.Laws.Within.{bytes_fit, own_depth, own_placed, own_states, own_width, within}
 use Rattle.run_word.proofs.Laws.Cut.{take_bit}
 use Rattle.run_word.proofs.Laws.Stretch.{begun, noted_few}
 use Rattle.run.specs.Work.{rule_masks}
-use Rattle.run.proofs.Image.Calm.{turns_of}
+use Rattle.run.proofs.Laws.Backs.{whole_backs}
 use Rattle.run.proofs.Laws.Table.{close_wide, tabled_of}
 use borrow.Author.Rules.{rules}
 use Rattle.run.proofs.ends.note_ends.Statement.{statement}
@@ -48,13 +48,14 @@ note-requires c κs = search rules
 run-over-requires : tie.Need-run-over-requires
 run-over-requires c κs =
     let n = c.before.before.before in
-    let k = closed n in
-    let s = entry k in
+    let s = entry (closed n) in
     let P = s.pre.placed in
+    let I = within P in
     record {
-      turns = turns_of (fit_row s.args.image.now k.before.before.before.before.before.shared-slice-known.given) P s.pre.many s.pre.tabled s.pre.image;
-      limits = record { small = s.pre.small; near = omega (arith, s.pre.small); few = omega (arith, s.pre.small, n.note.ensures.0, noted_few n.before.is_live.result 0) };
-      within = omega (arith, (within P).room, own_states P, P.some);
+      steps = record { wide = omega (arith, I.room, s.pre.many); narrow = I.narrow; long = bytes_fit P; shallow = I.deep };
+      limits = record { small = s.pre.small; near = omega (arith, s.pre.small); few = omega (arith, n.note.ensures.0, noted_few n.before.is_live.result 0) };
+      within = omega (arith, I.room, own_states P, P.some);
+      whole = whole_backs s.args.table.now P s.pre.tabled;
     }
 
 same_length : tie.Need-same-length

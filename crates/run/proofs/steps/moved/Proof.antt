@@ -3,7 +3,7 @@ use mathlib.Core.Path.{◌≡◌, ap, ◌∙◌}
 use mathlib.Core.List.{List}
 use Prim.Native.Nat.{ℕ}
 use native.Mathlib.Omega.{arith}
-use lib.ListN.{length, take}
+use lib.ListN.{take}
 use Rattle.model.specs.Models.Run.{move_words}
 use Rattle.model.specs.Models.Sections.{letter_place, repeat_place}
 use Rattle.model.proofs.Image.Address.{part_fits}
@@ -34,13 +34,11 @@ returns : tie.Need-returns
 returns c =
     let p = c.before.before.before in
     let l = p.before.before in
-    let s = l.before.before in
-    let a = s.args in
+    let a = l.before.before.args in
     let row : ℕ → List ℕ = λ x. row_at a.image.now x a.width in
     let letters : p.before.row_at.result ≡ row (letter_place a.width a.byte) = p.before.row_at.ensures ∙ ap row l.letters-at.ensures in
     let repeats : c.before.before.row-at2.result ≡ row (repeat_place a.width a.byte) = c.before.before.row-at2.ensures ∙ ap row p.repeats-at.ensures in
-    let eight : length a.live.words ≡ 8 = search (rules, s.well_formed.0.1.1.0.1.0.1) in
-    (c.advance.ensures ∙ (λ i. move_words (take a.n (letters i)) (take a.n (repeats i)) (take a.n (c.before.start.ensures i)) (take a.n a.live.words)), eight)
+    c.advance.ensures ∙ (λ i. move_words (take a.n (letters i)) (take a.n (repeats i)) (take a.n (c.before.start.ensures i)) (take a.n a.live.words))
 
 pub moved-spec : {M : Type 1} → statement M
 moved-spec =

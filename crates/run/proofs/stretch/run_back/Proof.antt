@@ -12,18 +12,18 @@ use Rattle.run.proofs.stretch.run_back.Statement.{statement}
 use Rattle.run.proofs.stretch.run_back.Tie as tie
 
 abbrev invariant-loop2 : tie.invariant-loop2
-invariant-loop2 image stretch places₀ place found width depth last table live₀ total₀ p₀ stop places live total p =
+invariant-loop2 image stretch places₀ place found width depth last table sources live₀ total₀ p₀ stop places live total p =
     Since (rule_masks image width table) depth last place stretch places₀ (take width live₀) total₀ p₀ places (take width live) total p
 
 abbrev decreases-loop2 : tie.decreases-loop2
-decreases-loop2 image stretch places₀ place found width depth last table live₀ total₀ p₀ stop places live total p = stop - p
+decreases-loop2 image stretch places₀ place found width depth last table sources live₀ total₀ p₀ stop places live total p = stop - p
 
 abbrev invariant-loop : tie.invariant-loop
-invariant-loop image stretch places₀ place found width depth last table live₀ total₀ p₀ places live total p =
+invariant-loop image stretch places₀ place found width depth last table sources live₀ total₀ p₀ places live total p =
     Since (rule_masks image width table) depth last place stretch places₀ (take width live₀) total₀ p₀ places (take width live) total p
 
 abbrev decreases-loop : tie.decreases-loop
-decreases-loop image stretch places₀ place found width depth last table live₀ total₀ p₀ places live total p = length stretch - p
+decreases-loop image stretch places₀ place found width depth last table sources live₀ total₀ p₀ places live total p = length stretch - p
 
 -- where the function began, from a portion cut off; the portion, from a turn for one of its bytes; the turn, from the note of its place
 abbrev start : tie.After-portion invariant-loop2 decreases-loop2 invariant-loop decreases-loop → tie.Start invariant-loop2 decreases-loop2 invariant-loop decreases-loop
@@ -39,7 +39,7 @@ loop-holds : tie.Need-loop-init invariant-loop2 decreases-loop2 invariant-loop d
 loop-holds c =
     let s = c.before.before.before in
     let a = s.args in
-    since_now (rule_masks a.image.now a.width a.table.now) a.depth a.last a.place a.stretch.now a.places.now (take a.width a.first) a.found 0 (omega arith) (omega (arith, s.requires.limits.few))
+    since_now (rule_masks a.image.now a.width a.table.now) a.depth a.last a.place a.stretch.now a.places.now (take a.width a.first) a.found 0 (omega arith) (omega (arith, s.requires.0.limits.few))
 
 portion-requires : tie.Need-portion-requires invariant-loop2 decreases-loop2 invariant-loop decreases-loop
 portion-requires c κs = c.before.loop.invariant.within
@@ -64,23 +64,23 @@ shared-slice-read-turn-by : tie.Need-shared-slice-read-turn-by invariant-loop2 d
 shared-slice-read-turn-by c = let t = c.before.before in omega (arith, t.loop2-test.true, (cut_off t).portion.ensures.1)
 
 turn-by-requires : tie.Need-turn-by-requires invariant-loop2 decreases-loop2 invariant-loop decreases-loop
-turn-by-requires c κs = (start (cut_off c.before.before)).pre.turns
+turn-by-requires c κs = let p = (start (cut_off c.before.before)).pre in record { steps = p.0.steps; whole = p.0.whole; sources = p.1 }
 
 add-p : tie.Need-overflow-add-p invariant-loop2 decreases-loop2 invariant-loop decreases-loop
 add-p c =
     let t = c.before.before.before in
     let q = cut_off t in
-    omega (arith, t.loop2-test.true, q.portion.ensures.1, (start q).pre.limits.small)
+    omega (arith, t.loop2-test.true, q.portion.ensures.1, (start q).pre.0.limits.small)
 
 add-note : tie.Need-overflow-add-note invariant-loop2 decreases-loop2 invariant-loop decreases-loop
 add-note c =
     let q = cut_off (turn c) in
-    omega (arith, (turn c).loop2-test.true, q.portion.ensures.1, (start q).pre.limits.near)
+    omega (arith, (turn c).loop2-test.true, q.portion.ensures.1, (start q).pre.0.limits.near)
 
 cast-note : tie.Need-overflow-cast-note invariant-loop2 decreases-loop2 invariant-loop decreases-loop
 cast-note c =
     let q = cut_off (turn c) in
-    omega (arith, (turn c).loop2-test.true, q.portion.ensures.1, (start q).pre.limits.near)
+    omega (arith, (turn c).loop2-test.true, q.portion.ensures.1, (start q).pre.0.limits.near)
 
 slice-aggregate-is-live : tie.Need-slice-aggregate-is-live invariant-loop2 decreases-loop2 invariant-loop decreases-loop
 slice-aggregate-is-live c = sym c.before.before.turn_by.ensures.eight
@@ -88,7 +88,7 @@ slice-aggregate-is-live c = sym c.before.before.turn_by.ensures.eight
 is-live-requires : tie.Need-is-live-requires invariant-loop2 decreases-loop2 invariant-loop decreases-loop
 is-live-requires c κs =
     let s = start (cut_off (turn c.before)) in
-    omega (arith, c.before.before.turn_by.ensures.eight, s.pre.within, s.pre.turns.steps.tests.narrow)
+    omega (arith, c.before.before.turn_by.ensures.eight, s.pre.0.within, s.pre.0.steps.narrow)
 
 note-requires : tie.Need-note-requires invariant-loop2 decreases-loop2 invariant-loop decreases-loop
 note-requires c κs = search rules
@@ -106,9 +106,9 @@ loop2-again c =
     let q = cut_off t in
     let s = start q in
     let a = s.args in
-    at_next (rule_masks a.image.now a.width a.table.now) a.depth a.last a.place a.stretch.now s.pre.limits.small (take a.width b.new.0) l.inv
+    at_next (rule_masks a.image.now a.width a.table.now) a.depth a.last a.place a.stretch.now s.pre.0.limits.small (take a.width b.new.0) l.inv
     (omega (arith, t.loop2-test.taken, q.portion.ensures.1)) b.ensures.made h.is_live.result
-    (h.is_live.ensures ∙ take_bit a.width b.new.0 a.last s.pre.within) n.note.ensures.0 n.note.ensures.1
+    (h.is_live.ensures ∙ take_bit a.width b.new.0 a.last s.pre.0.within) n.note.ensures.0 n.note.ensures.1
 
 same_length : tie.Need-same-length invariant-loop2 decreases-loop2 invariant-loop decreases-loop
 same_length c = c.before.loop.invariant.long

@@ -65,7 +65,7 @@ shared-slice-read-step-by : tie.Need-shared-slice-read-step-by invariant-loop2 d
 shared-slice-read-step-by c = let t = c.before.before in omega (arith, t.loop2-test.true, (cut_off t).portion.ensures.1)
 
 step-by-requires : tie.Need-step-by-requires invariant-loop2 decreases-loop2 invariant-loop decreases-loop
-step-by-requires c κs = (start (cut_off c.before.before)).pre.0.turns.steps
+step-by-requires c κs = (start (cut_off c.before.before)).pre.0.steps
 
 add-p : tie.Need-overflow-add-p invariant-loop2 decreases-loop2 invariant-loop decreases-loop
 add-p c =
@@ -89,7 +89,7 @@ slice-aggregate-is-live c = sym c.before.before.step_by.ensures.eight
 is-live-requires : tie.Need-is-live-requires invariant-loop2 decreases-loop2 invariant-loop decreases-loop
 is-live-requires c κs =
     let s = start (cut_off (turn c.before)) in
-    omega (arith, c.before.before.step_by.ensures.eight, s.pre.0.within, s.pre.0.turns.steps.tests.narrow)
+    omega (arith, c.before.before.step_by.ensures.eight, s.pre.0.within, s.pre.0.steps.narrow)
 
 note-requires : tie.Need-note-requires invariant-loop2 decreases-loop2 invariant-loop decreases-loop
 note-requires c κs = search rules
@@ -108,7 +108,7 @@ loop2-again c =
     let s = start q in
     let a = s.args in
     at_next (rule_masks a.image.now a.width a.table.now) a.depth a.last a.place a.stretch.now s.pre.0.limits.small (take a.width b.new.0) l.inv
-    (omega (arith, t.loop2-test.taken, q.portion.ensures.1)) (once_made b.ensures s.pre.0.turns.whole s.pre.1).made h.is_live.result
+    (omega (arith, t.loop2-test.taken, q.portion.ensures.1)) (once_made b.ensures s.pre.0.whole s.pre.1).made h.is_live.result
     (h.is_live.ensures ∙ take_bit a.width b.new.0 a.last s.pre.0.within) n.note.ensures.0 n.note.ensures.1
 
 same_length : tie.Need-same-length invariant-loop2 decreases-loop2 invariant-loop decreases-loop

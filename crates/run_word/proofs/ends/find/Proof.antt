@@ -48,9 +48,9 @@ run-over-requires c κs =
     let y = e.before in
     let b = y.before.before in
     let s = start b in
-    may_choose s.pre.0 s.pre.1 b.table.ensures y.any-chain.ensures e.backs.ensures s.pre.3
+    may_choose s.pre.0 s.pre.1 b.table.ensures y.any-chain.ensures e.backs.ensures
     (record { live = q.close.result; place = 0; found = n.note.result })
-    (record { small = s.pre.2; near = omega (arith, s.pre.2); few = omega (arith, s.pre.2, n.note.ensures.0, noted_few n.before.is_live.result 0) })
+    (record { small = s.pre.2; near = omega (arith, s.pre.2); few = omega (arith, n.note.ensures.0, noted_few n.before.is_live.result 0) })
 
 same_length : tie.Need-same-length
 same_length c = search rules

@@ -26,8 +26,8 @@ run-over-requires c κs =
     let y = e.before in
     let b = y.before.before in
     let s = b.before.before.before.before.before in
-    may_choose s.requires.0 s.requires.1 b.table.ensures y.any-chain.ensures e.backs.ensures s.requires.3
-    (record { live = s.args.live; place = s.args.place; found = s.args.found }) s.requires.2
+    may_choose s.requires.0 s.requires.1 b.table.ensures y.any-chain.ensures e.backs.ensures
+    (record { live = s.args.live; place = s.args.place; found = 0 }) s.requires.2
 
 same_length : tie.Need-same-length
 same_length c = search rules

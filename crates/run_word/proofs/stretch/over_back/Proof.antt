@@ -7,11 +7,11 @@ use Rattle.run_word.proofs.stretch.over_back.Statement.{statement}
 use Rattle.run_word.proofs.stretch.over_back.Tie as tie
 
 abbrev invariant-loop : tie.invariant-loop
-invariant-loop image stretch ends₀ from last depth any up down table backs live₀ total₀ p₀ ends live total p =
+invariant-loop image stretch ends₀ from last depth any table backs live₀ total₀ p₀ ends live total p =
     Since (work_masks image any table backs) depth last from.place stretch ends₀ (live₀ ∷ []) total₀ 0 ends (live ∷ []) total p
 
 abbrev decreases-loop : tie.decreases-loop
-decreases-loop image stretch ends₀ from last depth any up down table backs live₀ total₀ p₀ ends live total p = length stretch - p
+decreases-loop image stretch ends₀ from last depth any table backs live₀ total₀ p₀ ends live total p = length stretch - p
 
 -- where the function began, from a turn; the turn, from the note of its place
 abbrev start : tie.In-loop invariant-loop decreases-loop → tie.Start invariant-loop decreases-loop
@@ -29,8 +29,8 @@ shared-slice-read-moved c = search rules
 moved-requires : tie.Need-moved-requires invariant-loop decreases-loop
 moved-requires c κs = (start c.before).pre.0.long
 
-close-awake-requires : tie.Need-close-awake-requires invariant-loop decreases-loop
-close-awake-requires c κs = let s = start c.before.before in (s.pre.1, s.pre.2)
+close-requires : tie.Need-close-requires invariant-loop decreases-loop
+close-requires c κs = (start c.before.before).pre.1
 
 add-p : tie.Need-overflow-add-p invariant-loop decreases-loop
 add-p c = let t = c.before.before.before in omega (arith, t.loop-test.true, (start t).requires.0.limits.small)
@@ -59,8 +59,8 @@ loop-again c =
     let t = m.before.before in
     let s = start t in
     let a = s.args in
-    at_next _ _ _ _ _ s.pre.0.limits.small (q.close-awake.result ∷ []) t.before.loop.invariant t.loop-test.true
-    (q.close-awake.ensures a.image.now ∙ ap (close_words (work_masks a.image.now a.any a.table.now a.backs.now) a.depth) m.moved.ensures) h.is_live.result h.is_live.ensures
+    at_next _ _ _ _ _ s.pre.0.limits.small (q.close.result ∷ []) t.before.loop.invariant t.loop-test.true
+    (q.close.ensures a.image.now ∙ ap (close_words (work_masks a.image.now a.any a.table.now a.backs.now) a.depth) m.moved.ensures) h.is_live.result h.is_live.ensures
     n.note.ensures.0 n.note.ensures.1
 
 same_length : tie.Need-same-length invariant-loop decreases-loop
@@ -78,7 +78,7 @@ over-back-spec =
     loop-holds
     shared-slice-read-moved
     moved-requires
-    close-awake-requires
+    close-requires
     add-p
     add-note
     cast-note

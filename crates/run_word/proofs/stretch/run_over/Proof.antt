@@ -1,39 +1,22 @@
--- `run_over`: the loop with back edges has what its tests ask (`tests`) and runs as the image's masks do (`chosen`); where every word of theirs is 0, the
--- masks are those without (`no_back`).
+-- `run_over`: the loop with back edges runs as the image's masks do (`chosen`); where every word of theirs is 0, the masks are those without (`no_back`).
 use Rattle.std.proofs.Common.{refl, arith, rules}
 use Rattle.run_word.proofs.Laws.Bytes.{all_bytes}
-use Rattle.run_word.proofs.Laws.One.{chosen, no_back, tests}
+use Rattle.run_word.proofs.Laws.One.{chosen, no_back}
 use Rattle.run_word.proofs.stretch.run_over.Statement.{statement}
 use Rattle.run_word.proofs.stretch.run_over.Tie as tie
 
--- where the function began, from the question for back edges; the question, from the two words made of the table; these, from both tables lent
+-- where the function began, from the question for back edges; the question, from both tables copied
 abbrev start : tie.After-any-back → tie.Start
 start c = c.before.before.before.before
 
-abbrev asked : tie.After-inner-down → tie.After-any-back
-asked c = c.before.before.before.before.before.before.before
-
-abbrev made : tie.After-b2 → tie.After-inner-down
-made c = c.before.before.before
+abbrev asked : tie.After-b2 → tie.After-any-back
+asked c = c.before.before.before.before.before.before
 
 any-back-requires : tie.Need-any-back-requires
 any-back-requires c κs = search rules
 
-inner-up-requires : tie.Need-inner-up-requires
-inner-up-requires c κs = search rules
-
-inner-down-requires : tie.Need-inner-down-requires
-inner-down-requires c κs = search rules
-
 over-back-requires : tie.Need-over-back-requires
-over-back-requires c κs =
-    let d = made c in
-    let y = asked d in
-    let s = start y in (
-      s.pre.overs,
-      s.pre.shallow,
-      tests s.pre (λ i. (y.before.before.before.shared-slice-known.given i).fits) s.args.any s.pre.none s.args.depth refl d.before.before.Inner-up.ensures d.inner-down.ensures,
-    )
+over-back-requires c κs = let s = start (asked c) in (s.pre.overs, s.pre.shallow)
 
 same_length : tie.Need-same-length
 same_length c = search rules
@@ -41,7 +24,7 @@ same_length c = search rules
 returns : tie.Need-returns
 returns c =
     let r = c.before.before.over-back in
-    let y = asked (made c.before.before.before) in
+    let y = asked c.before.before.before in
     let k = y.before in
     let s = start y in
     let a = s.args in
@@ -64,8 +47,6 @@ run-over-spec =
     tie.close
     (tie.spec
     any-back-requires
-    inner-up-requires
-    inner-down-requires
     over-back-requires
     same_length
     returns

@@ -1,16 +1,13 @@
--- `run_plain`: each loop runs as the image's masks do (`chosen`), and that of deeper rules has what its tests ask (`tests`).
+-- `run_plain`: each loop runs as the image's masks do (`chosen`).
 use Rattle.std.proofs.Common.{true, false, [], refl, arith, rules}
 use Rattle.run_word.proofs.Laws.Bytes.{all_bytes}
-use Rattle.run_word.proofs.Laws.One.{chosen, never, tests}
+use Rattle.run_word.proofs.Laws.One.{chosen, never}
 use Rattle.run_word.proofs.stretch.run_plain.Statement.{statement}
 use Rattle.run_word.proofs.stretch.run_plain.Tie as tie
 
--- where the function began, from the table copied; the table copied, from the second word made of it
+-- where the function began, from the table copied
 abbrev start : tie.After-t → tie.Start
 start c = c.before.before.before.before
-
-abbrev copied : tie.After-inner-down → tie.After-t
-copied c = c.before.before.before.before.before.before
 
 array-read-block : tie.Need-array-read-block
 array-read-block c = search rules
@@ -85,49 +82,32 @@ returns-4 c =
     let b = t.before.before.shared-slice-known2.given in
     chosen s.pre (λ i. (w i).fits) (all_bytes s.args.stretch.now (λ i. omega (arith, b i))) false (λ e. s.pre.none c.before.before.before.before.before.if4.false) [] s.pre.edges 1 k.if3.true r.result r.ensures
 
-inner-up-requires : tie.Need-inner-up-requires
-inner-up-requires c κs = search rules
-
-inner-down-requires : tie.Need-inner-down-requires
-inner-down-requires c κs = search rules
-
-over-deep-requires : tie.Need-over-deep-requires
-over-deep-requires c κs =
-    let k = c.before.before in
-    let d = k.before in
-    let t = copied d in
-    let s = start t in
-    let w = t.before.before.before.shared-slice-known.given in
-    (s.pre.overs, omega arith, tests s.pre (λ i. (w i).fits) true (λ e. absurd (never e)) 2 k.if5.true d.before.before.Inner-up.ensures d.inner-down.ensures)
+over-2-requires : tie.Need-over-2-requires
+over-2-requires c κs = (start c.before.before.before.before.before).requires.overs
 
 same-length-5 : tie.Need-same-length-5
 same-length-5 c = search rules
 
 returns-5 : tie.Need-returns-5
 returns-5 c =
-    let r = c.before.before.over-deep in
+    let r = c.before.before.over-2 in
     let k = c.before.before.before.before.before in
-    let t = copied k.before in
+    let t = k.before.before.before in
     let s = start t in
     let w = t.before.before.before.shared-slice-known.given in
     let b = t.before.before.shared-slice-known2.given in
     chosen s.pre (λ i. (w i).fits) (all_bytes s.args.stretch.now (λ i. omega (arith, b i))) true (λ e. absurd (never e)) [] s.pre.edges 2 k.if5.true r.result r.ensures
 
-over-deep-requires-2 : tie.Need-over-deep-requires-2
-over-deep-requires-2 c κs =
-    let d = c.before.before.before in
-    let t = copied d in
-    let s = start t in
-    let w = t.before.before.before.shared-slice-known.given in
-    (s.pre.overs, s.pre.shallow, tests s.pre (λ i. (w i).fits) s.args.any s.pre.none s.args.depth refl d.before.before.Inner-up.ensures d.inner-down.ensures)
+over-requires : tie.Need-over-requires
+over-requires c κs = let s = start c.before.before.before.before.before in (s.pre.overs.long, s.pre.overs.few, s.pre.shallow, s.pre.overs.limits)
 
 same-length-6 : tie.Need-same-length-6
 same-length-6 c = search rules
 
 returns-6 : tie.Need-returns-6
 returns-6 c =
-    let r = c.before.before.over-deep2 in
-    let t = copied c.before.before.before.before.before.before in
+    let r = c.before.before.over in
+    let t = c.before.before.before.before.before.before.before.before in
     let s = start t in
     let w = t.before.before.before.shared-slice-known.given in
     let b = t.before.before.shared-slice-known2.given in
@@ -152,11 +132,9 @@ run-plain-spec =
     over-1-plain-requires
     same-length-4
     returns-4
-    inner-up-requires
-    inner-down-requires
-    over-deep-requires
+    over-2-requires
     same-length-5
     returns-5
-    over-deep-requires-2
+    over-requires
     same-length-6
     returns-6)

@@ -12,7 +12,7 @@ ghost use Rattle.image_sections.specs.Sections.{sections_of};
 pub use reader::{mask_words, read_header};
 
 // The states, the words to a mask and the depth; of each section the place of its first mask, one word after its count; and how many words there are.
-#[derive(Drop)]
+#[derive(Clone, Copy)]
 pub struct Sections {
     pub states: usize,
     pub width: usize,
@@ -27,7 +27,7 @@ pub struct Sections {
 }
 
 // The places that words say they have; or words that have no header of an image.
-#[derive(Drop)]
+#[derive(Clone, Copy)]
 pub enum Header {
     Sound(Sections),
     Other,

@@ -9,7 +9,7 @@ ghost use Rattle.model.specs.Models.Run.{ahead, back_word};
 ghost use Rattle.run_back.specs.Seen.{Doubled, Seen};
 
 // Of the next so many places, from each place on: whether a source is among them, and whether the first one is live.
-#[derive(Drop)]
+#[derive(Clone, Copy)]
 struct Near {
     some: u64,
     first: u64,

@@ -16,7 +16,7 @@ use crate::token::{Mark, Repeat, Token, can_omit, can_skip};
 
 // An open union: its start; whether a bar was met, and then its first alternative's end; the start of the alternative at hand; whether an
 // alternative before that one can be empty; whether what stands before the union in its own sequence can be empty.
-#[derive(Drop)]
+#[derive(Clone, Copy)]
 pub struct Frame {
     pub start: usize,
     pub barred: bool,
@@ -28,7 +28,7 @@ pub struct Frame {
 
 // The state reached; of the sequence at hand, whether it has no item yet and whether it can be empty so far; and how many unions are open, which
 // is the depth of the sequence at hand.
-#[derive(Drop)]
+#[derive(Clone, Copy)]
 pub struct Scan {
     pub position: usize,
     pub no_item: bool,
@@ -37,7 +37,7 @@ pub struct Scan {
 }
 
 // The scan after a token, and the frame to be stored, with its place.
-#[derive(Drop)]
+#[derive(Clone, Copy)]
 pub struct Next {
     pub scan: Scan,
     pub frame: Frame,

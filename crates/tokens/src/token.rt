@@ -4,7 +4,7 @@ ghost use Rattle.model.specs.Tree.{can_loop, can_omit, can_return, can_skip};
 ghost use Rattle.tokens.specs.Tokens.{mark_of, repeat_of};
 
 // How often a letter is taken: once, `?`, `*`, `+`.
-#[derive(Drop)]
+#[derive(Clone, Copy)]
 pub enum Repeat {
     Once,
     Option,
@@ -13,7 +13,7 @@ pub enum Repeat {
 }
 
 // What a group keeps after its `)`: nothing, `?` or `*`. A close on a tape shows by it whether an edge leads over its union, and whether one leads back.
-#[derive(Drop)]
+#[derive(Clone, Copy)]
 pub enum Mark {
     Unmarked,
     Optional,
@@ -22,7 +22,7 @@ pub enum Mark {
 
 // A letter leads from a state to the next, an open from a union's start to its first alternative's start, a bar from an alternative's end to the
 // next one's start, a close from the last alternative's end to the union's end. A letter's class is not on the tape.
-#[derive(Drop)]
+#[derive(Clone, Copy)]
 pub enum Token {
     Letter(Repeat),
     Open,

@@ -1,0 +1,245 @@
+#!/usr/bin/env python3
+"""tools/convert.py CRATE NAMES [FUNCTION..]: a proof that walks the code by hand (Proof.antt) as Invariants.antt and Answers.antt.
+
+NAMES is the names.json of `rt check --generated FOLDER --old-names` in the crate. Answers that the check finds alone (`search rules`) are left out.
+What a reader has to look at is marked HAND. Proof.antt is removed; FUNCTIONs are paths below proofs/.
+"""
+import json
+import os
+import re
+import sys
+
+ID = r"[A-Za-z_ℕμκ][A-Za-z0-9_'ℕ₀-₉]*(?:-[A-Za-z0-9_'ℕ₀-₉]+)*"
+norm = lambda s: s.replace("_", "-")
+
+
+def blocks(text):
+    head, out, cur = [], [], []
+    lines = text.split("\n")
+    i = 0
+    while i < len(lines) and (lines[i].startswith(("--", "use ")) or not lines[i]):
+        if not lines[i] and any(l.startswith("use ") for l in head) and not any(l.startswith("use ") for l in lines[i + 1:]):
+            break
+        head.append(lines[i])
+        i += 1
+    for line in lines[i:]:
+        if not line:
+            if cur:
+                out.append(cur)
+                cur = []
+        else:
+            cur.append(line)
+    if cur:
+        out.append(cur)
+    # a block that begins indented belongs to the one before
+    joined = []
+    for b in out:
+        if joined and b[0].startswith(" "):
+            joined[-1] += [""] + b
+        else:
+            joined.append(b)
+    return head, joined
+
+
+class Function:
+    def __init__(self, names, key):
+        n = names.get(key) or {"places": [], "needs": [], "loops": [], "args": [], "changed": []}
+        self.steps = {}
+        for p in n["places"]:
+            if p[2][0]:
+                self.steps[norm(p[2][0])] = p[2][1]
+        for loop in n["loops"]:
+            self.steps[norm(loop[0][0])] = loop[0][1]
+        self.needs = {norm(a): b for a, b in n["needs"]}
+        self.order = [b for a, b in n["needs"]]
+        self.loops, self.changed = n["loops"], n["changed"]
+        self.args = [(a.replace(" ", ""), b.replace(" ", "")) for a, b in n["args"]]
+        self.args += sorted({("." + a.split(".")[-1], "." + b.split(".")[-1]) for a, b in self.args if re.search(r"\.t\d+$", a)})
+        self.aliases, self.identity = set(), set()
+
+    def path(self, text):
+        text = re.sub(r"\.before(?![-\w])", "", text)
+        for name in self.identity:
+            text = re.sub(r"\(%s ((?:%s)(?:\.[\w.-]+)?)\)" % (re.escape(name), ID), r"\1", text)
+            text = re.sub(r"(?<![\w-])%s \(((?:%s)(?:\.[\w.-]+)?)\)" % (re.escape(name), ID), r"\1", text)
+            text = re.sub(r"(?<![\w-])%s (?=%s)" % (re.escape(name), ID), "", text)
+        text = re.sub(r"\((%s)\)\." % ID, r"\1.", text)
+        return text
+
+    def body(self, text, c):
+        for _ in range(3):
+            text = self.path(text)
+        # lets that are the whole record again
+        alias = {c}
+        while True:
+            m = None
+            for a in alias:
+                m = re.search(r"let (%s) = %s in\s*" % (ID, re.escape(a)), text)
+                if m:
+                    break
+            if not m:
+                break
+            name = m.group(1)
+            text = text[:m.start()] + re.sub(r"(?<![\w.'-])%s(?![\w'-])" % re.escape(name), c, text[m.end():])
+        for a, b in self.args:
+            text = re.sub(re.escape(a) + r"(?![\w-])", b, text)
+        text = re.sub(r"(?<![\w-])%s\.(%s)" % (re.escape(c), ID), lambda m: c + "." + self.steps.get(norm(m.group(1)), m.group(1)), text)
+        for a, b in (("inv", "invariant"), ("pre", "requires"), ("taken", "true"), ("left", "false"), ("type-inv", "type_inv")):
+            text = re.sub(r"\.%s(?![\w-])" % a, "." + b, text)
+        return text
+
+
+def used(use, body):
+    m = re.match(r"(use \S+\.\{)(.*)(\})$", use)
+    if not m:
+        return use
+    keep = []
+    for n in m.group(2).split(","):
+        n = n.strip()
+        word = n.strip("◌").replace("◌", "") if "◌" in n else n
+        if "◌" in n and n.strip("◌") == "":
+            keep.append(n)
+        elif re.search(r"(?<![\w'-])%s(?![\w'-])" % re.escape(word), body) if re.match(r"\w", word) else word in body:
+            keep.append(n)
+    return m.group(1) + ", ".join(keep) + m.group(3) if keep else None
+
+
+def convert(folder, crate, name, names):
+    path = os.path.join(folder, "proofs", name, "Proof.antt")
+    text = open(path, encoding="utf-8").read()
+    if "tie." not in text:
+        return False
+    f = Function(names, "Rattle-%s-proofs.%s.Lts" % (crate, name.replace("/", ".")))
+    head, bs = blocks(text)
+    comment = [l for l in head if l.startswith("--")]
+    uses = [l for l in head if l.startswith("use ") and ".Statement.{" not in l and not l.endswith(" as tie") and ".Tie.{" not in l]
+    inv, ans, helpers = [], [], []
+    parsed = []
+    for b in bs:
+        notes = []
+        while b and b[0].startswith("--"):
+            notes.append(b[0])
+            b = b[1:]
+        if b:
+            parsed.append((notes, b))
+    # helpers that only go along the record
+    for notes, b in parsed:
+        m = re.match(r"(?:abbrev )?(%s) : (.*)$" % ID, b[0])
+        if m and "tie." in b[0] and "Need-" not in b[0] and len(b) >= 2:
+            d = re.match(r"%s (%s) = (.*)$" % (re.escape(m.group(1)), ID), " ".join(x.strip() for x in b[1:]))
+            if d:
+                rest = re.sub(r"\.before(?![-\w])", "", d.group(2))
+                for name2 in f.identity:
+                    rest = re.sub(r"\b%s " % re.escape(name2), "", rest).replace("(", "").replace(")", "")
+                if rest.strip("()") == d.group(1):
+                    f.identity.add(m.group(1))
+    for notes, b in parsed:
+        first = b[0]
+        m = re.match(r"(abbrev |pub |abbrev pub |pub abbrev )?(%s) : (.*)$" % ID, first)
+        if not m:
+            ans.append("\n".join(notes + ["-- HAND"] + b))
+            continue
+        label, kind = m.group(2), m.group(3)
+        sig, i = [first], 1
+        while i < len(b) and not re.match(r"%s(?![\w'-])" % re.escape(label), b[i]):
+            sig.append(b[i])
+            i += 1
+        rest = "\n".join(b[i:])
+        kind = " ".join(s.strip() for s in sig)[len(m.group(1) or "") + len(label) + 3:]
+        opens = [s for s in sig[1:] if s.strip().startswith("unfolding")]
+        if label in f.identity:
+            continue
+        t = re.match(r"tie\.(invariant|decreases|Inv|μ)-(%s)$" % ID, kind)
+        if t:
+            loop = next((l for l in f.loops if norm(l[0][0]) == norm(t.group(2))), None)
+            word = "invariant" if t.group(1) in ("invariant", "Inv") else "decreases"
+            d = re.match(r"%s((?: [^\s=]+)*) =\s*(.*)$" % re.escape(label), rest, re.S)
+            if not loop or not d:
+                inv.append("\n".join(notes + ["-- HAND"] + b))
+                continue
+            k = f.loops.index(loop)
+            vars_, changed = loop[1], f.changed[k]
+            params = d.group(1).split()
+            now = [v for v, ch in zip(vars_, changed) if ch]
+            body = d.group(2)
+            into = {}
+            flag = ""
+            if len(params) != len(vars_) + len(now):
+                flag = "-- HAND: parameters %s, variables %s %s\n" % (" ".join(params), " ".join(vars_), changed)
+                for p in params:
+                    into[p] = "l.initial." + p[:-1] if p.endswith("₀") else "l." + p
+            else:
+                for p, v, ch in zip(params, vars_, changed):
+                    into[p] = ("l.initial." if ch else "l.") + v
+                for p, v in zip(params[len(vars_):], now):
+                    into[p] = "l." + v
+            body = re.sub(r"(?<![\w.'₀-₉-])(%s|%s)(?![\w'₀-₉-])" % (ID, r"[A-Za-z_]\w*₀"), lambda x: into.get(x.group(1), x.group(1)), body)
+            new = word + "-" + loop[0][1]
+            inv.append(flag + "\n".join(notes + ["abbrev pub %s : goal.%s" % (new, new)] + opens + ["%s l =%s%s" % (new, "\n    " if "\n" in d.group(0).split("=")[1][:3] or d.group(0).split("=", 1)[1].startswith("\n") else " ", body)]))
+            continue
+        t = re.match(r"tie\.Need-(%s)" % ID, kind)
+        if t:
+            d = re.match(r"%s((?: [^\s=]+)*) =\s*(.*)$" % re.escape(label), rest, re.S)
+            old = norm(t.group(1))
+            tries = [old, norm(label), re.sub(r"^overflow-", "", old), re.sub(r"^(overflow|nonzero)-", "", norm(label))]
+            for a, z in (("loop-holds", "loop-init"), ("loop-again", "loop-preserved"), ("loop-less", "loop-smaller")):
+                tries += [x.replace(a, z) for x in list(tries)]
+            new = next((f.needs[x] for x in tries if x in f.needs), None)
+            if not d or rest.count("\n" + label + " ") > 0:
+                ans.append("\n".join(notes + ["-- HAND clauses %s" % new] + b))
+                continue
+            args = [a for a in d.group(1).split() if a != "κs"]
+            c = args[-1] if args else "c"
+            body = f.body(d.group(2), c)
+            if re.fullmatch(r"search rules", body.strip()):
+                continue
+            flag = [] if new else ["-- HAND: no goal for %s" % old]
+            new = new or label
+            lead = "\n    " if d.group(0).split("=", 1)[1].startswith("\n") and not body.startswith("\n") else " "
+            ans.append("\n".join(notes + flag + ["pub %s : goal.%s" % (new, new)] + opens + ["%s %s =%s%s" % (new, " ".join(args), lead, body)]))
+            continue
+        if "statement " in kind:
+            continue
+        if "tie." in "\n".join(b):
+            ans.append("\n".join(notes + ["-- HAND helper"] + [f.body("\n".join(b), "c")]))
+        else:
+            helpers.append((label, notes, b))
+    # helpers that the invariants use stand with them
+    stated = "\n".join(inv)
+    shared = []
+    for label, notes, b in reversed(helpers):
+        if re.search(r"(?<![\w'.-])%s(?![\w'-])" % re.escape(label), stated):
+            shared.insert(0, label)
+            if "pub " not in b[0]:
+                b[0] = "abbrev pub " + b[0][7:] if b[0].startswith("abbrev ") else "pub " + b[0]
+            inv.insert(0, "\n".join(notes + b))
+            stated += "\n".join(b)
+        else:
+            ans.insert(0, "\n".join(notes + b))
+    if shared and ans:
+        uses.append("use Rattle.%s.proofs.%s.Invariants.{%s}" % (crate, name.replace("/", "."), ", ".join(shared)))
+    where = os.path.dirname(path)
+
+    def put(file, parts, module):
+        body = "\n\n".join(parts)
+        lines = [u for u in (used(u, body) for u in uses if not (module == "Given" and ".Invariants.{" in u)) if u]
+        lines.append("use Rattle.%s.proofs.%s.%s as goal" % (crate, name.replace("/", "."), module))
+        open(os.path.join(where, file), "w", encoding="utf-8").write("\n".join(comment + lines) + "\n\n" + body + "\n")
+
+    if inv:
+        put("Invariants.antt", inv, "Given")
+    if ans:
+        put("Answers.antt", ans, "Goals")
+    os.remove(path)
+    return True
+
+
+if __name__ == "__main__":
+    folder, listed, only = sys.argv[1], sys.argv[2], sys.argv[3:]
+    crate = os.path.basename(os.path.abspath(folder))
+    names = json.load(open(listed, encoding="utf-8"))
+    for here, dirs, fs in os.walk(os.path.join(folder, "proofs")):
+        if "Proof.antt" in fs:
+            name = os.path.relpath(here, os.path.join(folder, "proofs"))
+            if not only or name in only:
+                print("converted" if convert(folder, crate, name, names) else "left", name)

@@ -18,13 +18,6 @@ returns-then-words-ne3 c =
     let ws = c.args.words.now in
     refused (shape_fits ws) ws (λ t. c.if-words-ne3.true (shape_of ws t).three)
 
-pub returns-then-states-lt2 : goal.returns-then-states-lt2
-returns-then-states-lt2 c =
-    let ws = c.args.words.now in
-    refused (shape_fits ws) ws
-    (λ t. ⊎_elim (λ w. omega (arith, w.true, (shape_of ws t).some_states))
-    (λ w. omega (arith, ltb-true, w.1.true, (shape_of ws t).few_states)) c.then-states-lt2.branch)
-
 pub overflow_add-states : goal.overflow_add-states
 overflow_add-states c = omega (arith, ltb-false)
 
@@ -40,16 +33,3 @@ returns-then-depth-gt8 c =
 
 pub sections_of-sections-requires : goal.sections_of-sections-requires
 sections_of-sections-requires c = (omega (arith, ltb-false), c.if-depth-gt8.false)
-
-pub returns : goal.returns
-returns c =
-    let ws = c.args.words.now in
-    ap Sound c.sections_of-sections.ensures
-    ∙ taken (shape_fits ws) ws (shape-fits ws (record {
-      four = c.if-words-lt4.false;
-      three = c.if-words-ne3.false;
-      some_states = c.then-states-lt2.false;
-      few_states = omega (arith, ltb-false);
-      wide = c.if-width-states.false;
-      shallow = c.if-depth-gt8.false;
-    }))

@@ -55,7 +55,16 @@ class Function:
         self.loops, self.changed = n["loops"], n["changed"]
         self.args = [(a.replace(" ", ""), b.replace(" ", "")) for a, b in n["args"]]
         self.args += sorted({("." + a.split(".")[-1], "." + b.split(".")[-1]) for a, b in self.args if re.search(r"\.t\d+$", a)})
-        self.aliases, self.identity = set(), set()
+        self.identity, self.inline = set(), {}
+        # what an arm of a match binds: (step, path) -> arm and field
+        self.arms = {}
+        for arm in n.get("arms", []):
+            if arm:
+                for field, step, way in arm[2]:
+                    if way:
+                        self.arms[(norm(step), ".".join(way))] = arm[0] + "." + field
+                    else:
+                        self.arms.setdefault((norm(step), ""), arm[0])
 
     def path(self, text):
         text = re.sub(r"\.before(?![-\w])", "", text)
@@ -81,12 +90,45 @@ class Function:
                 break
             name = m.group(1)
             text = text[:m.start()] + re.sub(r"(?<![\w.'-])%s(?![\w'-])" % re.escape(name), c, text[m.end():])
+        # lets of what an arm binds, written out, and then by the arm's names
+        while True:
+            m = re.search(r"let (%s) = (%s\.%s(?:\.given(?:\.\d+)*)?) in\s*" % (ID, re.escape(c), ID), text)
+            if not m or not any(k[0] == norm(m.group(2).split(".")[1]) for k in self.arms):
+                break
+            text = text[:m.start()] + re.sub(r"(?<![\w.'-])%s(?![\w'-])" % re.escape(m.group(1)), m.group(2), text[m.end():])
+
+        def arm(m):
+            step, way = norm(m.group(1)), [w for w in m.group(2).split(".") if w]
+            for k in range(len(way), 0, -1):
+                to = self.arms.get((step, ".".join(way[:k])))
+                if to:
+                    return c + "." + ".".join([to] + way[k:])
+            return m.group(0)
+
+        text = re.sub(r"(?<![\w-])%s\.(%s)((?:\.[\w]+)*)" % (re.escape(c), ID), arm, text)
         for a, b in self.args:
             text = re.sub(re.escape(a) + r"(?![\w-])", b, text)
         text = re.sub(r"(?<![\w-])%s\.(%s)" % (re.escape(c), ID), lambda m: c + "." + self.steps.get(norm(m.group(1)), m.group(1)), text)
         for a, b in (("inv", "invariant"), ("pre", "requires"), ("taken", "true"), ("left", "false"), ("type-inv", "type_inv")):
             text = re.sub(r"\.%s(?![\w-])" % a, "." + b, text)
-        return text
+        return self.inlined(text, c)
+
+    def inlined(self, text, c):
+        """Helpers over the record become lets of the answer that uses them."""
+        out, todo, got = [], [text], set()
+        while todo:
+            t = todo.pop(0)
+            for name in self.inline:
+                if name not in got and re.search(r"(?<![\w'.-])%s %s(?![\w'-])" % (re.escape(name), re.escape(c)), t):
+                    got.add(name)
+                    todo.append(self.inline[name](c))
+        for name in [n for n in self.inline if n in got]:
+            out.append(self.inline[name](c))
+        text = "".join(o + "\n    " for o in out) + text
+        for name in got:
+            text = re.sub(r"\(%s %s\)" % (re.escape(name), re.escape(c)), name, text)
+            text = re.sub(r"(?<![\w'.-])%s %s(?![\w'-])" % (re.escape(name), re.escape(c)), name, text)
+        return ("\n    " + text) if out and not text.startswith("\n") else text
 
 
 def used(use, body):
@@ -199,6 +241,22 @@ def convert(folder, crate, name, names):
             ans.append("\n".join(notes + flag + ["pub %s : goal.%s" % (new, new)] + opens + ["%s %s =%s%s" % (new, " ".join(args), lead, body)]))
             continue
         if "statement " in kind:
+            continue
+        d = re.match(r"(?:abbrev )?%s : (?:\((%s) : tie\.(?:[^()]|\([^()]*\))*\)|tie\.\S+(?: (?:invariant|decreases)-\S+)*) →\s*(.*)$" % (re.escape(label), ID), "\n".join(s for s in sig if not s.strip().startswith("unfolding")), re.S)
+        clause = re.match(r"%s((?: [^\s=]+)*) =\s*(.*)$" % re.escape(label), rest, re.S)
+        if d and clause and "{" not in d.group(2).split("→")[0] and rest.count("\n" + label + " ") == 0:
+            params = clause.group(1).split()
+            own, more = params[0], params[1:]
+
+            def made(c, kind=d.group(2), at=d.group(1) or "c", own=own, more=more, body=clause.group(2), label=label):
+                kind = re.sub(r"(?<![\w.'-])%s(?![\w'-])" % re.escape(at), c, kind)
+                body = re.sub(r"(?<![\w.'-])%s(?![\w'-])" % re.escape(own), c, body)
+                keep, f.inline = f.inline, {}
+                kind, body = f.body(kind, c), f.body(body, c)
+                f.inline = keep
+                return "let %s : %s = %s%s in" % (label, kind, "λ %s. " % " ".join(more) if more else "", body)
+
+            f.inline[label] = made
             continue
         if "tie." in "\n".join(b):
             ans.append("\n".join(notes + ["-- HAND helper"] + [f.body("\n".join(b), "c")]))

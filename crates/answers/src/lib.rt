@@ -6,7 +6,7 @@ ghost use Rattle.std.specs.Prelude.{◌≡◌};
 ghost use Rattle.answers.specs.Answers.{number_of, place_of};
 
 // In the order of their numbers: document 01's, those of a watch, and those of a proposal. What is no rule comes with its place (document 02, Wish 2).
-#[derive(Drop)]
+#[derive(Clone, Copy)]
 pub enum Refusal {
     RuleTooLong,
     NotARule(usize),
@@ -23,14 +23,14 @@ pub enum Refusal {
 }
 
 // Done, with a count: of the words, bytes or ends that document 01 says.
-#[derive(Drop)]
+#[derive(Clone, Copy)]
 pub enum Answer {
     Refused(Refusal),
     Done(usize),
 }
 
 // What the check of a spelling answers.
-#[derive(Drop)]
+#[derive(Clone, Copy)]
 pub enum Judged {
     Refused(Refusal),
     No,
@@ -38,7 +38,7 @@ pub enum Judged {
 }
 
 // What the proposer answers: the start, and how many states.
-#[derive(Drop)]
+#[derive(Clone, Copy)]
 pub enum Proposed {
     Refused(Refusal),
     Done(usize, usize),

@@ -2,28 +2,28 @@
 ghost use Rattle.std.specs.Prelude.{◌≤◌, ◌<◌, length};
 ghost use Rattle.explain.specs.Readings.{Fits, Small};
 
-#[derive(Drop)]
+#[derive(Clone, Copy)]
 pub enum Found {
     At(usize),
     Nothing,
 }
 
 // A number and the place after its line.
-#[derive(Drop)]
+#[derive(Clone, Copy)]
 pub enum Numbered {
     Of(usize, usize),
     Not,
 }
 
 // The first line that can't be read, or start, end and how many states there are.
-#[derive(Drop)]
+#[derive(Clone, Copy)]
 pub enum Reading {
     Unreadable(usize),
     Proposal(usize, usize, usize),
 }
 
 // Digits, read as a number, and the place after them.
-#[derive(Drop)]
+#[derive(Clone, Copy)]
 struct Digits {
     value: usize,
     after: usize,

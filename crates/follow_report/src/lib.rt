@@ -15,7 +15,7 @@ use std::num::wrapping_add_u64;
 use watcher::{begin, build, step};
 
 // What is kept between stretches: a mask, of whose words the image's first W count, the place, and how many ends were found. The image lies beside it.
-#[derive(Drop)]
+#[derive(Clone, Copy)]
 pub struct Watching {
     pub mask: [u64; 8],
     pub place: u64,
@@ -23,7 +23,7 @@ pub struct Watching {
 }
 
 // How long a text is, whether the program goes on after it, and with what.
-#[derive(Drop)]
+#[derive(Clone, Copy)]
 pub struct Said {
     pub length: usize,
     pub on: bool,
@@ -31,7 +31,7 @@ pub struct Said {
 }
 
 // The same, with the number of the image's words.
-#[derive(Drop)]
+#[derive(Clone, Copy)]
 pub struct Opened {
     pub words: usize,
     pub said: Said,

@@ -14,7 +14,7 @@ use image_sections::{Header, read_header};
 use tokens_masks::Tape;
 
 // The header; the states that some letter's mask has; and the tape.
-#[derive(Drop)]
+#[derive(Clone, Copy)]
 pub struct Apart {
     pub header: Header,
     pub letters: [u64; 8],

@@ -14,7 +14,7 @@ use tokens_masks::Tape;
 
 // The states that some mask has: of the letters, of the repeats, of those that a propagate edge enters, of the gather targets, of the scatter
 // sources and of the back sources.
-#[derive(Drop)]
+#[derive(Clone, Copy)]
 pub struct Marks {
     pub letters: [u64; 8],
     pub loops: [u64; 8],

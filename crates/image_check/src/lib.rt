@@ -16,14 +16,14 @@ use image_sections::{Header, Sections};
 use tokens_masks::{OnTape, Tape, lay_out};
 
 // An image, with the places of its sections, or anything else.
-#[derive(Drop)]
+#[derive(Clone, Copy)]
 pub enum Verdict {
     Image(Sections),
     Other,
 }
 
 // The verdict, and the tape of the tree whose image the words are.
-#[derive(Drop)]
+#[derive(Clone, Copy)]
 pub struct Checked {
     pub verdict: Verdict,
     pub tape: Tape,

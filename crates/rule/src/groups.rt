@@ -15,7 +15,7 @@ use rule_bytes::byte_at;
 use tokens::token::{Mark, Repeat, can_skip};
 
 // The sign of a group, and the place after it.
-#[derive(Drop)]
+#[derive(Clone, Copy)]
 struct GroupSign {
     repeat: Repeat,
     place: usize,

@@ -18,14 +18,14 @@ use crate::readers::read_alternatives;
 use answers::Refusal;
 
 // What a rule is: refused with 1, 2 and its place, or 3 (document 01, "Numbers given back"), or the rule of a tree of so many states.
-#[derive(Drop)]
+#[derive(Clone, Copy)]
 pub enum Outcome {
     Refused(Refusal),
     Tree(usize),
 }
 
 // What was read, and the tokens of its tree, five words for each; 0 after them, and everywhere after a refusal.
-#[derive(Drop)]
+#[derive(Clone, Copy)]
 pub struct Reading {
     pub outcome: Outcome,
     pub tokens: [u64; 2555],

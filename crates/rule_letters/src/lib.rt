@@ -11,14 +11,14 @@ pub use classes::none;
 pub use letters::read_letter;
 
 // One byte that was read.
-#[derive(Drop)]
+#[derive(Clone, Copy)]
 enum Byte {
     Got(u8, usize),
     Bad(usize),
 }
 
 // A set of bytes: byte b is bit b mod 64 of word b / 64.
-#[derive(Drop)]
+#[derive(Clone, Copy)]
 pub struct Class {
     pub word0: u64,
     pub word1: u64,
@@ -27,7 +27,7 @@ pub struct Class {
 }
 
 // A letter, or a part of a class: the bytes that it takes.
-#[derive(Drop)]
+#[derive(Clone, Copy)]
 pub enum Letter {
     Got(Class, usize),
     Bad(usize),

@@ -14,28 +14,28 @@ use rule_bytes::{byte_at, is_digit};
 use tokens::token::Repeat;
 
 // A number in braces.
-#[derive(Drop)]
+#[derive(Clone, Copy)]
 enum Number {
     Got(usize, usize),
     Bad(usize),
 }
 
 // The two numbers in braces.
-#[derive(Drop)]
+#[derive(Clone, Copy)]
 enum Bounds {
     Got(usize, usize, usize),
     Bad(usize),
 }
 
 // How often a letter is taken: by one sign or none, or by the numbers in braces.
-#[derive(Drop)]
+#[derive(Clone, Copy)]
 pub enum HowOften {
     Plainly(Repeat),
     Times(usize, usize),
 }
 
 // A letter's repeat sign.
-#[derive(Drop)]
+#[derive(Clone, Copy)]
 pub enum Sign {
     Got(HowOften, usize),
     Bad(usize),

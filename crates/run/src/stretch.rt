@@ -13,7 +13,7 @@ use run_moves::same;
 use run_word::places::note;
 
 // The live states after a stretch, and the total of its ends with those found before.
-#[derive(Drop)]
+#[derive(Clone, Copy)]
 pub struct Ran {
     pub words: [u64; 8],
     pub total: u64,

@@ -14,7 +14,7 @@ use crate::steps::{moved, pass};
 use crate::table::any_back;
 
 // Where a stretch begins: the live states, the place in the whole text, and how many ends were found before.
-#[derive(Drop)]
+#[derive(Clone, Copy)]
 pub struct From {
     pub live: u64,
     pub place: u64,
@@ -22,7 +22,7 @@ pub struct From {
 }
 
 // The live states after a stretch, and the total of its ends with those found before.
-#[derive(Drop)]
+#[derive(Clone, Copy)]
 pub struct Ran {
     pub live: u64,
     pub total: u64,

@@ -11,7 +11,7 @@ use mask::bits::{row_has_bit, same_rows};
 // A set for every 256th place.
 pub type Kept = [[u64; 8]; 256];
 
-#[derive(Drop)]
+#[derive(Clone, Copy)]
 pub enum Found {
     At(usize),
     Nowhere,

@@ -23,14 +23,14 @@ use tokens::token::Token;
 use tokens::{begin_scan, fits, innermost, is_ended, no_frame, step_over};
 
 // The first `length` of the kinds are a tree's tokens (crate `tokens`, module `kind`).
-#[derive(Drop)]
+#[derive(Clone, Copy)]
 pub struct Tape {
     pub kinds: [u8; 512],
     pub length: usize,
 }
 
 // What is on a tape: the tokens of a tree within 512 states and depth 8, and that tree's depth; or anything else.
-#[derive(Drop)]
+#[derive(Clone, Copy)]
 pub enum OnTape {
     Tree(usize),
     Other,

@@ -1,0 +1,47 @@
+-- `read_third`: a digit more, or the number as it stands, if either is high enough.
+use mathlib.Core.Path.{◌≡◌, refl, sym, ap, ◌∙◌}
+use mathlib.Core.Bool.{true}
+use Prim.Native.Nat.{ℕ, ◌+◌, ◌*◌, ◌<◌}
+use native.Mathlib.Omega.{arith}
+use lib.ListN.{length}
+use Rattle.model.specs.Bytes.{digital}
+use Rattle.model.specs.Models.Reader.{read_digits}
+use Rattle.rule_bytes.proofs.Laws.Places.{leaves, passes, stops, takes}
+use Rattle.rule_signs.proofs.Laws.Repeats.{digits_last, digits_low, digits_none, digits_none_low, digits_over, digits_over_low}
+use Rattle.rule_signs.proofs.read_third.Goals as goal
+
+pub digit_value-requires : goal.digit_value-requires
+digit_value-requires c = 
+    let is_digit : digital c.byte_at-x.result ≡ true = sym c.is_digit.ensures ∙ c.if-is_digit.true in
+    is_digit
+
+pub returns-then-n-least : goal.returns-then-n-least
+returns-then-n-least c = 
+    let is_digit : digital c.byte_at-x.result ≡ true = sym c.is_digit.ensures ∙ c.if-is_digit.true in
+    stops c.args.rule.now c.args.at c.byte_at-x.ensures (read_digits 1 c.args.least c.args.v) c.requires.0
+    (digits_none_low 0 c.args.least c.args.v (omega arith))
+    (λ xs. digits_low 0 c.args.least c.args.v c.byte_at-x.result xs is_digit
+    (ap (λ (d : ℕ). 10 * c.args.v + d) c.digit_value.ensures.0) c.if-n-least.true)
+
+pub returns-then-is_digit : goal.returns-then-is_digit
+returns-then-is_digit c = 
+    let is_digit : digital c.byte_at-x.result ≡ true = sym c.is_digit.ensures ∙ c.if-is_digit.true in
+    let inside : let a = c.args in a.at < length a.rule.now = let a = c.args in passes a.rule.now a.at c.byte_at-x.ensures digital refl is_digit in
+    let a = c.args in
+    takes a.rule.now a.at c.byte_at-x.ensures (read_digits 1 a.least a.v) inside
+    (λ xs. digits_last a.least a.v c.byte_at-x.result xs is_digit
+    (ap (λ (d : ℕ). 10 * a.v + d) c.digit_value.ensures.0) c.if-n-least.false)
+
+pub returns-then-v-least : goal.returns-then-v-least
+returns-then-v-least c =
+    stops c.args.rule.now c.args.at c.byte_at-x.ensures (read_digits 1 c.args.least c.args.v) c.requires.0
+    (digits_none_low 0 c.args.least c.args.v c.if-v-least.true)
+    (λ xs. digits_over_low 0 c.args.least c.args.v c.byte_at-x.result xs
+    (sym c.is_digit.ensures ∙ c.if-is_digit.false) c.if-v-least.true)
+
+pub returns : goal.returns
+returns c =
+    leaves c.args.rule.now c.args.at c.byte_at-x.ensures (read_digits 1 c.args.least c.args.v) c.requires.0 c.args.v
+    (digits_none 0 c.args.least c.args.v c.if-v-least.false)
+    (λ xs. digits_over 0 c.args.least c.args.v c.byte_at-x.result xs
+    (sym c.is_digit.ensures ∙ c.if-is_digit.false) c.if-v-least.false)

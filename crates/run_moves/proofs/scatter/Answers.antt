@@ -1,0 +1,5 @@
+-- `scatter` is what its steps give, put together.
+use Rattle.run_moves.proofs.scatter.Goals as goal
+
+pub returns : goal.returns
+returns c = cc

@@ -120,7 +120,7 @@ class Function:
         self.args += sorted({("." + a.split(".")[-1], "." + b.split(".")[-1]) for a, b in self.args if re.search(r"\.t\d+$", a)})
         self.identity, self.inline = set(), {}
         self.callees = {p[2][1]: p[3] for p in n["places"] if p[3]}
-        self.own, self.labels = ([], []), {}
+        self.own, self.labels, self.params = ([], []), {}, n.get("params", {})
         # what an arm of a match binds: (step, path) -> arm and field
         self.arms = {}
         for arm in n.get("arms", []):
@@ -179,6 +179,7 @@ class Function:
             text = re.sub(r"\.%s(?![\w-])" % a, "." + b, text)
         text = re.sub(r"not-(true|false) (?:_|\([^()]*\)) (%s\.if-not-[\w-]+\.\1)" % re.escape(c), r"\2", text)
         text = re.sub(r"sym \(length-map \S+ _\) ∙ (%s\.well_formed[.\d]*)" % re.escape(c), r"\1", text)
+        text = re.sub(r"(?<![\w-])%s\.(%s)\.(?:new|last)((?:\.\d+)+)" % (re.escape(c), ID), lambda m: "%s.%s.new%s" % (c, m.group(1), by_label(m.group(2), self.params.get(self.callees.get(m.group(1)), []))), text)
         while True:
             m = next((m for m in re.finditer(r"let (%s) = (%s\.(%s)\.ensures|%s\.requires) in\s*" % (ID, re.escape(c), ID, re.escape(c)), text) if (self.of(m.group(3))[1] if m.group(3) else self.own[0])), None)
             if not m:
@@ -202,7 +203,7 @@ class Function:
         while todo:
             t = todo.pop(0)
             for name in self.inline:
-                if name not in got and re.search(r"(?<![\w'.-])%s %s(?![\w'-])" % (re.escape(name), re.escape(c)), t):
+                if name not in got and re.search(r"(?<![\w'.-])%s %s(?![\w'.-])" % (re.escape(name), re.escape(c)), t):
                     got.add(name)
                     todo.append(self.inline[name](c))
         for name in [n for n in self.inline if n in got]:
@@ -210,7 +211,7 @@ class Function:
         text = "".join(o + "\n    " for o in out) + text
         for name in got:
             text = re.sub(r"\(%s %s\)" % (re.escape(name), re.escape(c)), name, text)
-            text = re.sub(r"(?<![\w'.-])%s %s(?![\w'-])" % (re.escape(name), re.escape(c)), name, text)
+            text = re.sub(r"(?<![\w'.-])%s %s(?![\w'.-])" % (re.escape(name), re.escape(c)), name, text)
         return ("\n    " + text) if out and not text.startswith("\n") else text
 
 

@@ -40,5 +40,5 @@ returns c =
     let ws = a.image.now in
     begun (one_masks ws) 1 a.sections.depth (a.sections.states - 1) a.text.now (c.close-live.result ∷ []) a.ends.now
     (one_first ws c.table-masks.result c.backs-edges.result a.sections.depth c.any_chain-any.result (ap (λ (p : Sections). p.depth) c.requires.0.own) c.table-masks.ensures
-    c.any_chain-any.ensures c.backs-edges.ensures (λ i. (c.shared_slice_known-1.given i).fits) (c.close-live.ensures ws))
+    c.any_chain-any.ensures c.backs-edges.ensures (λ i. (c.type_inv.image i).fits) (c.close-live.ensures ws))
     c.is_live.result c.is_live.ensures c.note-found.ensures.counted c.note-found.ensures.written r.ensures

@@ -11,7 +11,7 @@ pub returns-then-any_back : goal.returns-then-any_back
 returns-then-any_back c =
     let r = c.over_back in
     let a = c.args in
-    chosen c.requires (λ i. (c.shared_slice_known-1.given i).fits) (all_bytes a.stretch.now (λ i. omega (arith, c.shared_slice_known-2-1.given i))) a.any c.requires.none a.backs.now
+    chosen c.requires (λ i. (c.type_inv.image i).fits) (all_bytes a.stretch.now (λ i. omega (arith, c.type_inv.stretch i))) a.any c.requires.none a.backs.now
     c.requires.edges a.depth refl r.result r.ensures
 
 pub run_plain-requires : goal.run_plain-requires

@@ -180,6 +180,9 @@ class Function:
         text = re.sub(r"not-(true|false) (?:_|\([^()]*\)) (%s\.if-not-[\w-]+\.\1)" % re.escape(c), r"\2", text)
         text = re.sub(r"sym \(length-map \S+ _\) ∙ (%s\.well_formed[.\d]*)" % re.escape(c), r"\1", text)
         text = re.sub(r"(?<![\w-])%s\.(%s)\.(?:new|last)((?:\.\d+)+)" % (re.escape(c), ID), lambda m: "%s.%s.new%s" % (c, m.group(1), by_label(m.group(2), self.params.get(self.callees.get(m.group(1)), []))), text)
+        for m in list(re.finditer(r"let (%s) = %s\.(%s) in" % (ID, re.escape(c), ID), text)):
+            text = re.sub(r"(?<![\w.'-])%s\.ensures((?:\.\d+)+)" % re.escape(m.group(1)), lambda x: m.group(1) + ".ensures" + by_label(x.group(1), self.of(m.group(2))[1]), text)
+            text = re.sub(r"(?<![\w.'-])%s\.(?:new|last)((?:\.\d+)+)" % re.escape(m.group(1)), lambda x: m.group(1) + ".new" + by_label(x.group(1), self.params.get(self.callees.get(m.group(2)), [])), text)
         while True:
             m = next((m for m in re.finditer(r"let (%s) = (%s\.(%s)\.ensures|%s\.requires) in\s*" % (ID, re.escape(c), ID, re.escape(c)), text) if (self.of(m.group(3))[1] if m.group(3) else self.own[0])), None)
             if not m:

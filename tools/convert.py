@@ -179,7 +179,7 @@ class Function:
         text = re.sub(r"(?<![\w-])%s\.(%s)2(?![\w-])" % (re.escape(c), ID), lambda m: c + "." + (m.group(1) if m.group(1) in self.steps.values() else m.group(1) + "2"), text)
         for a, b in (("inv", "invariant"), ("pre", "requires"), ("taken", "true"), ("left", "false"), ("type-inv", "type_inv")):
             text = re.sub(r"\.%s(?![\w-])" % a, "." + b, text)
-        text = re.sub(r"not-(true|false) (?:_|\([^()]*\)) (%s\.if-not-[\w-]+\.\1)" % re.escape(c), r"\2", text)
+        text = re.sub(r"not-(true|false) (?:_|\([^()]*\)|[\w.-]+) (%s\.if-not-[\w-]+\.\1)" % re.escape(c), r"\2", text)
         text = re.sub(r"(?<![\w-])%s\.shared_slice_known-1\.given" % re.escape(c), c + ".type_inv." + self.slice, text) if self.slice else text
         text = re.sub(r"sym \(length-map \S+ _\) ∙ (%s\.well_formed[.\d]*)" % re.escape(c), r"\1", text)
         text = re.sub(r"(?<![\w-])%s\.(%s)\.(?:new|last)((?:\.\d+)+)" % (re.escape(c), ID), lambda m: "%s.%s.new%s" % (c, m.group(1), by_label(m.group(2), self.params.get(self.callees.get(m.group(1)), []))), text)

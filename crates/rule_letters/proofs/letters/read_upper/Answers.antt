@@ -19,12 +19,12 @@ returns-then-byte_at-ne45 c =
     (λ xs. lower_alone c.args.lo b.result xs c.if-byte_at-ne45.true))
 
 pub read_single-upper-requires : goal.read_single-upper-requires
-read_single-upper-requires c = 
+read_single-upper-requires c =
     let in-range : let a = c.args in a.at < length a.rule.now = let a = c.args in inside a.rule.now a.at c.byte_at.ensures (λ z. omega arith) in
     let i = in-range in omega arith
 
 pub returns-in-Got : goal.returns-in-Got
-returns-in-Got c = 
+returns-in-Got c =
     let in-range : let a = c.args in a.at < length a.rule.now = let a = c.args in inside a.rule.now a.at c.byte_at.ensures (λ z. omega arith) in
     let a = c.args in
     let b = c.byte_at in
@@ -33,7 +33,7 @@ returns-in-Got c =
     (bind_gives (rw c.in-Got.is at c.read_single-upper.ensures.reads) (span a.lo) c.span-in-Got.ensures)
 
 pub returns-in-Bad : goal.returns-in-Bad
-returns-in-Bad c = 
+returns-in-Bad c =
     let in-range : let a = c.args in a.at < length a.rule.now = let a = c.args in inside a.rule.now a.at c.byte_at.ensures (λ z. omega arith) in
     let a = c.args in
     let b = c.byte_at in

@@ -14,12 +14,12 @@ use Rattle.rule_signs.proofs.read_bounds.Goals as goal
 
 pub read_last-requires : goal.read_last-requires
 read_last-requires c =
-    let comma : let a = c.args in a.at < length a.rule.now = let a = c.args in inside a.rule.now a.at c.byte_at.ensures (λ z. omega arith) in
+    let comma : c.args.at < length c.args.rule.now = let a = c.args in inside a.rule.now a.at c.byte_at.ensures (λ z. omega arith) in
     let i = comma in omega arith
 
 pub returns-then-byte_at-eq44 : goal.returns-then-byte_at-eq44
 returns-then-byte_at-eq44 c =
-    let comma : let a = c.args in a.at < length a.rule.now = let a = c.args in inside a.rule.now a.at c.byte_at.ensures (λ z. omega arith) in
+    let comma : c.args.at < length c.args.rule.now = let a = c.args in inside a.rule.now a.at c.byte_at.ensures (λ z. omega arith) in
     let a = c.args in
     goes a.rule.now a.at c.byte_at.ensures read_bounds (last_bound 0 1) (λ m. BoundsSays a.rule.now m c.read_last.result)
     comma (λ xs. bounds_upto c.byte_at.result xs c.if-byte_at-eq44.true) c.read_last.ensures

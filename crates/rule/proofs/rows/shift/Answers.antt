@@ -9,45 +9,6 @@ use Rattle.rule.proofs.Laws.Stores.{moved_all, moved_none, moved_one}
 use Rattle.rule.proofs.rows.shift.Goals as goal
 use Rattle.rule.proofs.rows.shift.Goals.{then-to-by, else-to-by}
 
-pub overflow_mul-gap : goal.overflow_mul-gap
-overflow_mul-gap c = omega arith
-
-pub overflow_add-to : goal.overflow_add-to
-overflow_add-to c = omega arith
-
-pub overflow_mul-i : goal.overflow_mul-i
-overflow_mul-i c = omega arith
-
-pub overflow_add-i : goal.overflow_add-i
-overflow_add-i c = omega arith
-
-pub overflow_mul-stop : goal.overflow_mul-stop
-overflow_mul-stop c = omega arith
-
-pub overflow_add-stop : goal.overflow_add-stop
-overflow_add-stop c = omega arith
-
-pub overflow_sub-i : goal.overflow_sub-i
-overflow_sub-i c = omega arith
-
-pub overflow_sub-tokens : goal.overflow_sub-tokens
-overflow_sub-tokens c = omega arith
-
-pub offset_bounds-tokens-i : goal.offset_bounds-tokens-i
-offset_bounds-tokens-i c = omega arith
-
-pub bounds-tokens-i : goal.bounds-tokens-i
-bounds-tokens-i c = omega arith
-
-pub offset_bounds-tokens-i-in-loop-i : goal.offset_bounds-tokens-i-in-loop-i
-offset_bounds-tokens-i-in-loop-i c = omega arith
-
-pub bounds-tokens-i-in-loop-i : goal.bounds-tokens-i-in-loop-i
-bounds-tokens-i-in-loop-i c = omega arith
-
-pub loop-i-smaller : goal.loop-i-smaller
-loop-i-smaller c = omega arith
-
 pub loop-i-preserved : goal.loop-i-preserved
 loop-i-preserved c =
     let l = c.loop-i in

@@ -30,14 +30,12 @@ returns-then-x-ne120 c =
 
 pub read_hexes-requires : goal.read_hexes-requires
 read_hexes-requires c =
-    let is_number : let a = c.args in a.at < length a.rule.now = let a = c.args in
-    inside a.rule.now a.at c.byte_at-x.ensures (λ z. omega arith) in
+    let is_number : c.args.at < length c.args.rule.now = let a = c.args in inside a.rule.now a.at c.byte_at-x.ensures (λ z. omega arith) in
     let i = is_number in omega arith
 
 pub returns : goal.returns
 returns c =
-    let is_number : let a = c.args in a.at < length a.rule.now = let a = c.args in
-    inside a.rule.now a.at c.byte_at-x.ensures (λ z. omega arith) in
+    let is_number : c.args.at < length c.args.rule.now = let a = c.args in inside a.rule.now a.at c.byte_at-x.ensures (λ z. omega arith) in
     let a = c.args in
     let b = c.byte_at-x in
     goes a.rule.now a.at b.ensures (read_escape a.lo) (read_hexes a.lo) (λ m. ByteSays a.rule.now m c.read_hexes.result)

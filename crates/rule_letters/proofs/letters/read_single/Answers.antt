@@ -31,14 +31,12 @@ returns-then-x-ne92 c =
 
 pub read_escape-requires : goal.read_escape-requires
 read_escape-requires c =
-    let is-escape : let a = c.args in a.at < length a.rule.now = let a = c.args in
-    inside a.rule.now a.at c.byte_at-x.ensures (λ z. omega arith) in
+    let is-escape : c.args.at < length c.args.rule.now = let a = c.args in inside a.rule.now a.at c.byte_at-x.ensures (λ z. omega arith) in
     let i = is-escape in omega arith
 
 pub returns : goal.returns
 returns c =
-    let is-escape : let a = c.args in a.at < length a.rule.now = let a = c.args in
-    inside a.rule.now a.at c.byte_at-x.ensures (λ z. omega arith) in
+    let is-escape : c.args.at < length c.args.rule.now = let a = c.args in inside a.rule.now a.at c.byte_at-x.ensures (λ z. omega arith) in
     let a = c.args in
     let b = c.byte_at-x in
     single_tells _ _ _ _ (omega arith) c.requires

@@ -15,7 +15,7 @@ pub enter-entered-requires : goal.enter-entered-requires
 enter-entered-requires c = c.requires.0
 
 pub overflow_cast-r : goal.overflow_cast-r
-overflow_cast-r c = omega (arith, c.shared_slice_known-in-loop-i-2-1.given c.loop-i.i)
+overflow_cast-r c = omega (arith, c.type_inv.states c.loop-i.i)
 
 pub returns-then-not-has_bit : goal.returns-then-not-has_bit
 returns-then-not-has_bit c =

@@ -120,6 +120,8 @@ class Function:
         self.args += sorted({("." + a.split(".")[-1], "." + b.split(".")[-1]) for a, b in self.args if re.search(r"\.t\d+$", a)})
         self.identity, self.inline = set(), {}
         self.callees = {p[2][1]: p[3] for p in n["places"] if p[3]}
+        slices = {p[0] for typed in n.get("typed", []) for p in typed if p[1] == "shared_slice_known"}
+        self.slice = slices.pop() if len(slices) == 1 else None
         self.own, self.labels, self.params = ([], []), {}, n.get("params", {})
         # what an arm of a match binds: (step, path) -> arm and field
         self.arms = {}
@@ -177,7 +179,8 @@ class Function:
         text = re.sub(r"(?<![\w-])%s\.(%s)2(?![\w-])" % (re.escape(c), ID), lambda m: c + "." + (m.group(1) if m.group(1) in self.steps.values() else m.group(1) + "2"), text)
         for a, b in (("inv", "invariant"), ("pre", "requires"), ("taken", "true"), ("left", "false"), ("type-inv", "type_inv")):
             text = re.sub(r"\.%s(?![\w-])" % a, "." + b, text)
-        text = re.sub(r"not-(true|false) (?:_|\([^()]*\)) (%s\.if-not-[\w-]+\.\1)" % re.escape(c), r"\2", text)
+        text = re.sub(r"not-(true|false) (?:_|\([^()]*\)|[\w.-]+) (%s\.if-not-[\w-]+\.\1)" % re.escape(c), r"\2", text)
+        text = re.sub(r"(?<![\w-])%s\.shared_slice_known-1\.given" % re.escape(c), c + ".type_inv." + self.slice, text) if self.slice else text
         text = re.sub(r"sym \(length-map \S+ _\) ∙ (%s\.well_formed[.\d]*)" % re.escape(c), r"\1", text)
         text = re.sub(r"(?<![\w-])%s\.(%s)\.(?:new|last)((?:\.\d+)+)" % (re.escape(c), ID), lambda m: "%s.%s.new%s" % (c, m.group(1), by_label(m.group(2), self.params.get(self.callees.get(m.group(1)), []))), text)
         for m in list(re.finditer(r"let (%s) = %s\.(%s) in" % (ID, re.escape(c), ID), text)):

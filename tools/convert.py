@@ -93,6 +93,9 @@ def as_record(text, labels):
     head, rest, parts = text[:at], text[at:], []
     for _ in labels[1:]:
         two = split_pair(rest)
+        if not two and not parts and rest.strip() and not re.match(r"\s*(record|λ|elim|rw|\?|search|let)\b", rest):
+            ways = [".1" * i + (".0" if i < len(labels) - 1 else "") for i in range(len(labels))]
+            return head + " let said = %s in record { %s }" % (rest.strip(), "; ".join("%s = said%s" % x for x in zip(labels, ways)))
         if not two:
             return None
         parts.append(two[0])
@@ -172,9 +175,10 @@ class Function:
             text = re.sub(re.escape(a) + r"(?![\w-])", b, text)
         text = re.sub(r"(?<![\w-])%s\.(%s)" % (re.escape(c), ID), lambda m: c + "." + self.steps.get(norm(m.group(1)), m.group(1)), text)
         text = re.sub(r"(?<![\w-])%s\.(%s)2(?![\w-])" % (re.escape(c), ID), lambda m: c + "." + (m.group(1) if m.group(1) in self.steps.values() else m.group(1) + "2"), text)
-        text = re.sub(r"not-(true|false) (?:_|\([^()]*\)) (%s\.if-not-[\w-]+\.\1)" % re.escape(c), r"\2", text)
         for a, b in (("inv", "invariant"), ("pre", "requires"), ("taken", "true"), ("left", "false"), ("type-inv", "type_inv")):
             text = re.sub(r"\.%s(?![\w-])" % a, "." + b, text)
+        text = re.sub(r"not-(true|false) (?:_|\([^()]*\)) (%s\.if-not-[\w-]+\.\1)" % re.escape(c), r"\2", text)
+        text = re.sub(r"sym \(length-map \S+ _\) ∙ (%s\.well_formed[.\d]*)" % re.escape(c), r"\1", text)
         while True:
             m = next((m for m in re.finditer(r"let (%s) = (%s\.(%s)\.ensures|%s\.requires) in\s*" % (ID, re.escape(c), ID, re.escape(c)), text) if (self.of(m.group(3))[1] if m.group(3) else self.own[0])), None)
             if not m:

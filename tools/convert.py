@@ -41,6 +41,69 @@ def blocks(text):
     return head, joined
 
 
+def labels_of(root):
+    """(crate, function) to the names of its requires and its ensures, where a kind has more than one clause."""
+    got = {}
+    for here, dirs, fs in os.walk(os.path.join(root, "crates")):
+        dirs[:] = [d for d in dirs if d != "out"]
+        for file in fs:
+            if file.endswith(".rt"):
+                crate = os.path.relpath(here, os.path.join(root, "crates")).split("/")[0]
+                text = open(os.path.join(here, file), encoding="utf-8").read()
+                for m in re.finditer(r"^\s*(?:pub )?(?:const )?(?:unsafe )?(?:extern \"C\" )?fn (\w+)(.*?)\n\{", text, re.S | re.M):
+                    kinds = [re.findall(r"^    %s(?: (\w+))? \{" % k, m.group(2), re.M) for k in ("requires", "ensures")]
+                    got[(crate, file[:-3], m.group(1))] = got[(crate, m.group(1))] = [k if len(k) > 1 else [] for k in kinds]
+    return got
+
+
+def by_label(path, labels):
+    """A path below requires or ensures, `.1.0` say, by the clauses' names."""
+    ways = [w for w in path.split(".") if w]
+    for i, label in enumerate(labels):
+        way = ["1"] * i + (["0"] if i < len(labels) - 1 else [])
+        if ways[: len(way)] == way:
+            return "." + ".".join([label] + ways[len(way):])
+    return path
+
+
+def split_pair(text):
+    """The parts of `(a, b)` as two, or None."""
+    text = text.strip()
+    if not (text.startswith("(") and text.endswith(")")):
+        return None
+    depth, cut = 0, None
+    for i, ch in enumerate(text):
+        depth += ch in "([{"
+        depth -= ch in ")]}"
+        if depth == 0 and i < len(text) - 1:
+            return None
+        if ch == "," and depth == 1 and cut is None:
+            cut = i
+    return (text[1:cut].strip(), text[cut + 1:-1].strip().rstrip(",")) if cut else None
+
+
+def as_record(text, labels):
+    """An answer to several clauses, `let .. in (a, (b, c))`, as a record by their names."""
+    depth, at = 0, 0
+    for m in re.finditer(r"[(\[{]|[)\]}]|(?<![\w'-])in(?![\w'-])", text):
+        if m.group(0) == "in":
+            at = m.end() if depth == 0 else at
+        else:
+            depth += 1 if m.group(0) in "([{" else -1
+    head, rest, parts = text[:at], text[at:], []
+    for _ in labels[1:]:
+        two = split_pair(rest)
+        if not two and not parts and rest.strip() and not re.match(r"\s*(record|λ|elim|rw|\?|search|let)\b", rest):
+            ways = [".1" * i + (".0" if i < len(labels) - 1 else "") for i in range(len(labels))]
+            return head + " let said = %s in record { %s }" % (rest.strip(), "; ".join("%s = said%s" % x for x in zip(labels, ways)))
+        if not two:
+            return None
+        parts.append(two[0])
+        rest = two[1] if "," not in two[1] or split_pair(two[1]) or _ == labels[-1] else "(" + two[1] + ")"
+    parts.append(rest.strip())
+    return head + " record {\n" + "".join("      %s = %s;\n" % (l, p) for l, p in zip(labels, parts)) + "    }"
+
+
 class Function:
     def __init__(self, names, key):
         n = names.get(key) or {"places": [], "needs": [], "loops": [], "args": [], "changed": []}
@@ -56,6 +119,10 @@ class Function:
         self.args = [(a.replace(" ", ""), b.replace(" ", "")) for a, b in n["args"]]
         self.args += sorted({("." + a.split(".")[-1], "." + b.split(".")[-1]) for a, b in self.args if re.search(r"\.t\d+$", a)})
         self.identity, self.inline = set(), {}
+        self.callees = {p[2][1]: p[3] for p in n["places"] if p[3]}
+        slices = {p[0] for typed in n.get("typed", []) for p in typed if p[1] == "shared_slice_known"}
+        self.slice = slices.pop() if len(slices) == 1 else None
+        self.own, self.labels, self.params = ([], []), {}, n.get("params", {})
         # what an arm of a match binds: (step, path) -> arm and field
         self.arms = {}
         for arm in n.get("arms", []):
@@ -109,9 +176,32 @@ class Function:
         for a, b in self.args:
             text = re.sub(re.escape(a) + r"(?![\w-])", b, text)
         text = re.sub(r"(?<![\w-])%s\.(%s)" % (re.escape(c), ID), lambda m: c + "." + self.steps.get(norm(m.group(1)), m.group(1)), text)
+        text = re.sub(r"(?<![\w-])%s\.(%s)2(?![\w-])" % (re.escape(c), ID), lambda m: c + "." + (m.group(1) if m.group(1) in self.steps.values() else m.group(1) + "2"), text)
         for a, b in (("inv", "invariant"), ("pre", "requires"), ("taken", "true"), ("left", "false"), ("type-inv", "type_inv")):
             text = re.sub(r"\.%s(?![\w-])" % a, "." + b, text)
+        text = re.sub(r"not-(true|false) (?:_|\([^()]*\)|[\w.-]+) (%s\.if-not-[\w-]+\.\1)" % re.escape(c), r"\2", text)
+        text = re.sub(r"(?<![\w-])%s\.shared_slice_known-1\.given" % re.escape(c), c + ".type_inv." + self.slice, text) if self.slice else text
+        text = re.sub(r"sym \(length-map \S+ _\) ∙ (%s\.well_formed[.\d]*)" % re.escape(c), r"\1", text)
+        text = re.sub(r"(?<![\w-])%s\.(%s)\.(?:new|last)((?:\.\d+)+)" % (re.escape(c), ID), lambda m: "%s.%s.new%s" % (c, m.group(1), by_label(m.group(2), self.params.get(self.callees.get(m.group(1)), []))), text)
+        for m in list(re.finditer(r"let (%s) = %s\.(%s) in" % (ID, re.escape(c), ID), text)):
+            text = re.sub(r"(?<![\w.'-])%s\.ensures((?:\.\d+)+)" % re.escape(m.group(1)), lambda x: m.group(1) + ".ensures" + by_label(x.group(1), self.of(m.group(2))[1]), text)
+            text = re.sub(r"(?<![\w.'-])%s\.(?:new|last)((?:\.\d+)+)" % re.escape(m.group(1)), lambda x: m.group(1) + ".new" + by_label(x.group(1), self.params.get(self.callees.get(m.group(2)), [])), text)
+        while True:
+            m = next((m for m in re.finditer(r"let (%s) = (%s\.(%s)\.ensures|%s\.requires) in\s*" % (ID, re.escape(c), ID, re.escape(c)), text) if (self.of(m.group(3))[1] if m.group(3) else self.own[0])), None)
+            if not m:
+                break
+            text = text[:m.start()] + re.sub(r"(?<![\w.'-])%s(?![\w'-])" % re.escape(m.group(1)), m.group(2), text[m.end():])
+        if self.own[0]:
+            text = re.sub(r"(?<![\w-])%s\.requires((?:\.\d+)+)" % re.escape(c), lambda m: c + ".requires" + by_label(m.group(1), self.own[0]), text)
+        text = re.sub(r"(?<![\w-])%s\.(%s)\.ensures((?:\.\d+)+)" % (re.escape(c), ID), lambda m: "%s.%s.ensures%s" % (c, m.group(1), by_label(m.group(2), self.of(m.group(1))[1])), text)
         return self.inlined(text, c)
+
+    def of(self, step):
+        callee = self.callees.get(step)
+        if not callee:
+            return [], []
+        parts = callee.split("::")
+        return self.labels.get((parts[0], parts[-2], parts[-1])) or self.labels.get((parts[0], parts[-1])) or ([], [])
 
     def inlined(self, text, c):
         """Helpers over the record become lets of the answer that uses them."""
@@ -119,7 +209,7 @@ class Function:
         while todo:
             t = todo.pop(0)
             for name in self.inline:
-                if name not in got and re.search(r"(?<![\w'.-])%s %s(?![\w'-])" % (re.escape(name), re.escape(c)), t):
+                if name not in got and re.search(r"(?<![\w'.-])%s %s(?![\w'.-])" % (re.escape(name), re.escape(c)), t):
                     got.add(name)
                     todo.append(self.inline[name](c))
         for name in [n for n in self.inline if n in got]:
@@ -127,7 +217,7 @@ class Function:
         text = "".join(o + "\n    " for o in out) + text
         for name in got:
             text = re.sub(r"\(%s %s\)" % (re.escape(name), re.escape(c)), name, text)
-            text = re.sub(r"(?<![\w'.-])%s %s(?![\w'-])" % (re.escape(name), re.escape(c)), name, text)
+            text = re.sub(r"(?<![\w'.-])%s %s(?![\w'.-])" % (re.escape(name), re.escape(c)), name, text)
         return ("\n    " + text) if out and not text.startswith("\n") else text
 
 
@@ -138,7 +228,8 @@ def used(use, body):
     keep = []
     for n in m.group(2).split(","):
         n = n.strip()
-        word = n.strip("◌").replace("◌", "") if "◌" in n else n
+        word = n.split(" as ")[-1]
+        word = word.strip("◌").replace("◌", "") if "◌" in word else word
         if "◌" in n and n.strip("◌") == "":
             keep.append(n)
         elif re.search(r"(?<![\w'-])%s(?![\w'-])" % re.escape(word), body) if re.match(r"\w", word) else word in body:
@@ -152,6 +243,9 @@ def convert(folder, crate, name, names):
     if "tie." not in text:
         return False
     f = Function(names, "Rattle-%s-proofs.%s.Lts" % (crate, name.replace("/", ".")))
+    f.labels = LABELS
+    parts = name.split("/")
+    f.own = LABELS.get((crate, parts[-2] if len(parts) > 1 else "lib", parts[-1])) or LABELS.get((crate, parts[-1])) or ([], [])
     head, bs = blocks(text)
     comment = [l for l in head if l.startswith("--")]
     uses = [l for l in head if l.startswith("use ") and ".Statement.{" not in l and not l.endswith(" as tie") and ".Tie.{" not in l]
@@ -236,13 +330,20 @@ def convert(folder, crate, name, names):
             if re.fullmatch(r"search rules", body.strip()):
                 continue
             flag = [] if new else ["-- HAND: no goal for %s" % old]
+            asked = []
+            if new and new.startswith("returns"):
+                asked = f.own[1]
+            elif new and re.search(r"-requires(-\d+)?$", new):
+                asked = f.of(re.sub(r"-requires", "", new))[0]
+            if asked:
+                body = as_record(body, asked) or body
             new = new or label
             lead = "\n    " if d.group(0).split("=", 1)[1].startswith("\n") and not body.startswith("\n") else " "
             ans.append("\n".join(notes + flag + ["pub %s : goal.%s" % (new, new)] + opens + ["%s %s =%s%s" % (new, " ".join(args), lead, body)]))
             continue
         if "statement " in kind:
             continue
-        d = re.match(r"(?:abbrev )?%s : (?:\((%s) : tie\.(?:[^()]|\([^()]*\))*\)|tie\.\S+(?: (?:invariant|decreases)-\S+)*) →\s*(.*)$" % (re.escape(label), ID), "\n".join(s for s in sig if not s.strip().startswith("unfolding")), re.S)
+        d = re.match(r"(?:abbrev )?%s : (?:\((%s) : tie\.(?:[^()]|\([^()]*\))*\)|tie\.\S+(?: (?:invariant|decreases)-\S+)*)\s*→\s*(.*)$" % (re.escape(label), ID), "\n".join(s for s in sig if not s.strip().startswith("unfolding")), re.S)
         clause = re.match(r"%s((?: [^\s=]+)*) =\s*(.*)$" % re.escape(label), rest, re.S)
         if d and clause and "{" not in d.group(2).split("→")[0] and rest.count("\n" + label + " ") == 0:
             params = clause.group(1).split()
@@ -296,6 +397,7 @@ if __name__ == "__main__":
     folder, listed, only = sys.argv[1], sys.argv[2], sys.argv[3:]
     crate = os.path.basename(os.path.abspath(folder))
     names = json.load(open(listed, encoding="utf-8"))
+    LABELS = labels_of(os.path.join(folder, "..", ".."))
     for here, dirs, fs in os.walk(os.path.join(folder, "proofs")):
         if "Proof.antt" in fs:
             name = os.path.relpath(here, os.path.join(folder, "proofs"))

@@ -10,7 +10,7 @@ import sys
 
 folder = os.path.abspath(sys.argv[1])
 crate = os.path.basename(folder)
-aside = {}
+aside, why = {}, {}
 
 
 def check():
@@ -22,6 +22,7 @@ for turn in range(4):
     bad = {}
     for m in re.finditer(r"^\./(proofs/\S+?/Answers\.antt):\d+:\d+: error: `([^`]+)`", said, re.M):
         bad.setdefault(m.group(1), set()).add(m.group(2))
+        why.setdefault((os.path.dirname(m.group(1))[7:], m.group(2)), said[m.start():m.start() + 900].split("\n./")[0].split("\nfn ")[0].split("\nstruct ")[0])
     if not bad:
         break
     for file, names in bad.items():
@@ -47,9 +48,14 @@ open("/tmp/chk-%s.log" % crate, "w").write(said)
 for line in said.splitlines():
     if re.match(r"fn .*: (not proved|no proof)", line) or " error" in line and "depend" not in line:
         print(line[:400])
+told = set()
 for m in re.finditer(r"^note: `([^`]+)` of (proofs/\S+)/\w+\.antt must prove: (.*(?:\n  .*)*)", said, re.M):
     print("--", m.group(2), m.group(1))
     print("   ", m.group(3)[:1500])
-    was = aside.get((m.group(2)[7:], m.group(1)))
-    if was:
-        print("  WAS:\n" + was)
+    for name in (m.group(1), re.sub("-clause-.*", "", m.group(1))):
+        key = (m.group(2)[7:], name)
+        if key in aside:
+            if key not in told:
+                print("  WAS:\n" + aside[key] + "\n  SAID: " + why.get(key, ""))
+            told.add(key)
+            break

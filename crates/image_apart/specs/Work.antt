@@ -1,5 +1,5 @@
 -- WHAT THE PARTS COMPUTE from any words: the states that some mask of a section has, and the kinds that these show.
-use Rattle.std.specs.Prelude.{◌≡◌, cond, List, [], ◌∷◌, ℕ, zero, suc, ◌+◌, ◌*◌, ◌<◌, drop, get_or, length, replicate, take}
+use Rattle.std.specs.Prelude.{◌≡◌, cond, List, [], ◌∷◌, ℕ, zero, suc, ◌+◌, ◌*◌, ◌<◌, drop, get_or, replicate, take}
 use Rattle.std.specs.Int.Bits.{bit_or}
 use Rattle.model.specs.Bits.{bit}
 use Rattle.model.specs.Models.Apart.{mark_of, repeat_of}

@@ -20,7 +20,6 @@ use Rattle.tokens_masks.specs.Says.{OnTapeSays, TreeOnTape}
 use Rattle.tokens.specs.Tokens.{bare, token_of}
 use Rattle.tokens_masks.specs.Tapes.{bares, is_tree, on_tape, read_kinds, tokens_of}
 use Rattle.tokens.specs.Kinds.{read_kind}
-use Rattle.tokens_masks.specs.declared.OnTape.TheVariants.{Tree}
 use Rattle.tokens_masks.specs.declared.Tape.{Tape}
 use Rattle.tokens.specs.declared.token.Token as code
 use Rattle.tokens.specs.declared.token.Token.TheVariants.{Bar, Close, Letter, Open}

@@ -2,10 +2,10 @@
 -- image's and, for the tokens of a rule's tree, are its image; where it is not, a rule's tree with those tokens is deeper than 8.
 use mathlib.Core.Path.{◌≡◌, refl, sym, ap, ap₂, ◌∙◌, subst}
 use mathlib.Core.Logic.{◌⊎◌, inl, inr}
-use mathlib.Core.List.{List, map}
+use mathlib.Core.List.{List}
 use Prim.Native.Nat.{ℕ, ◌+◌, ◌≤◌, ◌<◌}
 use native.Mathlib.Omega.{arith}
-use lib.ListN.{length, length-map}
+use lib.ListN.{length}
 use lib.Seq.{sets}
 use Rattle.model.specs.Answers.{gives, refused}
 use Rattle.model.specs.Edges.{depth, states}
@@ -38,9 +38,9 @@ pub record Taped (row : List ℕ) (n : ℕ) (tape : Tape) (laid : OnTape) : Type
   pub says : OnTapeSays tape laid
 
 -- f is how a kind lies in memory
-pub taped : (row : List ℕ) (tape : Tape) {n : ℕ} {laid : OnTape} {A : Type 0} (f : ℕ → A) → tape.length ≡ n → KindsAre row tape.kinds
-    → length (map f tape.kinds) ≡ 512 → OnTapeSays tape laid → Taped row n tape laid
-taped row tape f l k e S = record { long = l; kinds = k; room = sym (length-map tape.kinds f) ∙ e; says = S }
+pub taped : (row : List ℕ) (tape : Tape) {n : ℕ} {laid : OnTape} → tape.length ≡ n → KindsAre row tape.kinds
+    → length tape.kinds ≡ 512 → OnTapeSays tape laid → Taped row n tape laid
+taped row tape l k e S = record { long = l; kinds = k; room = e; says = S }
 
 module _ {row : List ℕ} {n : ℕ} {tape : Tape} {laid : OnTape} (T : Taped row n tape laid) where
   all_tokens : (t : tree.Tree) → TokensOf t row n → TokensOf t row tape.length

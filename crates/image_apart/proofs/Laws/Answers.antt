@@ -1,10 +1,10 @@
 -- WHAT TAKE APART ANSWERS, at each of its ways out: a header that fails is none of an image, and of words whose header passes the parts have found what
 -- the model finds.
 use mathlib.Core.Path.{◌≡◌, sym, ap, ◌∙◌, subst}
-use mathlib.Core.List.{List, map}
+use mathlib.Core.List.{List}
 use Prim.Native.Nat.{ℕ, ◌-◌, ◌≤◌}
 use native.Mathlib.Omega.{arith}
-use lib.ListN.{length, length-map}
+use lib.ListN.{length}
 use Rattle.model.specs.Models.Sections.{depth_word, state_word, width_word}
 use Rattle.model.specs.Models.Words.{Fit}
 use Rattle.image_sections.specs.Header.{Headed, header_fits, header_if}
@@ -66,11 +66,10 @@ module _ {ws : List ℕ} {p : Sections} {marks : Marks} {t : Tape} (fit : Fit ws
         (subst (λ (n : ℕ). ShownBy (shows ws) (n - 1) t) (states_are D) (subst (λ (q : Marks). ShownBy q (p.states - 1) t) same_marks shown));
   }
 
--- put together from what the parts have answered; h is how a kind lies in memory
-pub taken_says : {ws : List ℕ} {answer : Header} {p : Sections} {marks : Marks} {t : Tape} {A : Type 0} (h : ℕ → A) → Fit ws
+-- put together from what the parts have answered
+pub taken_says : {ws : List ℕ} {answer : Header} {p : Sections} {marks : Marks} {t : Tape} → Fit ws
     → answer ≡ header_if (header_fits ws) ws → answer ≡ Sound p → marks ≡ marks_of ws p → ShownBy marks (p.states - 1) t
-    → length (map h t.kinds) ≡ 512 → ApartSays ws (record { header = Sound p; letters = marks.letters; tape = t })
-taken_says {ws} {t = t} h f e g q s r =
+    → length t.kinds ≡ 512 → ApartSays ws (record { header = Sound p; letters = marks.letters; tape = t })
+taken_says {ws} {t = t} f e g q s r =
     let D = told (header_fits ws) ws e g in
-    let k : length t.kinds ≡ 512 = sym (length-map t.kinds h) ∙ r in
-    taken ((header_is ws).0 D.passed) (ap Sound D.own) (letters_are f D q s k) (tape_shown f D q s k)
+    taken ((header_is ws).0 D.passed) (ap Sound D.own) (letters_are f D q s r) (tape_shown f D q s r)

@@ -12,12 +12,10 @@ use Rattle.rule_signs.proofs.Laws.Repeats.{digits_go, digits_low, digits_none, d
 use Rattle.rule_signs.proofs.read_second.Goals as goal
 
 pub digit_value-requires : goal.digit_value-requires
-digit_value-requires c = 
-    let is_digit : digital c.byte_at-x.result ≡ true = sym c.is_digit.ensures ∙ c.if-is_digit.true in
-    is_digit
+digit_value-requires c = sym c.is_digit.ensures ∙ c.if-is_digit.true
 
 pub returns-then-n-least : goal.returns-then-n-least
-returns-then-n-least c = 
+returns-then-n-least c =
     let is_digit : digital c.byte_at-x.result ≡ true = sym c.is_digit.ensures ∙ c.if-is_digit.true in
     stops c.args.rule.now c.args.at c.byte_at-x.ensures (read_digits 2 c.args.least c.args.v) c.requires.0
     (digits_none_low 1 c.args.least c.args.v (omega arith))
@@ -25,15 +23,15 @@ returns-then-n-least c =
     (ap (λ (d : ℕ). 10 * c.args.v + d) c.digit_value.ensures.0) c.if-n-least.true)
 
 pub read_third-requires : goal.read_third-requires
-read_third-requires c = 
+read_third-requires c =
     let is_digit : digital c.byte_at-x.result ≡ true = sym c.is_digit.ensures ∙ c.if-is_digit.true in
-    let inside : let a = c.args in a.at < length a.rule.now = let a = c.args in passes a.rule.now a.at c.byte_at-x.ensures digital refl is_digit in
+    let inside : c.args.at < length c.args.rule.now = let a = c.args in passes a.rule.now a.at c.byte_at-x.ensures digital refl is_digit in
     let i = inside in omega arith
 
 pub returns-then-is_digit : goal.returns-then-is_digit
-returns-then-is_digit c = 
+returns-then-is_digit c =
     let is_digit : digital c.byte_at-x.result ≡ true = sym c.is_digit.ensures ∙ c.if-is_digit.true in
-    let inside : let a = c.args in a.at < length a.rule.now = let a = c.args in passes a.rule.now a.at c.byte_at-x.ensures digital refl is_digit in
+    let inside : c.args.at < length c.args.rule.now = let a = c.args in passes a.rule.now a.at c.byte_at-x.ensures digital refl is_digit in
     let a = c.args in
     let n = 10 * a.v + c.digit_value.result in
     goes a.rule.now a.at c.byte_at-x.ensures (read_digits 2 a.least a.v) (read_digits 1 a.least n)

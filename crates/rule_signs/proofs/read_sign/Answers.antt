@@ -32,9 +32,6 @@ returns-then-x-eq43 c =
     sign_tells _ _ _
     (takes a.rule.now a.at refl read_sign c.if-at-rule.false (λ xs. sign_cross (get_or a.rule.now a.at 0) xs c.if-x-eq43.true))
 
-pub read_braces-requires : goal.read_braces-requires
-read_braces-requires c = omega arith
-
 pub returns-then-x-eq123 : goal.returns-then-x-eq123
 returns-then-x-eq123 c =
     let a = c.args in

@@ -11,12 +11,10 @@ use Rattle.rule_signs.proofs.Laws.Repeats.{digits_last, digits_low, digits_none,
 use Rattle.rule_signs.proofs.read_third.Goals as goal
 
 pub digit_value-requires : goal.digit_value-requires
-digit_value-requires c = 
-    let is_digit : digital c.byte_at-x.result ≡ true = sym c.is_digit.ensures ∙ c.if-is_digit.true in
-    is_digit
+digit_value-requires c = sym c.is_digit.ensures ∙ c.if-is_digit.true
 
 pub returns-then-n-least : goal.returns-then-n-least
-returns-then-n-least c = 
+returns-then-n-least c =
     let is_digit : digital c.byte_at-x.result ≡ true = sym c.is_digit.ensures ∙ c.if-is_digit.true in
     stops c.args.rule.now c.args.at c.byte_at-x.ensures (read_digits 1 c.args.least c.args.v) c.requires.0
     (digits_none_low 0 c.args.least c.args.v (omega arith))
@@ -24,9 +22,9 @@ returns-then-n-least c =
     (ap (λ (d : ℕ). 10 * c.args.v + d) c.digit_value.ensures.0) c.if-n-least.true)
 
 pub returns-then-is_digit : goal.returns-then-is_digit
-returns-then-is_digit c = 
+returns-then-is_digit c =
     let is_digit : digital c.byte_at-x.result ≡ true = sym c.is_digit.ensures ∙ c.if-is_digit.true in
-    let inside : let a = c.args in a.at < length a.rule.now = let a = c.args in passes a.rule.now a.at c.byte_at-x.ensures digital refl is_digit in
+    let inside : c.args.at < length c.args.rule.now = let a = c.args in passes a.rule.now a.at c.byte_at-x.ensures digital refl is_digit in
     let a = c.args in
     takes a.rule.now a.at c.byte_at-x.ensures (read_digits 1 a.least a.v) inside
     (λ xs. digits_last a.least a.v c.byte_at-x.result xs is_digit

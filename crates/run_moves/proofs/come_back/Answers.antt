@@ -1,9 +1,7 @@
 -- `come_back`: where a test ends it nothing is added (`return_none`, `return_held`).
-use mathlib.Core.Path.{◌≡◌, sym, ap, ◌∙◌, subst}
-use lib.Dec.{T}
+use mathlib.Core.Path.{◌≡◌, sym, ap, ◌∙◌}
 use lib.ListN.{length, take}
 use Rattle.model.specs.Models.Words.{or_words}
-use Rattle.model.proofs.Laws.Bool.{is_false}
 use Rattle.mask.proofs.Laws.Bits.{fit_row}
 use Rattle.run_moves.proofs.Laws.Back.{return_held, return_none}
 use borrow.Author.Rules.{rules}
@@ -23,3 +21,13 @@ pub returns : goal.returns
 returns c =
     let a = c.args in
     c.or.ensures ∙ ap (or_words (take a.n a.live.words)) c.lead_back-targets.ensures
+
+pub returns-then-not-meet : goal.returns-then-not-meet
+returns-then-not-meet c =
+    let a = c.args in
+    let l : length a.live.words ≡ 8 = search rules in
+    let f : length a.first.words ≡ 8 = search rules in
+    let s : length a.source.words ≡ 8 = search rules in
+    let t : length a.target.words ≡ 8 = search rules in
+    sym (return_none a.n a.source.words a.target.words a.first.words a.live.words (s ∙ sym l) (t ∙ sym l) (f ∙ sym l)
+    (c.meet.ensures.0 c.if-not-meet.true))

@@ -1,5 +1,4 @@
 -- `lead_back`: the words from i on are made and hand down whether their first source is live, and each turn makes the word below (`led_more`).
-use Prim.Native.Nat.{◌-◌}
 use Rattle.run_moves.proofs.Laws.Back.{Led}
 use Rattle.run_moves.proofs.lead_back.Given as goal
 

@@ -4,4 +4,4 @@ use Rattle.rule_letters.proofs.Laws.Classes.{span_one}
 use Rattle.rule_letters.proofs.classes.one.Goals as goal
 
 pub returns : goal.returns
-returns c = c.span.ensures ∙ span_one c.args.b c.well_formed.0.1
+returns c = c.span.ensures ∙ span_one c.args.b c.ranges.b.fits

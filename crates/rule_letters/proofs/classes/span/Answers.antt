@@ -1,18 +1,11 @@
 -- `span`: a span is the mask of its four words, and empty where its ends are turned.
 use mathlib.Core.Path.{sym, ◌∙◌}
-use native.Mathlib.Omega.{arith}
 use Rattle.rule_letters.specs.Classes.{bytes_of}
 use Rattle.rule_letters.proofs.Laws.Classes.{span_none, span_of}
 use Rattle.rule_letters.proofs.classes.span.Goals as goal
 
 pub returns-then-last-first : goal.returns-then-last-first
 returns-then-last-first c = c.none.ensures ∙ sym (span_none c.args.lo c.args.hi c.if-last-first.true)
-
-pub span_word-requires-3 : goal.span_word-requires-3
-span_word-requires-3 c = omega arith
-
-pub span_word-requires-4 : goal.span_word-requires-4
-span_word-requires-4 c = omega arith
 
 pub returns : goal.returns
 unfolding bytes_of

@@ -1,11 +1,8 @@
 -- `read_hex`: no hex digit, a byte that is too low, or the byte.
-use mathlib.Core.Path.{◌≡◌, refl, sym, ◌∙◌}
-use mathlib.Core.Bool.{true}
-use borrow.Author.Tests.{not-false, not-true}
-use Rattle.model.specs.Bytes.{hexadecimal}
+use mathlib.Core.Path.{refl}
 use Rattle.model.specs.Models.Reader.{read_hex}
-use Rattle.rule_letters.proofs.Laws.Escapes.{hex_got, hex_low, hex_other}
-use Rattle.rule_bytes.proofs.Laws.Places.{passes, stops, takes}
+use Rattle.rule_letters.proofs.Laws.Escapes.{hex_low}
+use Rattle.rule_bytes.proofs.Laws.Places.{stops}
 use Rattle.rule_letters.proofs.escapes.read_hex.Goals as goal
 
 pub returns-then-b-lo : goal.returns-then-b-lo

@@ -1,14 +1,10 @@
 -- `read_hexes`: no hex digit, one after which every byte is too low, or the second one decides.
 use mathlib.Core.Path.{◌≡◌, refl, sym, ◌∙◌}
 use mathlib.Core.Bool.{true}
-use Prim.Native.Nat.{◌<◌}
-use native.Mathlib.Omega.{arith}
-use borrow.Author.Tests.{not-false, not-true}
-use lib.ListN.{length}
 use Rattle.model.specs.Bytes.{hexadecimal}
 use Rattle.model.specs.Models.Reader.{read_hex, read_hexes}
 use Rattle.rule_letters.specs.Answers.{ByteSays}
-use Rattle.rule_letters.proofs.Laws.Escapes.{hexes_go, hexes_low, hexes_other}
+use Rattle.rule_letters.proofs.Laws.Escapes.{hexes_go, hexes_low}
 use Rattle.rule_bytes.proofs.Laws.Places.{goes, passes, stops}
 use Rattle.rule_letters.proofs.escapes.read_hexes.Goals as goal
 
@@ -17,3 +13,12 @@ returns-then-h-lo c =
     let b = c.byte_at-x in
     stops c.args.rule.now c.args.at b.ensures (read_hexes c.args.lo) c.requires refl
     (λ xs. hexes_low c.args.lo b.result xs c.hex_value-h.ensures.0 c.if-h-lo.true)
+
+pub returns : goal.returns
+returns c =
+    let is-hex : hexadecimal c.byte_at-x.result ≡ true = sym c.is_hex.ensures ∙ c.if-not-is_hex.false in
+    let a = c.args in
+    let b = c.byte_at-x in
+    goes a.rule.now a.at b.ensures (read_hexes a.lo) (read_hex a.lo c.hex_value-h.result)
+    (λ m. ByteSays a.rule.now m c.read_hex.result) (passes a.rule.now a.at b.ensures hexadecimal refl is-hex)
+    (λ xs. hexes_go a.lo b.result xs c.hex_value-h.ensures.0 is-hex c.if-h-lo.false) c.read_hex.ensures

@@ -27,9 +27,6 @@ returns-then-x-eq46 c =
     (took_as c.dot.ensures (takes a.rule.now a.at refl read_letter c.if-at-rule.false
     (λ xs. letter_dot (get_or a.rule.now a.at 0) xs c.if-x-eq46.true)))
 
-pub read_members-requires : goal.read_members-requires
-read_members-requires c = omega arith
-
 pub returns-then-x-eq91 : goal.returns-then-x-eq91
 returns-then-x-eq91 c =
     let a = c.args in
@@ -44,9 +41,6 @@ returns-then-x-ne92 c =
     (stops a.rule.now a.at refl read_letter (omega arith) refl
     (λ xs. letter_other (get_or a.rule.now a.at 0) xs (sym c.is_plain.ensures ∙ c.if-is_plain.false)
     c.if-x-eq46.false c.if-x-eq91.false c.if-x-ne92.true))
-
-pub read_escaped-requires : goal.read_escaped-requires
-read_escaped-requires c = omega arith
 
 pub returns : goal.returns
 returns c =

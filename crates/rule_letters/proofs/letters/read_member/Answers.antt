@@ -1,10 +1,6 @@
 -- `read_member`: a single, and what follows it.
-use lib.ListN.{drop}
-use Rattle.model.specs.Models.Reader.{read_single}
-use Rattle.rule_letters.specs.Answers.{LetterSays}
-use Rattle.rule_bytes.specs.Places.{Took}
 use Rattle.rule_letters.specs.Classes.{after_lower}
-use Rattle.rule_bytes.proofs.Laws.Binds.{bind_goes, bind_stops}
+use Rattle.rule_bytes.proofs.Laws.Binds.{bind_stops}
 use Rattle.rule_letters.proofs.letters.read_member.Goals as goal
 
 pub returns-in-Bad : goal.returns-in-Bad

@@ -19,13 +19,13 @@ returns-then-byte_at-ne45 c =
     (λ xs. lower_alone c.args.lo b.result xs c.if-byte_at-ne45.true))
 
 pub read_single-upper-requires : goal.read_single-upper-requires
-read_single-upper-requires c = 
-    let in-range : let a = c.args in a.at < length a.rule.now = let a = c.args in inside a.rule.now a.at c.byte_at.ensures (λ z. omega arith) in
+read_single-upper-requires c =
+    let in-range : c.args.at < length c.args.rule.now = let a = c.args in inside a.rule.now a.at c.byte_at.ensures (λ z. omega arith) in
     let i = in-range in omega arith
 
 pub returns-in-Got : goal.returns-in-Got
-returns-in-Got c = 
-    let in-range : let a = c.args in a.at < length a.rule.now = let a = c.args in inside a.rule.now a.at c.byte_at.ensures (λ z. omega arith) in
+returns-in-Got c =
+    let in-range : c.args.at < length c.args.rule.now = let a = c.args in inside a.rule.now a.at c.byte_at.ensures (λ z. omega arith) in
     let a = c.args in
     let b = c.byte_at in
     goes a.rule.now a.at b.ensures (after_lower a.lo) (after_minus a.lo) (λ m. Took a.rule.now m (bytes_of c.span-in-Got.result) c.in-Got.p)
@@ -33,8 +33,8 @@ returns-in-Got c =
     (bind_gives (rw c.in-Got.is at c.read_single-upper.ensures.reads) (span a.lo) c.span-in-Got.ensures)
 
 pub returns-in-Bad : goal.returns-in-Bad
-returns-in-Bad c = 
-    let in-range : let a = c.args in a.at < length a.rule.now = let a = c.args in inside a.rule.now a.at c.byte_at.ensures (λ z. omega arith) in
+returns-in-Bad c =
+    let in-range : c.args.at < length c.args.rule.now = let a = c.args in inside a.rule.now a.at c.byte_at.ensures (λ z. omega arith) in
     let a = c.args in
     let b = c.byte_at in
     goes a.rule.now a.at b.ensures (after_lower a.lo) (after_minus a.lo) (λ m. Stopped a.rule.now m c.in-Bad.p)

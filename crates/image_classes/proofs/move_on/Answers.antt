@@ -1,0 +1,19 @@
+-- `move_on`: a state that begins no column lies in that of the state before it.
+use mathlib.Core.Path.{◌≡◌, subst}
+use Prim.Native.Nat.{ℕ, ◌-◌, ◌/◌}
+use native.Mathlib.Omega.{arith}
+use Rattle.image_sections.proofs.Laws.Within.{within}
+use Rattle.image_classes.specs.Classes.{ColumnOf}
+use Rattle.image_classes.proofs.move_on.Goals as goal
+
+pub put_column-requires : goal.put_column-requires
+put_column-requires c = let p = c.requires in (p.0, omega (arith, p.1, (within p.0).room))
+
+pub returns-then-state-eq0 : goal.returns-then-state-eq0
+returns-then-state-eq0 c = c.put_column.ensures
+
+pub returns-else-state-eq0 : goal.returns-else-state-eq0
+returns-else-state-eq0 c =
+    let a = c.args in
+    let e : (a.state - 1) / 64 ≡ a.state / 64 = omega (arith, c.if-state-eq0.false) in
+    subst (λ (n : ℕ). ColumnOf a.words.now a.sections.width n a.classes.now) e c.requires.2

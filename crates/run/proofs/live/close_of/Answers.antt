@@ -1,0 +1,28 @@
+-- `close_of`: the table holds the masks of the words, so both rounds of eight words are theirs.
+use mathlib.Core.Path.{◌≡◌, sym, ap, ◌∙◌}
+use Prim.Native.Nat.{ℕ}
+use native.Mathlib.Omega.{arith}
+use lib.ListN.{length, take}
+use Rattle.mask.proofs.Laws.Bits.{fit_row}
+use Rattle.model.specs.Models.Run.{close_words}
+use Rattle.image_sections.proofs.Laws.Within.{own_depth, own_placed, within}
+use Rattle.run.specs.Work.{masks_of}
+use Rattle.run.proofs.Laws.Table.{close_eight, tabled_of}
+use borrow.Author.Rules.{rules}
+use Rattle.run.proofs.live.close_of.Goals as goal
+
+pub table-masks-requires : goal.table-masks-requires
+table-masks-requires c = c.requires
+
+pub close-requires : goal.close-requires
+close-requires c = (within c.requires).deep
+
+pub returns : goal.returns
+returns c =
+    let ws = c.args.image.now in
+    let live = c.args.live.words in
+    let P = c.requires in
+    let eight : length live ≡ 8 = search rules in
+    close_eight ws (fit_row ws c.type_inv.image) (own_placed P) c.table-masks.result (tabled_of c.table-masks.result P c.table-masks.ensures) (own_depth P) live
+    c.close.result.words (omega (arith, eight)) c.close.ensures
+    ∙ ap (λ (i : ℕ). take 8 (close_words (masks_of ws) i live)) (sym (own_depth P))

@@ -1,0 +1,18 @@
+-- `come_round`: without a live source nothing is added (`returns_none`).
+use mathlib.Core.Path.{sym}
+use native.Mathlib.Nat.{le_refl}
+use borrow.Author.Rules.{rules}
+use Rattle.run.proofs.Laws.Rounds.{returns_none}
+use Rattle.run.proofs.rounds.come_round.Goals as goal
+
+pub returns-requires : goal.returns-requires
+returns-requires c = c.requires.0
+
+pub returns-then-meet : goal.returns-then-meet
+returns-then-meet c = c.returns.ensures
+
+pub returns : goal.returns
+returns c =
+    let a = c.args in
+    sym (returns_none a.n a.table.now a.depth a.sources.words c.requires.1 c.requires.2 a.first.words (search rules)
+    (c.meet.ensures.0 c.if-meet.false) a.depth (le_refl a.depth))

@@ -1,0 +1,14 @@
+-- `fall`: what is left of the way down gives what the whole way gives.
+use mathlib.Core.Path.{◌≡◌}
+use lib.ListN.{take}
+use Prim.Native.Nat.{◌-◌, ◌≤◌}
+use Rattle.model.specs.Models.Run.{fall_words}
+use Rattle.run.specs.Work.{pass_masks}
+use Rattle.run.proofs.steps.fall.Given as goal
+
+abbrev pub invariant-loop-left : goal.invariant-loop-left
+invariant-loop-left l =
+    (l.left ≤ l.depth) × (fall_words (pass_masks l.n l.table) l.left (l.depth - l.left) (take l.n l.r.words) ≡ fall_words (pass_masks l.n l.table) l.depth 0 (take l.n l.initial.r.words))
+
+abbrev pub decreases-loop-left : goal.decreases-loop-left
+decreases-loop-left l = l.left

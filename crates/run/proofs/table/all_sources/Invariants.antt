@@ -1,0 +1,12 @@
+-- `all_sources`: the row has those of the depths passed (`sources_more`).
+use mathlib.Core.Path.{◌≡◌}
+use Prim.Native.Nat.{◌-◌, ◌≤◌}
+use lib.ListN.{length}
+use Rattle.run.specs.Work.{Sources}
+use Rattle.run.proofs.table.all_sources.Given as goal
+
+abbrev pub invariant-loop-k : goal.invariant-loop-k
+invariant-loop-k l = (l.k ≤ l.depth) × Sources l.table l.k l.r.words × (length l.r.words ≡ 8)
+
+abbrev pub decreases-loop-k : goal.decreases-loop-k
+decreases-loop-k l = l.depth - l.k

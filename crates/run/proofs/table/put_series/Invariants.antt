@@ -1,0 +1,10 @@
+-- `put_series`: each turn puts one mask more (`put_more`).
+use Prim.Native.Nat.{◌-◌, ◌≤◌}
+use Rattle.run.specs.Work.{PutTo}
+use Rattle.run.proofs.table.put_series.Given as goal
+
+abbrev pub invariant-loop-k : goal.invariant-loop-k
+invariant-loop-k l = (l.k ≤ 9) × PutTo l.k l.j l.masks l.initial.table l.table
+
+abbrev pub decreases-loop-k : goal.decreases-loop-k
+decreases-loop-k l = 9 - l.k

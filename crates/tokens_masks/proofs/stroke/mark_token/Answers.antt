@@ -1,0 +1,63 @@
+-- `stroke::mark_token`: a token that fits says how many unions are open, and each kind of token has its strokes.
+use mathlib.Core.List.{List}
+use mathlib.Core.Path.{ap, ◌∙◌, subst}
+use Prim.Native.Nat.{◌<◌}
+use native.Mathlib.Omega.{arith}
+use Rattle.model.specs.Models.LayOut.{Stroke}
+use Rattle.tokens.proofs.Scans.{ready_bar, ready_close, ready_depth, ready_top}
+use Rattle.tokens_masks.proofs.Strokes.{bar-strokes, close-strokes, letter-strokes, open-strokes}
+use Rattle.tokens_masks.specs.Masks.{paint}
+use Rattle.tokens.specs.Scans.{with_frames}
+use Rattle.tokens.specs.declared.Frame.{Frame}
+use Rattle.tokens_masks.proofs.stroke.mark_token.Goals as goal
+
+pub mark_letter-requires : goal.mark_letter-requires
+mark_letter-requires c =
+    let R = c.requires.ready.ready in
+    (R.below, omega (arith, ready_depth (with_frames c.args.scan c.requires.ready.frames) c.args.token R), c.requires.long)
+
+pub mark_open-requires : goal.mark_open-requires
+mark_open-requires c =
+    let R = c.requires.ready.ready in
+    (R.below, omega (arith, ready_depth (with_frames c.args.scan c.requires.ready.frames) c.args.token R), c.requires.long)
+
+pub overflow_sub-depth : goal.overflow_sub-depth
+overflow_sub-depth c =
+    ready_bar (with_frames c.args.scan c.requires.ready.frames) c.args.token c.requires.ready.ready c.in-Bar.is
+
+pub mark_bar-requires : goal.mark_bar-requires
+mark_bar-requires c =
+    let R = c.requires.ready.ready in
+    (R.below, omega (arith, ready_depth (with_frames c.args.scan c.requires.ready.frames) c.args.token R), c.requires.long)
+
+pub overflow_sub-depth-in-Close : goal.overflow_sub-depth-in-Close
+overflow_sub-depth-in-Close c =
+    ready_close (with_frames c.args.scan c.requires.ready.frames) c.args.token c.requires.ready.ready c.in-Close.shown c.in-Close.is
+
+pub mark_close-requires : goal.mark_close-requires
+mark_close-requires c =
+    let q = with_frames c.args.scan c.requires.ready.frames in
+    let R = c.requires.ready.ready in
+    let inner = ready_close q c.args.token R c.in-Close.shown c.in-Close.is in
+    let top = subst (λ (f : Frame). (f.alternative < 511) × (f.start < 511)) (c.requires.ready.top inner) (ready_top q c.args.token R c.in-Close.shown c.in-Close.is) in
+    (R.below, omega (arith, ready_depth q c.args.token R), top.0, top.1, c.requires.long)
+
+pub returns-in-Letter : goal.returns-in-Letter
+returns-in-Letter c = λ fs I.
+    c.mark_letter.ensures
+    ∙ ap (λ (ss : List Stroke). paint ss c.args.masks.now) (letter-strokes c.args.scan fs _ c.in-Letter.is)
+
+pub returns-in-Open : goal.returns-in-Open
+returns-in-Open c = λ fs I.
+    c.mark_open.ensures ∙ ap (λ (ss : List Stroke). paint ss c.args.masks.now) (open-strokes c.args.scan fs c.in-Open.is)
+
+pub returns-in-Bar : goal.returns-in-Bar
+returns-in-Bar c = λ fs I.
+    let inner = ready_bar (with_frames c.args.scan c.requires.ready.frames) c.args.token c.requires.ready.ready c.in-Bar.is in
+    c.mark_bar.ensures ∙ ap (λ (ss : List Stroke). paint ss c.args.masks.now) (bar-strokes c.args.scan fs inner c.in-Bar.is)
+
+pub returns-in-Close : goal.returns-in-Close
+returns-in-Close c = λ fs I.
+    let inner = ready_close (with_frames c.args.scan c.requires.ready.frames) c.args.token c.requires.ready.ready c.in-Close.shown c.in-Close.is in
+    c.mark_close.ensures
+    ∙ ap (λ (ss : List Stroke). paint ss c.args.masks.now) (close-strokes c.args.scan fs inner c.args.frame I c.in-Close.shown c.in-Close.is)

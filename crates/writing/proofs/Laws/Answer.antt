@@ -1,11 +1,11 @@
 -- THE READ-BACK TABLE, from the text that is the tree's writing: it fits, and is written, or it does not, and nothing is.
 use mathlib.Core.Path.{◌≡◌, refl, sym, ap, ◌∙◌, subst}
 use mathlib.Core.Logic.{◌⊎◌, inl, inr}
-use mathlib.Core.List.{List, map}
+use mathlib.Core.List.{List}
 use Prim.Native.Nat.{ℕ, ◌≤◌, ◌<◌}
 use native.Mathlib.Omega.{arith}
 use lib.Dec.{T}
-use lib.ListN.{length, length-map}
+use lib.ListN.{length}
 use Rattle.model.specs.Answers.{done, gives, ImageOf, no_room, ReadBackSays, written}
 use Rattle.model.specs.Models.Sections.{width_word}
 use Rattle.model.specs.Tree.{Tree}
@@ -57,11 +57,10 @@ module _ {ws : List ℕ} {p : Sections} {t : Tape} (F : Found ws p t) where
     width_is : p.width ≡ width_word ws
     width_is = ap (λ (q : Sections). q.width) F.sections_are ∙ sym (ap width_word I.laid)
 
-    -- h is how a kind lies in memory
-    pub says_found : {A : Type 0} (h : ℕ → A) → length (map h u.kinds) ≡ 512 → (before after : List ℕ) (r : Answer)
+    pub says_found : length u.kinds ≡ 512 → (before after : List ℕ) (r : Answer)
         → r ≡ written_if (text p.width) before → after ≡ bytes_after (text p.width) before → ReadBackSays ws before (answered r after)
-    says_found h room before after r e a =
+    says_found room before after r e a =
         subst (λ (q : Answer). ReadBackSays ws before (answered q after)) (sym e)
         (subst (λ (l : List ℕ). ReadBackSays ws before (answered (written_if (text p.width) before) l)) (sym a)
         (of_text ws F.tree I before (text p.width)
-        (ap text width_is ∙ all_written ws F.tree I t u F.tape-of M (sym (length-map u.kinds h) ∙ room))))
+        (ap text width_is ∙ all_written ws F.tree I t u F.tape-of M room)))

@@ -1,0 +1,9 @@
+-- `find_start`: at each place the set is known, no later place is a start, and the sets of each 256th place from it on are kept.
+use Rattle.spelling_propose.proofs.Laws.Search.{Backed}
+use Rattle.spelling_propose.proofs.search.find_start.Given as goal
+
+abbrev pub invariant-loop-sections : goal.invariant-loop-sections
+invariant-loop-sections l = Backed l.image l.origins l.last l.text l.end l.k l.set l.kept
+
+abbrev pub decreases-loop-sections : goal.decreases-loop-sections
+decreases-loop-sections l = l.k

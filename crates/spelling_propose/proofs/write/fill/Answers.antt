@@ -1,0 +1,21 @@
+-- `fill`: from the last place down, each turn has one set more.
+use Rattle.spelling_propose.proofs.Laws.Walk.{filling_all, filling_more, filling_none}
+use Rattle.spelling_propose.proofs.write.fill.Goals as goal
+
+pub loop-k-init : goal.loop-k-init
+loop-k-init c =
+    let a = c.args in
+    filling_none a.image.now a.origins.now a.text.now a.lo a.hi a.set a.sets.now c.requires.2 c.requires.1.ordered
+
+pub back-before-requires : goal.back-before-requires
+back-before-requires c = c.requires.0
+
+pub loop-k-preserved : goal.loop-k-preserved
+loop-k-preserved c =
+    let a = c.args in
+    filling_more a.image.now a.origins.now a.text.now a.lo a.hi a.set c.requires.1 c.loop-k.invariant c.loop-k-test.true c.back-before.result c.back-before.ensures
+
+pub returns : goal.returns
+returns c =
+    let a = c.args in
+    filling_all a.image.now a.origins.now a.text.now a.lo a.hi a.set c.loop-k.invariant c.loop-k-test.false

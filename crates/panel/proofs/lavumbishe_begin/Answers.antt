@@ -1,0 +1,13 @@
+-- Begin's answer is the table's, and its number and count are packed.
+use native.Mathlib.Omega.{arith}
+use Rattle.answers.specs.Answers.{count_in, number_in, place_in}
+use Rattle.panel.proofs.Laws.Watch.{begun_small}
+use Rattle.panel.proofs.lavumbishe_begin.Goals as goal
+
+pub pack-requires : goal.pack-requires
+pack-requires c = let k = begun_small c.begin-answer.ensures in omega (arith, k.0, k.1)
+
+pub returns : goal.returns
+returns c =
+    let b = c.begin-answer in
+    record { number = number_in b.result; place = place_in b.result; given = count_in b.result; says = b.ensures; packed = c.pack.ensures }

@@ -1,5 +1,5 @@
 -- Each turn puts one end's line more, of at most 21 bytes.
-use mathlib.Core.Path.{refl, ◌∙◌}
+use mathlib.Core.Path.{refl}
 use native.Mathlib.Omega.{arith}
 use lib.ListN.{get_or}
 use Rattle.program_lines.proofs.Laws.Numbers.{number_short}
@@ -15,9 +15,6 @@ offset_bounds-ends-i c = omega (arith, c.loop-i-test.true, c.least-shown.ensures
 pub bounds-ends-i : goal.bounds-ends-i
 bounds-ends-i c = omega (arith, c.loop-i-test.true, c.least-shown.ensures)
 
-pub overflow_cast-ends : goal.overflow_cast-ends
-overflow_cast-ends c = omega (arith, c.shared_slice_known-in-loop-i-1.given c.loop-i.i)
-
 pub put_number-next-requires : goal.put_number-next-requires
 put_number-next-requires c =
     omega (arith, c.loop-i.invariant.3, c.loop-i-test.true, c.least-shown.ensures, c.requires)
@@ -29,8 +26,8 @@ loop-i-preserved c =
     let a = c.args in (
       put_end a.ends.now a.text.now l.text a.at l.next l.i l.invariant.0 (omega (arith, c.loop-i-test.true, m.ensures)) c.put_number-next.ensures,
       omega (arith, c.loop-i-test.true),
-      c.text-1.given ∙ l.invariant.2,
-      omega (arith, l.invariant.3, c.put_number-next.ensures.place, number_short 19 (get_or a.ends.now l.i 0) (omega (arith, c.shared_slice_known-in-loop-i-1.given l.i))),
+      omega arith,
+      omega (arith, l.invariant.3, c.put_number-next.ensures.place, number_short 19 (get_or a.ends.now l.i 0) (omega (arith, c.type_inv.ends l.i))),
     )
 
 pub shape_of-text : goal.shape_of-text

@@ -42,12 +42,18 @@ fn extension(name: &str) -> &str {
     name.rsplit_once('.').map_or("", |(_, end)| end)
 }
 
+/// Whether a path from the root is a folder of what is made, or git's own.
+fn is_made(path: &str) -> bool {
+    let is_out = || path.strip_prefix("crates/").and_then(|inside| inside.split_once('/')).is_some_and(|(_, folder)| folder == "out");
+    ["target", ".git", "tests/target"].contains(&path) || is_out()
+}
+
 /// The files below a folder but for what is made and git's own.
 fn files(folder: &Path, out: &mut Vec<File>) {
     for entry in fs::read_dir(folder).expect("a folder").map(|entry| entry.expect("an entry").path()) {
         let path = entry.to_str().expect("a name").trim_start_matches("./").to_string();
         if entry.is_dir() {
-            if !["target", ".git", "tests/target"].contains(&path.as_str()) {
+            if !is_made(&path) {
                 files(&entry, out);
             }
         } else {

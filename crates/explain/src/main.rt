@@ -135,9 +135,9 @@ fn hear(rt: &impl Print, requests: &mut impl Read, rule: &[u8], journal: &[u8]) 
 // Of rule and journal as much is read as the desk program reads.
 fn main(rt: HostRuntime) -> io::Result<()> {
     let mut rule = [0u8; 1025];
-    let rule_length = read_file(&rt, "rule", &mut rule);
+    let rule_length = read_file(&rt, b"rule", &mut rule);
     let mut journal = [0u8; 65536];
-    let journal_length = read_file(&rt, "journal", &mut journal);
+    let journal_length = read_file(&rt, b"journal", &mut journal);
     hear(
         &rt,
         &mut rt.stdin(),

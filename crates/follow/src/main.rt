@@ -47,7 +47,7 @@ fn follow(
 // No more than 1,025 bytes of the rule need be read. A text at the opening has at most 18 bytes.
 fn main(rt: HostRuntime) -> io::Result<()> {
     let mut rule = [0u8; 1025];
-    let rule_length = read_file(&rt, "rule", &mut rule);
+    let rule_length = read_file(&rt, b"rule", &mut rule);
     let mut image = [0u64; 4834];
     let mut text = [0u8; 18];
     let opened = open(&rule[..rule_length], &mut image, &mut text);

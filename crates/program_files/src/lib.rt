@@ -23,11 +23,14 @@ pub fn read_full(reader: &mut impl Read, bytes: &mut [u8]) -> usize
     done
 }
 
-// The bytes of a file, as many as there is room for. "A file that can't be opened counts as empty."
-pub fn read_file(files: &impl Files, path: &str, bytes: &mut [u8]) -> usize
+// The bytes of a file, as many as there is room for. "A file that can't be opened counts as empty": nor can one here whose path is no text.
+pub fn read_file(files: &impl Files, path: &[u8], bytes: &mut [u8]) -> usize
     ensures { IsPrefixLen result bytes.new }
 {
-    match fs::open(files, path) {
+    let Ok(name) = str::from_utf8(path) else {
+        return 0;
+    };
+    match fs::open(files, name) {
         Ok(mut file) => read_full(&mut file, bytes),
         Err(_) => 0,
     }

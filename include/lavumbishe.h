@@ -10,7 +10,7 @@
  *         ...                                               refused: image is as it was; with 2 lavumbishe_place(built) says where
  *     size_t image_len = lavumbishe_count(built);           lend exactly these words to the others
  *
- * examples/watch.c is a whole program. 'rt staticlib panel' makes the library, target/staticlib/libpanel.a.
+ * examples/watch.c is a whole program. 'rt lib' in crates/panel makes the library, out/libpanel.a there.
  *
  * Processor: the library is for x86-64 and the calls of C on Linux, and for nothing else at this time. On another processor that runs Linux a program
  * linked with it runs under an emulator such as qemu-user, as our own tests do there (tests/link); what is promised then rests on the emulator too.

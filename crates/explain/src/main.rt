@@ -12,9 +12,10 @@ use crate::reading::{Numbered, Reading, read_line, read_record};
 use crate::record::{put_record, put_unreadable};
 use answers::{Answer, Judged, Proposed};
 use check::same;
-use libc::{STDIN_FILENO, STDOUT_FILENO};
-use program_files::read_file;
+use program_files::{read_file, read_full};
 use program_lines::{put_line, put_refusal};
+use std::io;
+use std::io::Read;
 use watcher::{build, check_spelling, propose_spelling};
 
 // The record for a place: our own proposal, or why there is none.
@@ -118,24 +119,29 @@ fn answer(rule: &[u8], journal: &[u8], request: &[u8], text: &mut [u8]) -> usize
 }
 
 // A record has at most 2,162,687 bytes: two lines of at most 32 bytes together, and 65,535 of at most 33.
-fn reply(rule: &[u8], journal: &[u8], request: &[u8]) {
+fn reply(rt: &impl Print, rule: &[u8], journal: &[u8], request: &[u8]) -> io::Result<()> {
     let mut text = [0u8; 2162687];
     let length = answer(rule, journal, request, &mut text);
-    io::write_all(STDOUT_FILENO, &text[..length]);
+    rt.write_all(&text[..length])
 }
 
 // One byte more than a record has is read, so a request that is cut is no record.
-fn hear(rule: &[u8], journal: &[u8]) {
+fn hear(rt: &impl Print, requests: &mut impl Read, rule: &[u8], journal: &[u8]) -> io::Result<()> {
     let mut request = [0u8; 2162688];
-    let length = io::read_full(STDIN_FILENO, &mut request);
-    reply(rule, journal, &request[..length]);
+    let length = read_full(requests, &mut request);
+    reply(rt, rule, journal, &request[..length])
 }
 
 // Of rule and journal as much is read as the desk program reads.
-fn main() {
+fn main(rt: HostRuntime) -> io::Result<()> {
     let mut rule = [0u8; 1025];
-    let rule_length = read_file(b"rule", &mut rule);
+    let rule_length = read_file(&rt, b"rule", &mut rule);
     let mut journal = [0u8; 65536];
-    let journal_length = read_file(b"journal", &mut journal);
-    hear(&rule[..rule_length], &journal[..journal_length]);
+    let journal_length = read_file(&rt, b"journal", &mut journal);
+    hear(
+        &rt,
+        &mut rt.stdin(),
+        &rule[..rule_length],
+        &journal[..journal_length],
+    )
 }

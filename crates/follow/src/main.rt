@@ -6,34 +6,38 @@
 ghost use Rattle.io.specs.Counts.{IsPrefixLen};
 
 use follow_report::{Watching, close, hear, open};
-use libc::{STDIN_FILENO, STDOUT_FILENO};
 use program_files::read_file;
+use std::io;
+use std::io::Read;
 
 // The bytes of one read, as many as there are by now: at the end of the journal, or where it can't be read, none.
-fn read_some(bytes: &mut [u8; 4096]) -> usize
+fn read_some(journal: &mut impl Read, bytes: &mut [u8; 4096]) -> usize
     ensures { IsPrefixLen result bytes.new }
 {
-    let got = libc::read(STDIN_FILENO, bytes);
-    io::count(got, bytes)
+    journal.read(bytes).unwrap_or(0)
 }
 
 // Stretch after stretch to the end of the journal, or to a refusal, or until nobody takes what is written. A text has at most 45,056 bytes.
-fn follow(image: &[u64], first: Watching) {
+fn follow(
+    rt: &impl Print,
+    journal: &mut impl Read,
+    image: &[u64],
+    first: Watching,
+) -> io::Result<()> {
     let mut watching = first;
     let mut stretch = [0u8; 4096];
     let mut text = [0u8; 45056];
     loop {
-        let count = read_some(&mut stretch);
+        let count = read_some(journal, &mut stretch);
         if count == 0 {
             let length = close(watching, &mut text);
-            io::write_all(STDOUT_FILENO, &text[..length]);
-            return;
+            return rt.write_all(&text[..length]);
         }
         let said = hear(image, watching, &stretch[..count], &mut text);
         let length = said.length;
-        let written = io::write_all(STDOUT_FILENO, &text[..length]);
-        if !written || !said.on {
-            return;
+        rt.write_all(&text[..length])?;
+        if !said.on {
+            return Ok(());
         }
         let next = said.watching;
         watching = next;
@@ -41,17 +45,18 @@ fn follow(image: &[u64], first: Watching) {
 }
 
 // No more than 1,025 bytes of the rule need be read. A text at the opening has at most 18 bytes.
-fn main() {
+fn main(rt: HostRuntime) -> io::Result<()> {
     let mut rule = [0u8; 1025];
-    let rule_length = read_file(b"rule", &mut rule);
+    let rule_length = read_file(&rt, b"rule", &mut rule);
     let mut image = [0u64; 4834];
     let mut text = [0u8; 18];
     let opened = open(&rule[..rule_length], &mut image, &mut text);
     let said = opened.said;
     let length = said.length;
-    let written = io::write_all(STDOUT_FILENO, &text[..length]);
-    if written && said.on {
-        let words = opened.words;
-        follow(&image[..words], said.watching);
+    rt.write_all(&text[..length])?;
+    if !said.on {
+        return Ok(());
     }
+    let words = opened.words;
+    follow(&rt, &mut rt.stdin(), &image[..words], said.watching)
 }

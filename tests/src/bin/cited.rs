@@ -1,5 +1,5 @@
 //! What the documents cite, against the repository: paths, our own names in backticks, must-fail edits, links with their anchors, and the lines of the
-//! files that are believed; and that README's map has every crate. docs/landings/ is left out: those notes say how things stood. Usage: cited, from the
+//! files that are believed; and that README's map has every crate. docs/landings/ and docs/PORT*.md are left out: those notes say how things stood. Usage: cited, from the
 //! repository's root
 
 use std::collections::HashSet;
@@ -28,13 +28,16 @@ fn is_word(c: char) -> bool {
     c.is_alphanumeric() || "_-'".contains(c)
 }
 
-/// The words of a text, `fn name` for each function, and `refused: name` for each wrong line of an edit that holds several.
+/// The words of a text, `fn name` for each function, `name :` for each theorem or definition, and `refused: name` for each wrong line of an edit that
+/// holds several.
 fn words_of(text: &str) -> HashSet<String> {
     let word = |rest: &str| rest.split(|c| !is_word(c)).next().unwrap_or("").to_string();
     let mut words: HashSet<String> = text.split(|c| !is_word(c)).map(|word| word.trim_matches('-').to_string()).collect();
     for mark in ["fn ", "refused: "] {
         words.extend(text.split(mark).skip(1).map(|rest| format!("{mark}{}", word(rest))));
     }
+    let stated = text.lines().filter_map(|line| line.split_once(" : ")).map(|(name, _)| name.trim_start().trim_start_matches("pub "));
+    words.extend(stated.filter(|name| name.chars().all(is_word)).map(|name| format!("{name} :")));
     words
 }
 
@@ -42,12 +45,18 @@ fn extension(name: &str) -> &str {
     name.rsplit_once('.').map_or("", |(_, end)| end)
 }
 
+/// Whether a path from the root is a folder of what is made, or git's own.
+fn is_made(path: &str) -> bool {
+    let is_out = || path.strip_prefix("crates/").and_then(|inside| inside.split_once('/')).is_some_and(|(_, folder)| folder == "out");
+    ["target", ".git", "tests/target"].contains(&path) || is_out()
+}
+
 /// The files below a folder but for what is made and git's own.
 fn files(folder: &Path, out: &mut Vec<File>) {
     for entry in fs::read_dir(folder).expect("a folder").map(|entry| entry.expect("an entry").path()) {
         let path = entry.to_str().expect("a name").trim_start_matches("./").to_string();
         if entry.is_dir() {
-            if !["target", ".git", "tests/target"].contains(&path.as_str()) {
+            if !is_made(&path) {
                 files(&entry, out);
             }
         } else {
@@ -149,13 +158,14 @@ impl Citations {
         self.note(EDITS, found, place, &format!("no edit {name} of {}", of.join(" or ")));
     }
 
-    /// A function of one of these crates, or of the one that it names itself.
-    fn function(&mut self, place: &str, section: &[&str], name: &str) {
+    /// A function or a theorem of one of these crates, or of the one that it names itself.
+    fn promise(&mut self, place: &str, section: &[&str], name: &str) {
         let own = name.split("::").next().filter(|first| is_crate(first)).map(|first| vec![first]);
         let of = own.as_deref().unwrap_or(section);
-        let last = format!("fn {}", name.rsplit("::").next().unwrap_or(name));
-        let found = of.iter().any(|of| self.meant(&format!("crates/{of}/src")).iter().any(|file| file.words.contains(&last)));
-        self.note(NAMES, found, place, &format!("no function {name} in {}", of.join(" or ")));
+        let last = name.rsplit("::").next().unwrap_or(name);
+        let stands = |of: &str, part: &str, words: &str| self.meant(&format!("crates/{of}/{part}")).iter().any(|file| file.words.contains(words));
+        let found = of.iter().any(|of| stands(of, "src", &format!("fn {last}")) || stands(of, "proofs", &format!("{last} :")));
+        self.note(NAMES, found, place, &format!("no function or theorem {name} in {}", of.join(" or ")));
     }
 }
 
@@ -226,8 +236,12 @@ fn check_paths(all: &mut Citations, place: &str, line: &str) {
     }
 }
 
+/// The names of a line; the first of "`a` → `b`" is one that was.
 fn check_names(all: &mut Citations, place: &str, line: &str) {
-    for (_, _, text) in quoted(line) {
+    for (_, end, text) in quoted(line) {
+        if line[end..].starts_with(" → `") {
+            continue;
+        }
         if is_name(text) {
             all.name(place, text);
         } else if SOURCES.iter().chain(&OTHERS).any(|end| extension(text) == *end) && text.chars().all(|c| is_word(c) || c == '.') {
@@ -268,7 +282,7 @@ fn cells(line: &str) -> Vec<String> {
     hidden.trim().trim_matches('|').split('|').map(|cell| cell.trim().replace('\u{1}', "\\|")).collect()
 }
 
-/// The tables of a document: edits and functions by the headings of their columns, and lines of the files that are believed.
+/// The tables of a document: edits, functions and theorems by the headings of their columns, and lines of the files that are believed.
 fn check_tables(all: &mut Citations, document: &str, text: &str) {
     let mut headings: Vec<String> = Vec::new();
     let mut section: Vec<&str> = Vec::new();
@@ -292,8 +306,8 @@ fn check_tables(all: &mut Citations, document: &str, text: &str) {
                 "must-fail edit" | "edits that show it" if !cell.contains("those ") => check_edits(all, &place, cell, &section),
                 "contract" if cell.starts_with('`') => {
                     let (_, _, name) = quoted(cell)[0];
-                    if is_name(name) && !name.contains('-') {
-                        all.function(&place, &section, name);
+                    if is_name(name) {
+                        all.promise(&place, &section, name);
                     }
                 }
                 _ => (),
@@ -370,7 +384,7 @@ fn main() {
     check_map(&mut all);
     let mut documents: Vec<String> = ["README.md", "tests/README.md", "vectors/README.md", "include/lavumbishe.h"].map(String::from).to_vec();
     let docs = fs::read_dir("docs").expect("docs").map(|entry| entry.expect("an entry").path());
-    documents.extend(docs.filter(|path| path.is_file()).map(|path| path.to_str().expect("a name").to_string()));
+    documents.extend(docs.filter(|path| path.is_file()).map(|path| path.to_str().expect("a name").to_string()).filter(|path| !path.starts_with("docs/PORT")));
     documents.sort();
     for document in &documents {
         // What is in backticks in these is mostly rules and texts.

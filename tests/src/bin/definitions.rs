@@ -35,63 +35,63 @@ const BEFORE: u64 = 7;
 
 const HEAD: &str = "\
 -- The outside vectors, computed from the definitions.
-use mathlib.Core.Path.{_≡_, refl}
-use mathlib.Core.Bool.{Bool, true, false, _&&_}
-use mathlib.Core.List.{List, [], _∷_, _++_}
+use mathlib.Core.Path.{◌≡◌, refl}
+use mathlib.Core.Bool.{Bool, true, false, ◌&&◌}
+use mathlib.Core.List.{List, [], ◌∷◌, ◌++◌}
 use Prim.Native.Nat.{ℕ}
 use lib.Dec.{eqb}
 use lib.ListN.{replicate}
-use Rattle·model.specs.Models.Verdict.{sameWords}
+use Rattle.model.specs.Models.Verdict.{same_words}
 ";
 
 const EXPAND: &str = "
 abbrev expand : List (ℕ × ℕ) → List ℕ
 expand [] = []
-expand (r ∷ rs) = replicate (r .0) (r .1) ++ expand rs
+expand (r ∷ rs) = replicate r.0 r.1 ++ expand rs
 ";
 
 const ANSWERS: [&str; 2] = [
     "\
-use Rattle·model.specs.Answers.{Counted}
-use Rattle·model.proofs.Answers.Build.{buildAnswer}
-use Rattle·model.proofs.Answers.ReadBack.{readBackAnswer}
-use Rattle·model.proofs.Answers.Match.{matchAnswer}
+use Rattle.model.specs.Answers.{Counted}
+use Rattle.model.proofs.Answers.Build.{build_answer}
+use Rattle.model.proofs.Answers.ReadBack.{read_back_answer}
+use Rattle.model.proofs.Answers.Match.{match_answer}
 ",
     "
 abbrev is : Counted → ℕ → ℕ → ℕ → List (ℕ × ℕ) → Bool
-is a number place count lent = eqb (a .number) number && (eqb (a .place) place && (eqb (a .given) count && sameWords (a .lent) (expand lent)))
+is a number place count lent = eqb a.number number && (eqb a.place place && (eqb a.given count && same_words a.lent (expand lent)))
 ",
 ];
 
 const WATCHES: [&str; 2] = [
     "\
-use Rattle·model.specs.Watch.{Watched}
-use Rattle·model.proofs.Watch.Answers.{beginAnswer, stepAnswer}
+use Rattle.model.specs.Watch.{Watched}
+use Rattle.model.proofs.Watch.Answers.{begin_answer, step_answer}
 ",
     "
 abbrev counts : Watched → ℕ → ℕ → Bool
-counts a number count = eqb (a .number) number && eqb (a .given) count
+counts a number count = eqb a.number number && eqb a.given count
 
 abbrev is : Watched → ℕ → ℕ → List (ℕ × ℕ) → ℕ → List (ℕ × ℕ) → Bool
-is a number count mask place ends = counts a number count && (sameWords (a .lent .mask) (expand mask) && (eqb (a .lent .place) place && sameWords (a .lent .ends) (expand ends)))
+is a number count mask place ends = counts a number count && (same_words a.lent.mask (expand mask) && (eqb a.lent.place place && same_words a.lent.ends (expand ends)))
 ",
 ];
 
 const SPELLINGS: [&str; 2] = [
     "\
 use mathlib.Core.Bool.{cond}
-use Rattle·model.specs.Spelling.{Judgement, Proposal}
-use Rattle·model.proofs.Spelling.Answers.{checkAnswer, proposeAnswer}
+use Rattle.model.specs.Spelling.{Judgement, Proposal}
+use Rattle.model.proofs.Spelling.Answers.{check_answer, propose_answer}
 ",
     "
 abbrev check : Judgement → ℕ × ℕ
-check a = (a .number, cond (a .given) 1 0)
+check a = (a.number, cond a.given 1 0)
 
 abbrev propose : Proposal → ℕ × ℕ
-propose a = (a .number, a .given .count)
+propose a = (a.number, a.given.count)
 
 abbrev is : ℕ × ℕ → ℕ → ℕ → Bool
-is a number count = eqb (a .0) number && eqb (a .1) count
+is a number count = eqb a.0 number && eqb a.1 count
 ",
 ];
 
@@ -207,7 +207,7 @@ fn answer(number: &str, place: &str, count: &str, after: &Runs) -> String {
 }
 
 fn build_call(rule: &[u8], room: usize) -> String {
-    format!("buildAnswer {} {}", numbers(rule.iter().map(|b| u64::from(*b))), before(room))
+    format!("build_answer {} {}", numbers(rule.iter().map(|b| u64::from(*b))), before(room))
 }
 
 /// Builds; and of the lines of places those of short rules that are refused with 2, each rule once, and with no room at all, since 2 comes before 5.
@@ -242,12 +242,12 @@ fn answers(folder: &Path) -> Theorems {
             t.left_out += 1;
             continue;
         }
-        let call = format!("readBackAnswer (expand {}) {}", list(&image), before(room));
+        let call = format!("read_back_answer (expand {}) {}", list(&image), before(room));
         t.add(&place, call, answer(&v[2], "0", &v[3], &lent(singles(bytes(&v[4]).into_iter().map(u64::from)), room)));
     }
     let small = old_images(folder).into_iter().filter(|(_, image)| word(image, 1) <= IMAGE_STATES);
     for (place, image) in small.take(SIX_SECTIONS) {
-        t.add(&place, format!("readBackAnswer (expand {}) {}", list(&image), before(9)), answer("6", "0", "0", &lent(Runs::new(), 9)));
+        t.add(&place, format!("read_back_answer (expand {}) {}", list(&image), before(9)), answer("6", "0", "0", &lent(Runs::new(), 9)));
     }
     for (place, v) in vectors(folder, "match") {
         let (image, text, room) = (runs(&v[0]), bytes(&v[1]), v[2].parse::<usize>().unwrap());
@@ -255,7 +255,7 @@ fn answers(folder: &Path) -> Theorems {
             t.left_out += 1;
             continue;
         }
-        let call = format!("matchAnswer (expand {}) {} {}", list(&image), numbers(text.iter().map(|b| u64::from(*b))), before(room));
+        let call = format!("match_answer (expand {}) {} {}", list(&image), numbers(text.iter().map(|b| u64::from(*b))), before(room));
         t.add(&place, call, answer(&v[3], "0", &v[4], &lent(singles(places(&v[5]).into_iter()), room)));
     }
     t
@@ -278,10 +278,10 @@ fn watched(folder: &Path) -> Theorems {
             alike.push(place.clone());
             let (words, mask, at, ends_before) = (list(&image), numbers(given.mask.into_iter()), given.place, before(room));
             let call = match stretch {
-                None => format!("beginAnswer (expand {words}) {mask} {at} {ends_before}"),
+                None => format!("begin_answer (expand {words}) {mask} {at} {ends_before}"),
                 Some(bytes) => {
                     let stretch = numbers(bytes.into_iter().map(u64::from));
-                    format!("stepAnswer (expand {words}) {mask} {at} {stretch} {ends_before}")
+                    format!("step_answer (expand {words}) {mask} {at} {stretch} {ends_before}")
                 }
             };
             let (mask, ends) = (list(&singles(after.mask.into_iter())), list(&lent(singles(ends.into_iter().map(u64::from)), room)));
@@ -304,7 +304,7 @@ fn spelled(folder: &Path) -> Theorems {
         }
         *alike += 1;
         let text = numbers(text.into_iter().map(u64::from));
-        t.add(place, format!("{kind} ({kind}Answer (expand {}) {text} {given})", list(&image)), format!("{number} {count}"));
+        t.add(place, format!("{kind} ({kind}_answer (expand {}) {text} {given})", list(&image)), format!("{number} {count}"));
     };
     for c in checks(folder) {
         let given = format!("{} {} {}", c.proposal.start, c.proposal.end, numbers(c.proposal.states.into_iter().map(u64::from)));

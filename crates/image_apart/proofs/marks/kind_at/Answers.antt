@@ -12,7 +12,6 @@ use Rattle.image_apart.specs.declared.marks.Marks.{Marks}
 use Rattle.image_apart.proofs.marks.kind_at.Goals as goal
 
 -- ---- the tests, at the code's i + 1
--- HAND
 module _ (marks : Marks) (i : ℕ) where
   abbrev letter : ℕ → Bool
   letter n = bit (value marks.letters) n

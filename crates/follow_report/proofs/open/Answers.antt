@@ -1,0 +1,23 @@
+-- Build's answer is a refusal, whose line is the text, or done, and a watch begins with the image.
+use Rattle.follow_report.proofs.Laws.Stages.{build_refused, image_first, image_goes_on}
+use Rattle.follow_report.proofs.open.Goals as goal
+
+pub slice_bounds-start-end : goal.slice_bounds-start-end
+slice_bounds-start-end c =
+    let b = c.build-built in
+    (image_first b.result b.new.image b.ensures c.in-Done.is b.auto.image).fits
+
+pub slice_bounds-start-end-in-Done : goal.slice_bounds-start-end-in-Done
+slice_bounds-start-end-in-Done c =
+    let b = c.build-built in
+    (image_first b.result b.new.image b.ensures c.in-Done.is b.auto.image).counted
+
+pub returns-in-Refused : goal.returns-in-Refused
+returns-in-Refused c =
+    let b = c.build-built in
+    build_refused b.result b.new.image b.ensures c.in-Refused.is c.stop-said.ensures
+
+pub returns-in-Done : goal.returns-in-Done
+returns-in-Done c =
+    let b = c.build-built in
+    image_goes_on b.result b.new.image b.ensures c.in-Done.is c.start-said.result c.start-said.ensures

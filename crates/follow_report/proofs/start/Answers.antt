@@ -1,0 +1,18 @@
+-- Begin's answer is a refusal, whose line is the text, or done, and the lines of what it found are.
+use Rattle.std.proofs.Common.{drop, replicate, refl, arith}
+use Rattle.follow_report.proofs.Laws.Stages.{begin_goes, begin_refused, wide}
+use Rattle.follow_report.proofs.start.Goals as goal
+
+pub slice_bounds-begin-end : goal.slice_bounds-begin-end
+slice_bounds-begin-end c = (wide c.args.image.now (replicate 8 0) c.mask_words-width.ensures refl).counted
+
+pub returns-in-Refused : goal.returns-in-Refused
+returns-in-Refused c =
+    let b = c.begin-begun in
+    begin_refused c.args.image.now c.mask_words-width.ensures b.result b.new.mask b.new.place b.new.ends b.ensures c.in-Refused.is c.stop.ensures
+
+pub returns-in-Done : goal.returns-in-Done
+returns-in-Done c =
+    let b = c.begin-begun in
+    begin_goes c.args.image.now c.mask_words-width.ensures b.result b.new.mask b.new.place b.new.ends b.ensures
+    (drop c.mask_words-width.result (replicate 8 0)) c.in-Done.is c.go_on.ensures (omega arith) b.auto.mask

@@ -56,8 +56,9 @@ fn propose(
     let count = sections.states;
     let last = count - 1;
     let masks = work(image, sections);
-    let origins = find_origins(image, sections, &masks, count);
     let none = [0u64; 8];
+    let mut origins = [none; 512];
+    find_origins(image, sections, &masks, count, &mut origins);
     let mut kept = [none; 256];
     let found = find_start(image, sections, text, end, last, &origins, &mut kept);
     let Found::At(start) = found else {

@@ -29,20 +29,26 @@ fn note(origins: &mut Origins, q: usize, reached: [u64; 8], count: usize)
     }
 }
 
-pub fn find_origins(image: &[u64], sections: Sections, masks: &Work, count: usize) -> Origins
+// Into lent rows, whatever they hold: as a result they would be copied twice, which takes 64 KB of stack.
+pub fn find_origins(
+    image: &[u64],
+    sections: Sections,
+    masks: &Work,
+    count: usize,
+    origins: &mut Origins,
+)
     requires { Placed image.now sections × WorkOf image.now masks.now × (count ≤ 512) }
-    ensures { OriginsSays image.now count result }
+    ensures { OriginsSays image.now count origins.new }
 {
     let none = [0u64; 8];
-    let mut r = [none; 512];
+    *origins = [none; 512];
     let mut q = 0;
     while q < count {
         let from = reach(image, sections, masks, q);
         let reached = from.words;
-        note(&mut r, q, reached, count);
+        note(origins, q, reached, count);
         q += 1;
     }
-    r
 }
 
 // To the states of r the origins of those of one word of a row, whose first state is `at`.

@@ -12,37 +12,37 @@ overflow_sub-last c = let P = c.requires.placed in omega (arith, own_states P, P
 pub work-masks-requires : goal.work-masks-requires
 work-masks-requires c = c.requires.placed
 
-pub find_origins-origins-requires : goal.find_origins-origins-requires
-find_origins-origins-requires c = let P = c.requires.placed in (P, c.work-masks.ensures, omega (arith, own_states P, P.few))
+pub find_origins-requires : goal.find_origins-requires
+find_origins-requires c = let P = c.requires.placed in (P, c.work-masks.ensures, omega (arith, own_states P, P.few))
 
 pub find_start-found-requires : goal.find_start-found-requires
 find_start-found-requires c = let A = c.requires in (A.placed, asked A, refl)
 
 pub returns-in_default : goal.returns-in_default
 returns-in_default c =
-    nowhere c.requires c.args.states.now c.find_origins-origins.ensures c.find_start-found.ensures c.in_default.is
+    nowhere c.requires c.args.states.now c.find_origins.ensures c.find_start-found.ensures c.in_default.is
 
 pub overflow_sub-end : goal.overflow_sub-end
 overflow_sub-end c =
-    let before-end : c.in-At.start ≤ c.args.end = ordered c.requires c.args.states.now c.find_origins-origins.ensures c.find_start-found.ensures c.in-At.is in
+    let before-end : c.in-At.start ≤ c.args.end = ordered c.requires c.args.states.now c.find_origins.ensures c.find_start-found.ensures c.in-At.is in
     before-end
 
 pub returns-then-states-end : goal.returns-then-states-end
 returns-then-states-end c =
-    too_short c.requires c.args.states.now c.find_origins-origins.ensures c.find_start-found.ensures c.in-At.is c.if-states-end.true
+    too_short c.requires c.args.states.now c.find_origins.ensures c.find_start-found.ensures c.in-At.is c.if-states-end.true
 
 pub write-requires : goal.write-requires
 write-requires c =
-    let before-end : c.in-At.start ≤ c.args.end = ordered c.requires c.args.states.now c.find_origins-origins.ensures c.find_start-found.ensures c.in-At.is in
+    let before-end : c.in-At.start ≤ c.args.end = ordered c.requires c.args.states.now c.find_origins.ensures c.find_start-found.ensures c.in-At.is in
     let A = c.requires in
     (A.placed, c.work-masks.ensures, record { asked = asked A; ordered = before-end; room = c.if-states-end.false })
 
 pub overflow_sub-result : goal.overflow_sub-result
 overflow_sub-result c =
-    let before-end : c.in-At.start ≤ c.args.end = ordered c.requires c.args.states.now c.find_origins-origins.ensures c.find_start-found.ensures c.in-At.is in
+    let before-end : c.in-At.start ≤ c.args.end = ordered c.requires c.args.states.now c.find_origins.ensures c.find_start-found.ensures c.in-At.is in
     before-end
 
 pub returns : goal.returns
 returns c =
-    written c.requires c.args.states.now c.find_origins-origins.ensures c.find_start-found.ensures c.in-At.is c.if-states-end.false
+    written c.requires c.args.states.now c.find_origins.ensures c.find_start-found.ensures c.in-At.is c.if-states-end.false
     c.write.ensures

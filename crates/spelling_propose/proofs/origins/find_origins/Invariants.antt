@@ -4,7 +4,7 @@ use Rattle.spelling_propose.proofs.Laws.Origins.{Found}
 use Rattle.spelling_propose.proofs.origins.find_origins.Given as goal
 
 abbrev pub invariant-loop-q : goal.invariant-loop-q
-invariant-loop-q l = (l.q ≤ l.count) × Found l.image l.count l.q l.r
+invariant-loop-q l = (l.q ≤ l.count) × Found l.image l.count l.q l.origins
 
 abbrev pub decreases-loop-q : goal.decreases-loop-q
 decreases-loop-q l = l.count - l.q

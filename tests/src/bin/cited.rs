@@ -1,6 +1,6 @@
 //! What the documents cite, against the repository: paths, our own names in backticks, must-fail edits, links with their anchors, and the lines of the
-//! files that are believed; and that README's map has every crate. docs/landings/ and docs/PORT*.md are left out: those notes say how things stood. Usage: cited, from the
-//! repository's root
+//! files that are believed; and that README's map has every crate. docs/landings/ and docs/PORT*.md are left out: those notes say how things stood.
+//! Usage: cited, from the repository's root
 
 use std::collections::HashSet;
 use std::fs;
@@ -236,12 +236,8 @@ fn check_paths(all: &mut Citations, place: &str, line: &str) {
     }
 }
 
-/// The names of a line; the first of "`a` → `b`" is one that was.
 fn check_names(all: &mut Citations, place: &str, line: &str) {
-    for (_, end, text) in quoted(line) {
-        if line[end..].starts_with(" → `") {
-            continue;
-        }
+    for (_, _, text) in quoted(line) {
         if is_name(text) {
             all.name(place, text);
         } else if SOURCES.iter().chain(&OTHERS).any(|end| extension(text) == *end) && text.chars().all(|c| is_word(c) || c == '.') {
@@ -384,7 +380,8 @@ fn main() {
     check_map(&mut all);
     let mut documents: Vec<String> = ["README.md", "tests/README.md", "vectors/README.md", "include/lavumbishe.h"].map(String::from).to_vec();
     let docs = fs::read_dir("docs").expect("docs").map(|entry| entry.expect("an entry").path());
-    documents.extend(docs.filter(|path| path.is_file()).map(|path| path.to_str().expect("a name").to_string()).filter(|path| !path.starts_with("docs/PORT")));
+    let cited = docs.filter(|path| path.is_file()).map(|path| path.to_str().expect("a name").to_string());
+    documents.extend(cited.filter(|path| !path.starts_with("docs/PORT")));
     documents.sort();
     for document in &documents {
         // What is in backticks in these is mostly rules and texts.

@@ -13,8 +13,7 @@
  * examples/watch.c is a whole program. 'rt lib' in crates/panel makes the library, out/libpanel.a there.
  *
  * Processor: the library is for x86-64 and the calls of C on Linux, and for nothing else at this time. On another processor that runs Linux a program
- * linked with it runs under an emulator such as qemu-user, as our own tests do there (tests/link); what is promised then rests on the emulator too.
- * Where there is no emulator it can't be run yet.
+ * linked with it may run under an emulator such as qemu-user. No test of ours does so, and what is promised then rests on the emulator too.
  *
  * The result holds two numbers: the number of the table below times 2^32, and in the low half a count below 2^32, or with number 2 the place at
  * which the rule went wrong. Take them apart with lavumbishe_number, lavumbishe_count and lavumbishe_place. The checks run in the table's order, and

@@ -34,7 +34,7 @@ struct area {
 
 static void *place_of(struct area area, long place) { return (char *)area.at + area.size * place; }
 
-// One element, by copies of constant length: the emulator is slow.
+// One element, by copies of constant length.
 static uint64_t get(struct area area, long place) {
     uint8_t byte;
     uint32_t end;

@@ -37,7 +37,6 @@ pub record Taped (row : List ℕ) (n : ℕ) (tape : Tape) (laid : OnTape) : Type
   pub room : length tape.kinds ≡ 512
   pub says : OnTapeSays tape laid
 
--- f is how a kind lies in memory
 pub taped : (row : List ℕ) (tape : Tape) {n : ℕ} {laid : OnTape} → tape.length ≡ n → KindsAre row tape.kinds
     → length tape.kinds ≡ 512 → OnTapeSays tape laid → Taped row n tape laid
 taped row tape l k e S = record { long = l; kinds = k; room = e; says = S }

@@ -32,8 +32,8 @@
  * No heap and no variable data outside the stack is used, so calls from several threads or from an interrupt are safe as long as none writes an
  * area that another reads or writes. Every call ends: the work is bounded by the lengths that are given.
  *
- * What a call costs, in instructions on x86-64. These are counts of calls that were made, and no promise: docs/SPEED.md has them with the rules and
- * texts, and says how they were counted (by callgrind).
+ * What a call costs, in instructions on x86-64. These are counts of calls that were made, with an earlier compiler than today's, and no promise:
+ * docs/SPEED.md has them with the rules and texts, and says how they were counted (by callgrind).
  *  - Every call but build checks its image: 7,300 to 16,700 for 525 words (4,200 bytes), at most 143,800 for 4,834 (38,672 bytes), the dearest images
  *    that were found ("The check alone").
  *  - Match and step, for each byte besides: 22 for the smallest rules to 2,526 for 500 states eight deep; with repeated groups, where cycles go round

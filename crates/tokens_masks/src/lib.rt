@@ -35,10 +35,8 @@ fn deeper(deepest: usize, depth: usize, token: Token) -> usize
     ensures { result ≡ deeper_by deepest depth (token_of token) }
 {
     match token {
-        Token::Letter(_) => deepest,
         Token::Open => deepest.max(depth + 1),
-        Token::Bar => deepest,
-        Token::Close(_) => deepest,
+        _ => deepest,
     }
 }
 
@@ -111,11 +109,8 @@ pub fn row_of(masks: &[u64], depth: usize, plane: usize) -> [u64; 8]
     requires { (depth < 9) × (plane < planes) × (length masks.now ≡ 936) }
     ensures { result ≡ row_in masks.now (row_number depth plane) }
 {
+    let at = place_of(depth, plane, 0);
     let mut words = [0u64; 8];
-    let mut j: usize = 0;
-    while j < 8 {
-        words[j] = masks[place_of(depth, plane, j)];
-        j += 1;
-    }
+    words.copy_from_slice(&masks[at..at + 8]);
     words
 }

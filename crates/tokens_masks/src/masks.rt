@@ -1,19 +1,8 @@
 // Masks in a row of words, eight for each: state i is bit i mod 64 of word i/64. For each of nine depths there is one of each plane (`plane`).
-ghost use Rattle.std.specs.Prelude.{◌≡◌, cond, suc, ◌+◌, ◌≤◌, ◌<◌, length, replicate};
+ghost use Rattle.std.specs.Prelude.{◌≡◌, cond, suc, ◌+◌, ◌≤◌, ◌<◌, length};
 ghost use Rattle.tokens_masks.specs.Masks.{edge_in, Joined, planes, run_in};
 
 use crate::plane::{PROPAGATE_BLOCK, place_of};
-
-// No state in any mask.
-pub fn blank(masks: &mut [u64])
-    ensures { masks.new ≡ replicate (length masks.old) 0 }
-{
-    let mut i: usize = 0;
-    while i < masks.len() {
-        masks[i] = 0;
-        i += 1;
-    }
-}
 
 // One more state in the mask of a plane and a depth.
 pub fn mark(masks: &mut [u64], plane: usize, depth: usize, state: usize)

@@ -4,6 +4,7 @@ use mathlib.Core.Path.{refl, sym, ap, ◌∙◌, subst}
 use native.Mathlib.Omega.{arith}
 use lib.Dec.{T}
 use mathlib.Core.List.{List}
+use Rattle.std.specs.Prelude.{None, Some}
 use Rattle.tokens.specs.declared.Frame.{Frame}
 use lib.ListN.{replicate, get_or}
 use Rattle.model.specs.Models.LayOut.{begin, reach}
@@ -11,14 +12,13 @@ use Rattle.tokens.specs.Scans.{no_frame, ReadyAt}
 use Rattle.tokens_masks.proofs.Along.{too_long}
 use Rattle.tokens_masks.proofs.Scanning.{scanning_begin, scanning_depth, scanning_misfit, scanning_other, scanning_ready, scanning_step, scanning_tree, top_here}
 use Rattle.tokens_masks.specs.Tapes.{tokens_of}
-use Rattle.tokens_masks.specs.declared.OnTape.TheVariants.{Other, Tree}
 use Rattle.tokens_masks.proofs.scan_tape.Goals as goal
 
 pub returns-then-length-gt511 : goal.returns-then-length-gt511
 returns-then-length-gt511 c =
     let t = c.args.tape in
     let no = too_long t c.if-length-gt511.true in record {
-      told = sym (ap (λ (b : Bool). cond b (Tree (reach (tokens_of t) begin)) Other) no);
+      told = sym (ap (λ (b : Bool). cond b (Some (reach (tokens_of t) begin)) None) no);
       masks = record { long = c.requires.long; held = λ z w. absurd (subst T no z) };
     }
 

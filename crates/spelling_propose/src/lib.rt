@@ -16,7 +16,7 @@ ghost use Rattle.answers.specs.Answers.{proposal};
 ghost use Rattle.spelling_propose.specs.Work.{ProposeAsks};
 
 use crate::origins::find_origins;
-use crate::search::{Found, find_start};
+use crate::search::find_start;
 use crate::write::write;
 use answers::{Proposed, Refusal};
 use image_check::{Verdict, check};
@@ -61,7 +61,7 @@ fn propose(
     find_origins(image, sections, &masks, count, &mut origins);
     let mut kept = [none; 256];
     let found = find_start(image, sections, text, end, last, &origins, &mut kept);
-    let Found::At(start) = found else {
+    let Some(start) = found else {
         return Proposed::Refused(Refusal::NotAnEnd);
     };
     if states.len() < end - start {

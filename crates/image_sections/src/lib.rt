@@ -3,12 +3,14 @@
 
 #![tactic(auto)]
 
+mod image;
 mod reader;
 
 ghost use Rattle.std.specs.Prelude.{◌≡◌, ◌≤◌};
 ghost use Rattle.model.specs.Models.Sections.{letter_place, repeat_place};
 ghost use Rattle.image_sections.specs.Sections.{sections_of};
 
+pub use image::Image;
 pub use reader::{mask_words, read_header};
 
 // The states, the words to a mask and the depth; of each section the place of its first mask, one word after its count; and how many words there are.

@@ -8,4 +8,3 @@ use Rattle.tokens_masks.proofs.masks.mark_run.Given as goal
 abbrev pub invariant-loop-state : goal.invariant-loop-state
 invariant-loop-state l =
     (length l.masks ≡ length l.initial.masks) × (run_row (l.to - l.state) l.masks (row_number l.depth l.plane) l.state ≡ run_row (l.to - l.initial.state) l.initial.masks (row_number l.depth l.plane) l.initial.state)
-

@@ -35,10 +35,8 @@ fn deeper(deepest: usize, depth: usize, token: Token) -> usize
     ensures { result ≡ deeper_by deepest depth (token_of token) }
 {
     match token {
-        Token::Letter(_) => deepest,
         Token::Open => deepest.max(depth + 1),
-        Token::Bar => deepest,
-        Token::Close(_) => deepest,
+        _ => deepest,
     }
 }
 
@@ -48,33 +46,23 @@ fn scan_tape(tape: Tape, masks: &mut [u64]) -> Option<usize>
     ensures told { result ≡ on_tape tape }
     ensures masks { ScanLays tape masks.new }
 {
-    let kinds = tape.kinds;
-    let length = tape.length;
-    if length > 511 {
+    if tape.length > 511 {
         return None;
     }
-    let none = no_frame();
-    let mut frames = [none; 9];
+    let mut frames = [no_frame(); 9];
     let mut scan = begin_scan();
     let mut deepest: usize = 0;
-    let mut i: usize = 0;
-    while i < length {
-        let token = read_kind(kinds[i]);
-        let top = innermost(scan.depth);
-        let frame = frames[top];
+    for kind in &tape.kinds[..tape.length] {
+        let token = read_kind(*kind);
+        let frame = frames[innermost(scan.depth)];
         if !fits(scan, frame, token) {
             return None;
         }
         mark_token(masks, scan, frame, token);
-        let d = deeper(deepest, scan.depth, token);
-        deepest = d;
+        deepest = deeper(deepest, scan.depth, token);
         let next = step_over(scan, frame, token);
-        let stored = next.frame;
-        let place = next.place;
-        frames[place] = stored;
-        let after = next.scan;
-        scan = after;
-        i += 1;
+        frames[next.place] = next.frame;
+        scan = next.scan;
     }
     if is_ended(scan) { Some(deepest) } else { None }
 }
@@ -111,11 +99,8 @@ pub fn row_of(masks: &[u64], depth: usize, plane: usize) -> [u64; 8]
     requires { (depth < 9) × (plane < planes) × (length masks.now ≡ 936) }
     ensures { result ≡ row_in masks.now (row_number depth plane) }
 {
+    let at = place_of(depth, plane, 0);
     let mut words = [0u64; 8];
-    let mut j: usize = 0;
-    while j < 8 {
-        words[j] = masks[place_of(depth, plane, j)];
-        j += 1;
-    }
+    words.copy_from_slice(&masks[at..at + 8]);
     words
 }

@@ -28,10 +28,8 @@ pub fn mark_run(masks: &mut [u64], plane: usize, depth: usize, from: usize, to: 
     requires { (to ≤ 512) × (plane < planes) × (depth < 9) × (length masks.old ≡ 936) }
     ensures { masks.new ≡ run_in masks.old plane depth from to }
 {
-    let mut state = from;
-    while state < to {
+    for state in from..to {
         mark(masks, plane, depth, state);
-        state += 1;
     }
 }
 
@@ -52,14 +50,12 @@ pub fn join_propagate(masks: &mut [u64])
     requires { length masks.old ≡ 936 }
     ensures { Joined masks.old masks.new }
 {
-    let mut n: usize = 0;
-    while n < 72 {
+    for n in 0..72 {
         let at = place_of(n / 8, PROPAGATE_BLOCK, n % 8);
         let leaving = masks[at + 8];
         let entering = masks[at + 16];
         masks[at] = leaving | entering;
         masks[at + 8] = leaving & !entering;
         masks[at + 16] = entering & !leaving;
-        n += 1;
     }
 }

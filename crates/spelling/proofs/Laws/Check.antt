@@ -1,14 +1,21 @@
--- WHETHER A PROPOSAL IS RIGHT: by the tests of places and length, and by what `follow` says.
-use mathlib.Core.Path.{◌≡◌, sym, ◌∙◌, subst}
-use mathlib.Core.Bool.{Bool, false}
+-- WHETHER A PROPOSAL IS RIGHT: by the tests of places and length, and by what `follow` says. And the rows of the check's table: the check of the image finds
+-- its tree, of which a proposal is right or is not.
+use mathlib.Core.Path.{◌≡◌, refl, sym, ◌∙◌, subst}
+use mathlib.Core.Bool.{Bool, true, false}
 use mathlib.Core.List.{List}
 use Prim.Native.Nat.{ℕ, ◌-◌, ◌≤◌, ◌<◌}
 use native.Mathlib.Omega.{arith}
 use lib.ListN.{drop, length, take}
+use Rattle.std.specs.Prelude.{Err, None, Ok, Option, Some}
 use Rattle.model.specs.Edges.{states}
 use Rattle.model.specs.Models.Sections.{state_word}
-use Rattle.model.specs.Spelling.{Follow}
+use Rattle.model.specs.Spelling.{CheckSays, Follow, not_an_image, right, text_too_long, wrong}
+use Rattle.answers.specs.Answers.{judgement}
+use Rattle.answers.specs.declared.Refusal.TheVariants.{NotAnImage, TextTooLong}
 use Rattle.image_sections.proofs.Laws.OfTree.{states_is}
+use Rattle.image_check.specs.Says as image
+use Rattle.image_check.specs.declared.Checked.{Checked}
+use Rattle.image_check.proofs.Laws.Found.{found, not_found}
 use Rattle.spelling.specs.Work.{FollowSays, RightSays}
 
 module _ (words text : List ℕ) (start end : ℕ) (list : List ℕ) where
@@ -37,3 +44,16 @@ module _ (words text : List ℕ) (start end : ℕ) (list : List ℕ) where
         },
         λ s. f.1 (subst (λ (m : ℕ). Follow t 0 (take m (drop start text)) list) (sym each) s.follow),
       )
+
+-- ---- THE ROWS OF THE TABLE
+module _ {words text : List ℕ} {start end : ℕ} {list : List ℕ} {r : Option Checked} (C : image.CheckSays words r) where
+  pub other : r ≡ None → CheckSays words text start end list (judgement (Err NotAnImage))
+  other g = not_an_image (not_found words C g) refl
+
+  module _ {c : Checked} (g : r ≡ Some c) where
+    pub too_long : 65535 < length text → CheckSays words text start end list (judgement (Err TextTooLong))
+    too_long l = let F = found words C g in text_too_long F.tree F.image_of l refl
+
+    pub judged : length text ≤ 65535 → (b : Bool) → RightSays words text start end list b → CheckSays words text start end list (judgement (Ok b))
+    judged l true R = let F = found words C g in right F.tree F.image_of l ((R F.tree F.image_of).0 tt) refl
+    judged l false R = let F = found words C g in wrong F.tree F.image_of l (R F.tree F.image_of).1 refl

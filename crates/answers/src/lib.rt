@@ -1,4 +1,4 @@
-// What the operations answer: done, with what they give by value, or a refusal. The numbers of the documents' tables stand here, and nowhere else in code.
+// What the operations answer: a `Result` of what they give by value, or a refusal. The numbers of the documents' tables stand here, and nowhere else in code.
 
 #![tactic(auto)]
 
@@ -22,64 +22,41 @@ pub enum Refusal {
     NoRoomForStates,
 }
 
-// Done, with a count: of the words, bytes or ends that document 01 says.
+// What the proposer gives: the start, and how many states.
 #[derive(Clone, Copy)]
-pub enum Answer {
-    Refused(Refusal),
-    Done(usize),
+pub struct Proposed {
+    pub start: usize,
+    pub count: usize,
 }
 
-// What the check of a spelling answers.
-#[derive(Clone, Copy)]
-pub enum Judged {
-    Refused(Refusal),
-    No,
-    Yes,
-}
-
-// What the proposer answers: the start, and how many states.
-#[derive(Clone, Copy)]
-pub enum Proposed {
-    Refused(Refusal),
-    Done(usize, usize),
-}
-
-// The number of a refusal.
-pub fn number(refusal: Refusal) -> u64
-    ensures { result ≡ number_of refusal }
-{
-    match refusal {
-        Refusal::RuleTooLong => 1,
-        Refusal::NotARule(_) => 2,
-        Refusal::TooManyStates => 3,
-        Refusal::TooDeep => 4,
-        Refusal::NoRoomForImage => 5,
-        Refusal::NotAnImage => 6,
-        Refusal::TextTooLong => 7,
-        Refusal::NoRoomForWriting => 8,
-        Refusal::NotAMask => 9,
-        Refusal::PlaceTooFar => 10,
-        Refusal::NotAnEnd => 16,
-        Refusal::NoRoomForStates => 17,
+impl Refusal {
+    // The number of a refusal.
+    pub fn number(self) -> u64
+        ensures { result ≡ number_of self }
+    {
+        match self {
+            Refusal::RuleTooLong => 1,
+            Refusal::NotARule(_) => 2,
+            Refusal::TooManyStates => 3,
+            Refusal::TooDeep => 4,
+            Refusal::NoRoomForImage => 5,
+            Refusal::NotAnImage => 6,
+            Refusal::TextTooLong => 7,
+            Refusal::NoRoomForWriting => 8,
+            Refusal::NotAMask => 9,
+            Refusal::PlaceTooFar => 10,
+            Refusal::NotAnEnd => 16,
+            Refusal::NoRoomForStates => 17,
+        }
     }
-}
 
-// The place of a refusal: only what is no rule has one.
-pub fn place(refusal: Refusal) -> usize
-    ensures { result ≡ place_of refusal }
-{
-    match refusal {
-        Refusal::RuleTooLong => 0,
-        Refusal::NotARule(place) => place,
-        Refusal::TooManyStates => 0,
-        Refusal::TooDeep => 0,
-        Refusal::NoRoomForImage => 0,
-        Refusal::NotAnImage => 0,
-        Refusal::TextTooLong => 0,
-        Refusal::NoRoomForWriting => 0,
-        Refusal::NotAMask => 0,
-        Refusal::PlaceTooFar => 0,
-        Refusal::NotAnEnd => 0,
-        Refusal::NoRoomForStates => 0,
+    // The place of a refusal: only what is no rule has one.
+    pub fn place(self) -> usize
+        ensures { result ≡ place_of self }
+    {
+        match self {
+            Refusal::NotARule(place) => place,
+            _ => 0,
+        }
     }
 }

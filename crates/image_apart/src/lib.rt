@@ -5,49 +5,31 @@
 
 mod marks;
 
-ghost use Rattle.std.specs.Prelude.{◌≡◌};
 ghost use Rattle.image_apart.specs.Says.{ApartSays};
-ghost use Rattle.image_sections.specs.declared.Header.TheVariants.{Other};
 
 use crate::marks::{marks_of, shown_tape};
-use image_sections::{Header, read_header};
+use image_sections::{Sections, read_header};
 use tokens_masks::Tape;
 
-// The header; the states that some letter's mask has; and the tape.
+// The places of the sections; the states that some letter's mask has; and the tape.
 #[derive(Clone, Copy)]
 pub struct Apart {
-    pub header: Header,
+    pub sections: Sections,
     pub letters: [u64; 8],
     pub tape: Tape,
 }
 
-// No header of an image.
-fn refuse() -> Apart
-    ensures { result.header ≡ Other }
-{
-    let letters = [0u64; 8];
-    let kinds = [0u8; 512];
-    let tape = Tape { kinds, length: 0 };
-    Apart {
-        header: Header::Other,
-        letters,
-        tape,
-    }
-}
-
-pub fn take_apart(words: &[u64]) -> Apart
+// None where the words have no header of an image.
+pub fn take_apart(words: &[u64]) -> Option<Apart>
     ensures { ApartSays words.now result }
 {
-    let header = read_header(words);
-    let Header::Sound(sections) = header else {
-        return refuse();
-    };
+    let sections = read_header(words)?;
     let marks = marks_of(words, sections);
     let tape = shown_tape(marks, sections.states - 1);
     let letters = marks.letters;
-    Apart {
-        header,
+    Some(Apart {
+        sections,
         letters,
         tape,
-    }
+    })
 }

@@ -6,65 +6,34 @@
 
 mod compare;
 
-ghost use Rattle.std.specs.Prelude.{◌≡◌};
 ghost use Rattle.image_check.specs.Says.{CheckSays};
-ghost use Rattle.image_check.specs.declared.Verdict.TheVariants.{Other};
 
 use crate::compare::agrees;
 use image_apart::take_apart;
-use image_sections::{Header, Sections};
-use tokens_masks::{OnTape, Tape, lay_out};
+use image_sections::Sections;
+use tokens_masks::{Tape, lay_out};
 
-// An image, with the places of its sections, or anything else.
-#[derive(Clone, Copy)]
-pub enum Verdict {
-    Image(Sections),
-    Other,
-}
-
-// The verdict, and the tape of the tree whose image the words are.
+// An image: the places of its sections, and the tape of the tree whose image the words are.
 #[derive(Clone, Copy)]
 pub struct Checked {
-    pub verdict: Verdict,
+    pub sections: Sections,
     pub tape: Tape,
 }
 
-// Not an image.
-fn refuse() -> Checked
-    ensures { result.verdict ≡ Other }
-{
-    let kinds = [0u8; 512];
-    let tape = Tape { kinds, length: 0 };
-    Checked {
-        verdict: Verdict::Other,
-        tape,
-    }
-}
-
-// The check that every call makes which uses an image.
-pub fn check(words: &[u64]) -> Checked
+// The check that every call makes which uses an image; none where the words are no image.
+pub fn check(words: &[u64]) -> Option<Checked>
     ensures { CheckSays words.now result }
 {
-    let parts = take_apart(words);
-    let header = parts.header;
-    let Header::Sound(sections) = header else {
-        return refuse();
-    };
+    let parts = take_apart(words)?;
+    let sections = parts.sections;
     let tape = parts.tape;
     let mut masks = [0u64; 936];
-    let on_tape = lay_out(tape, &mut masks);
-    let OnTape::Tree(deepest) = on_tape else {
-        return refuse();
-    };
+    let deepest = lay_out(tape, &mut masks)?;
     if deepest != sections.depth {
-        return refuse();
+        return None;
     }
-    let letters = parts.letters;
-    if !agrees(words, sections, letters, tape, &masks) {
-        return refuse();
+    if !agrees(words, sections, parts.letters, tape, &masks) {
+        return None;
     }
-    Checked {
-        verdict: Verdict::Image(sections),
-        tape,
-    }
+    Some(Checked { sections, tape })
 }

@@ -1,10 +1,8 @@
 -- WHAT THE READER OF THE HEADER TESTS of any words, and what it is to have one.
-use Rattle.std.specs.Prelude.{◌≡◌, Bool, ◌&&◌, cond, List, ℕ, suc, ◌-◌, ◌*◌, ◌≤◌, eqb, leb, get_or, length}
+use Rattle.std.specs.Prelude.{◌≡◌, Option, None, Some, Bool, ◌&&◌, cond, List, ℕ, suc, ◌-◌, ◌*◌, ◌≤◌, eqb, leb, get_or, length}
 use Rattle.model.specs.Image.{width}
 use Rattle.model.specs.Models.Sections.{Counted, depth_word, state_word, width_word}
 use Rattle.image_sections.specs.Sections.{sections_in}
-use Rattle.image_sections.specs.declared.Header.{Header}
-use Rattle.image_sections.specs.declared.Header.TheVariants.{Other, Sound}
 use Rattle.image_sections.specs.declared.Sections.{Sections}
 
 -- the shape's numbers are within the limits, the length is what they ask, and each section follows its count
@@ -36,5 +34,5 @@ counts_fit ws p =
 abbrev pub header_fits : List ℕ → Bool
 header_fits ws = shape_fits ws && (eqb (length ws) (sections_in ws).length && counts_fit ws (sections_in ws))
 
-abbrev pub header_if : Bool → List ℕ → Header
-header_if b ws = cond b (Sound (sections_in ws)) Other
+abbrev pub header_if : Bool → List ℕ → Option Sections
+header_if b ws = cond b (Some (sections_in ws)) None

@@ -26,13 +26,6 @@ pub struct Sections {
     pub length: usize,
 }
 
-// The places that words say they have; or words that have no header of an image.
-#[derive(Clone, Copy)]
-pub enum Header {
-    Sound(Sections),
-    Other,
-}
-
 // "W is m/64 rounded up", and section after section, each after its count.
 pub fn sections_of(states: usize, depth: usize) -> Sections
     requires { (states ≤ 512) × (depth ≤ 8) }

@@ -3,7 +3,7 @@ ghost use Rattle.std.specs.Prelude.{◌≡◌, length as length_of};
 ghost use Rattle.image_sections.specs.Header.{counts_fit, header_fits, header_if, shape_fits};
 ghost use Rattle.image_sections.specs.Sections.{mask_words, Within};
 
-use crate::{Header, Sections, sections_of};
+use crate::{Sections, sections_of};
 
 // "Six sections .. each after its count of words", and a seventh: the counts after the shape's, where the length is right.
 fn counts_fit(words: &[u64], sections: Sections) -> bool
@@ -21,45 +21,43 @@ fn counts_fit(words: &[u64], sections: Sections) -> bool
 }
 
 // The shape, before the length is known to fit it.
-fn read_shape(words: &[u64]) -> Header
+fn read_shape(words: &[u64]) -> Option<Sections>
     ensures { result ≡ header_if (shape_fits words.now) words.now }
 {
     if words.len() < 4 {
-        return Header::Other;
+        return None;
     }
     if words[0] != 3 {
-        return Header::Other;
+        return None;
     }
     let states = words[1];
     let width = words[2];
     let depth = words[3];
     if states < 2 || states > 512 {
-        return Header::Other;
+        return None;
     }
     if width != (states + 63) / 64 {
-        return Header::Other;
+        return None;
     }
     if depth > 8 {
-        return Header::Other;
+        return None;
     }
     let sections = sections_of(states as usize, depth as usize);
-    Header::Sound(sections)
+    Some(sections)
 }
 
-pub fn read_header(words: &[u64]) -> Header
+// The places that the words say they have; none where they have no header of an image.
+pub fn read_header(words: &[u64]) -> Option<Sections>
     ensures { result ≡ header_if (header_fits words.now) words.now }
 {
-    let shape = read_shape(words);
-    let Header::Sound(sections) = shape else {
-        return shape;
-    };
+    let sections = read_shape(words)?;
     if words.len() != sections.length {
-        return Header::Other;
+        return None;
     }
     if !counts_fit(words, sections) {
-        return Header::Other;
+        return None;
     }
-    shape
+    Some(sections)
 }
 
 // How many words a mask has, as the shape of any words says it: at most eight, and none where there is no shape.
@@ -69,6 +67,5 @@ pub fn mask_words(words: &[u64]) -> usize
     if words.len() < 3 {
         return 0;
     }
-    let width = words[2];
-    if width < 8 { width as usize } else { 8 }
+    words[2].min(8) as usize
 }

@@ -10,6 +10,7 @@ use borrow.Author.Tests.{lt-ltb, ne_eqb}
 use lib.Dec.{T, eqb, ltb, ltb→lt}
 use lib.ListN.{get_or, length, set}
 use lib.Seq.{get_or-set_other, get_or-set_same}
+use Rattle.std.specs.Prelude.{is_some}
 use Rattle.model.specs.Models.LayOut.{check, fitting, fitting_in, inside, next_alternative, outside, scan, step}
 use Rattle.model.specs.Models.LayOut as model
 use Rattle.model.specs.Models.Tokens.{a_bar, a_close, a_letter, an_open}
@@ -61,12 +62,13 @@ module _ (fs : List Frame) where
 
 -- ---- the steps: a frame that is stored at the depth lies above the stack
 module _ (q : Scan) (fs : List Frame) where
-  pub letter_scan : (f : Frame) (r : Repeat)
+  pub letter_scan : (f : Frame) (r : Repeat) (skips : Bool) → skips ≡ can_skip r
       → scan_of (with_frames
-      (record { position = q.position + 1; no_item = false; can_be_empty = q.can_be_empty && can_skip r; depth = q.depth })
+      (record { position = q.position + 1; no_item = false; can_be_empty = q.can_be_empty && skips; depth = q.depth })
       (set fs q.depth f)) ≡ step (a_letter 0 r) (scan_of (with_frames q fs))
-  letter_scan f r =
-      ap₂ (λ (p : ℕ) (st : List model.Frame). scan p false (q.can_be_empty && can_skip r) st) (add-one q.position)
+  letter_scan f r skips e =
+      ap (λ (b : Bool). scan (q.position + 1) false (q.can_be_empty && b) (stack_of (set fs q.depth f) q.depth)) e
+      ∙ ap₂ (λ (p : ℕ) (st : List model.Frame). scan p false (q.can_be_empty && can_skip r) st) (add-one q.position)
       (stack_below fs q.depth f q.depth (le_refl q.depth))
 
   pub opened_scan : (f : Frame) → q.depth < length fs → frame_of f ≡ opened_at q
@@ -104,11 +106,11 @@ module _ (q : Scan) (fs : List Frame) where
         ∙ sym (ap (model.after_close m q.position q.can_be_empty) stack_is)
 
 pub fitting_is : (q : Scan) (fs : List Frame) (top : Frame) (m : Mark) → Innermost q top fs
-    → (ltb 0 q.depth && fitting m top.barred (top.empty_before || q.can_be_empty)) ≡ fitting_in m q.can_be_empty (stack_of fs q.depth)
+    → (ltb 0 q.depth && fitting m (is_some top.first_end) (top.empty_before || q.can_be_empty)) ≡ fitting_in m q.can_be_empty (stack_of fs q.depth)
 fitting_is q fs top m I = go q.depth I
   where
     asked : Frame → Bool
-    asked f = fitting m f.barred (f.empty_before || q.can_be_empty)
+    asked f = fitting m (is_some f.first_end) (f.empty_before || q.can_be_empty)
 
     go : (n : ℕ) → (0 < n → get_or fs (n - 1) no_frame ≡ top) → (ltb 0 n && asked top) ≡ fitting_in m q.can_be_empty (stack_of fs n)
     go zero J = refl

@@ -1,5 +1,6 @@
 -- SCANS: what the code's scan stands for in the model, and what holds of every scan that the code comes to.
-use Rattle.std.specs.Prelude.{◌≡◌, Bool, false, not, ◌&&◌, List, [], ◌∷◌, ℕ, zero, suc, ◌-◌, ◌≤◌, ◌<◌, T, get_or, length, set}
+use Rattle.std.specs.Prelude.{◌≡◌, Bool, false, not, ◌&&◌, List, [], ◌∷◌, ℕ, zero, suc, ◌-◌, ◌≤◌, ◌<◌, T, get_or, is_some, length, None, set}
+use Rattle.std.specs.Option.{unwrap_or}
 use Rattle.model.specs.Models.LayOut.{check, outside, step}
 use Rattle.model.specs.Models.LayOut as model
 use Rattle.model.specs.Models.Tokens as tokens
@@ -12,8 +13,8 @@ use Rattle.tokens.specs.declared.token.Token.{Token}
 abbrev pub frame_of : Frame → model.Frame
 frame_of f = record {
   start = f.start;
-  barred = f.barred;
-  first_end = f.first_end;
+  barred = is_some f.first_end;
+  first_end = unwrap_or f.first_end 0;
   alternative = f.alternative;
   empty_before = f.empty_before;
   empty_outside = f.empty_outside;
@@ -21,7 +22,7 @@ frame_of f = record {
 
 -- what stands past the row's end
 abbrev pub no_frame : Frame
-no_frame = record { start = 0; barred = false; first_end = 0; alternative = 0; empty_before = false; empty_outside = false }
+no_frame = record { start = 0; first_end = None; alternative = 0; empty_before = false; empty_outside = false }
 
 -- the first n frames of the row, the last of them innermost
 abbrev pub stack_of : List Frame → ℕ → List model.Frame

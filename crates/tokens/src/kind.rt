@@ -69,9 +69,5 @@ pub fn read_kind(kind: u8) -> Token
 pub fn kind_in(word: u64) -> u8
     ensures { result ≡ kind_in word }
 {
-    if word < CLOSE_STARRED as u64 {
-        word as u8
-    } else {
-        CLOSE_STARRED
-    }
+    word.min(CLOSE_STARRED as u64) as u8
 }

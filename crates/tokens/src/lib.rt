@@ -14,13 +14,12 @@ ghost use Rattle.tokens.specs.Tokens.{mark_of, repeat_of, token_of};
 
 use crate::token::{Mark, Repeat, Token, can_omit, can_skip};
 
-// An open union: its start; whether a bar was met, and then its first alternative's end; the start of the alternative at hand; whether an
-// alternative before that one can be empty; whether what stands before the union in its own sequence can be empty.
+// An open union: its start; once a bar was met, its first alternative's end; the start of the alternative at hand; whether an alternative before
+// that one can be empty; whether what stands before the union in its own sequence can be empty.
 #[derive(Clone, Copy)]
 pub struct Frame {
     pub start: usize,
-    pub barred: bool,
-    pub first_end: usize,
+    pub first_end: Option<usize>,
     pub alternative: usize,
     pub empty_before: bool,
     pub empty_outside: bool,
@@ -62,8 +61,7 @@ pub fn no_frame() -> Frame
 {
     Frame {
         start: 0,
-        barred: false,
-        first_end: 0,
+        first_end: None,
         alternative: 0,
         empty_before: false,
         empty_outside: false,
@@ -74,7 +72,7 @@ pub fn no_frame() -> Frame
 pub fn innermost(depth: usize) -> usize
     ensures { result ≡ depth - 1 }
 {
-    if depth == 0 { 0 } else { depth - 1 }
+    depth.saturating_sub(1)
 }
 
 // Whether a close may show its mark after several alternatives or one, of which some can be empty or none: a union that can be empty has an edge
@@ -100,7 +98,8 @@ pub fn fits(scan: Scan, frame: Frame, token: Token) -> bool
         Token::Open => depth < 8,
         Token::Bar => (depth > 0) & !scan.no_item,
         Token::Close(mark) => {
-            let fitting = may_show(mark, frame.barred, frame.empty_before | scan.can_be_empty);
+            let barred = frame.first_end.is_some();
+            let fitting = may_show(mark, barred, frame.empty_before | scan.can_be_empty);
             (depth > 0) & fitting & !scan.no_item
         }
     }
@@ -120,8 +119,7 @@ fn opened_frame(scan: Scan) -> Frame
 {
     Frame {
         start: scan.position,
-        barred: false,
-        first_end: 0,
+        first_end: None,
         alternative: scan.position + 1,
         empty_before: false,
         empty_outside: scan.can_be_empty,
@@ -132,11 +130,7 @@ fn opened_frame(scan: Scan) -> Frame
 pub fn first_end_of(frame: Frame, position: usize) -> usize
     ensures { result ≡ (next_alternative (frame_of frame) position false).first_end }
 {
-    if frame.barred {
-        frame.first_end
-    } else {
-        position
-    }
+    frame.first_end.unwrap_or(position)
 }
 
 // The frame after a bar in `position`, where `can_be_empty` is said of the alternative before it.
@@ -144,14 +138,11 @@ fn next_frame(frame: Frame, position: usize, can_be_empty: bool) -> Frame
     requires { position < 511 }
     ensures { frame_of result ≡ next_alternative (frame_of frame) position can_be_empty }
 {
-    let first_end = first_end_of(frame, position);
     Frame {
-        start: frame.start,
-        barred: true,
-        first_end,
+        first_end: Some(first_end_of(frame, position)),
         alternative: position + 1,
         empty_before: frame.empty_before | can_be_empty,
-        empty_outside: frame.empty_outside,
+        ..frame
     }
 }
 
@@ -159,12 +150,11 @@ fn after_letter(scan: Scan, frame: Frame, repeat: Repeat) -> Next
     requires { (scan.position < 511) × (scan.depth ≤ 8) }
     ensures { StepSays scan frame (a_letter 0 (repeat_of repeat)) result }
 {
-    let skips = can_skip(repeat);
     let next = Scan {
         position: scan.position + 1,
         no_item: false,
-        can_be_empty: scan.can_be_empty & skips,
-        depth: scan.depth,
+        can_be_empty: scan.can_be_empty & can_skip(repeat),
+        ..scan
     };
     Next {
         scan: next,
@@ -177,7 +167,6 @@ fn after_open(scan: Scan, frame: Frame) -> Next
     requires { (scan.position < 511) × (scan.depth < 8) }
     ensures { StepSays scan frame an_open result }
 {
-    let opened = opened_frame(scan);
     let next = Scan {
         position: scan.position + 1,
         no_item: true,
@@ -186,7 +175,7 @@ fn after_open(scan: Scan, frame: Frame) -> Next
     };
     Next {
         scan: next,
-        frame: opened,
+        frame: opened_frame(scan),
         place: scan.depth,
     }
 }
@@ -195,16 +184,15 @@ fn after_bar(scan: Scan, frame: Frame) -> Next
     requires { (scan.position < 511) × ((0 < scan.depth) × (scan.depth ≤ 8)) }
     ensures { StepSays scan frame a_bar result }
 {
-    let barred = next_frame(frame, scan.position, scan.can_be_empty);
     let next = Scan {
         position: scan.position + 1,
         no_item: true,
         can_be_empty: true,
-        depth: scan.depth,
+        ..scan
     };
     Next {
         scan: next,
-        frame: barred,
+        frame: next_frame(frame, scan.position, scan.can_be_empty),
         place: scan.depth - 1,
     }
 }
@@ -213,11 +201,10 @@ fn after_close(scan: Scan, frame: Frame, mark: Mark) -> Next
     requires { (scan.position < 511) × ((0 < scan.depth) × (scan.depth ≤ 8)) }
     ensures { StepSays scan frame (a_close (mark_of mark)) result }
 {
-    let omits = can_omit(mark);
     let next = Scan {
         position: scan.position + 1,
         no_item: false,
-        can_be_empty: frame.empty_outside & omits,
+        can_be_empty: frame.empty_outside & can_omit(mark),
         depth: scan.depth - 1,
     };
     Next {

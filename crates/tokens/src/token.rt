@@ -34,44 +34,26 @@ pub enum Token {
 pub fn can_skip(repeat: Repeat) -> bool
     ensures { result ≡ can_skip (repeat_of repeat) }
 {
-    match repeat {
-        Repeat::Once => false,
-        Repeat::Option => true,
-        Repeat::Star => true,
-        Repeat::Plus => false,
-    }
+    matches!(repeat, Repeat::Option | Repeat::Star)
 }
 
 // A letter that may be taken again.
 pub fn can_loop(repeat: Repeat) -> bool
     ensures { result ≡ can_loop (repeat_of repeat) }
 {
-    match repeat {
-        Repeat::Once => false,
-        Repeat::Option => false,
-        Repeat::Star => true,
-        Repeat::Plus => true,
-    }
+    matches!(repeat, Repeat::Star | Repeat::Plus)
 }
 
 // A union that may be left out.
 pub fn can_omit(mark: Mark) -> bool
     ensures { result ≡ can_omit (mark_of mark) }
 {
-    match mark {
-        Mark::Unmarked => false,
-        Mark::Optional => true,
-        Mark::Starred => true,
-    }
+    matches!(mark, Mark::Optional | Mark::Starred)
 }
 
 // A union that may be gone through again.
 pub fn can_return(mark: Mark) -> bool
     ensures { result ≡ can_return (mark_of mark) }
 {
-    match mark {
-        Mark::Unmarked => false,
-        Mark::Optional => false,
-        Mark::Starred => true,
-    }
+    matches!(mark, Mark::Starred)
 }

@@ -7,6 +7,7 @@ use Prim.Native.Nat.{ℕ, zero, suc, ◌+◌, ◌*◌, ◌≤◌, ◌<◌}
 use native.Mathlib.Omega.{arith}
 use lib.Dec.{T, le→leb, leb}
 use lib.ListN.{get_or, length, replicate}
+use Rattle.std.specs.Prelude.{None, Some}
 use Rattle.model.specs.Bits.{bit, digit, mask}
 use Rattle.model.specs.Edges.{depth, states}
 use Rattle.model.specs.Image.{back_source, back_target, gather_block, gather_source, gather_target, letters, propagate_block, propagate_source, propagate_target, repeats, scatter_block, scatter_source, scatter_target, words}
@@ -35,7 +36,6 @@ use Rattle.tokens_masks.specs.Masks.{block_plane, Joined, row_in, row_number, ta
 use Rattle.tokens_masks.specs.Says.{Laid, LettersSay, LoopsSay, MasksSay, PropagateSays, TreeOnTape, UnionsSay}
 use Rattle.tokens_masks.specs.Tables.{Table}
 use Rattle.tokens_masks.specs.Tapes.{bares, is_tree, on_tape, PlanesHold, propagate_block_table, propagate_source_table, propagate_target_table, table_of, tokens_of}
-use Rattle.tokens_masks.specs.declared.OnTape.TheVariants.{Other, Tree}
 use Rattle.tokens_masks.specs.declared.Tape.{Tape}
 use Rattle.tokens_masks.proofs.Bare.{bares_lay, bares_length, bares_reach, bares_valid}
 use Rattle.tokens_masks.proofs.Deep.{deep, of_union}
@@ -67,9 +67,9 @@ module _ (s : tree.Tree) (t : Tape) (O : TreeOnTape s t) where
       (le→leb t.length 511 (omega (arith, O.tape.long, length_tokens s, O.few)))
       (subst T (sym (ap (λ (l : List Token). valid l begin) tokens_are ∙ bares_valid (tokens s []) begin)) (good_valid s good.0 good.1 O.shallow))
 
-  pub on_tape_is : on_tape t ≡ Tree (depth s)
+  pub on_tape_is : on_tape t ≡ Some (depth s)
   on_tape_is =
-      ap₂ (λ (b : Bool) (n : ℕ). cond b (Tree n) Other) (is_true (is_tree t) is-tree)
+      ap₂ (λ (b : Bool) (n : ℕ). cond b (Some n) None) (is_true (is_tree t) is-tree)
       (ap (λ (l : List Token). reach l begin) tokens_are ∙ bares_reach (tokens s []) begin ∙ reach_is s)
 
   -- ---- what is laid out for the tree's own tokens

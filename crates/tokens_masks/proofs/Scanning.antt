@@ -6,7 +6,9 @@ use mathlib.Core.List.{List}
 use Prim.Native.Nat.{ℕ, ◌+◌, ◌-◌, ◌≤◌, ◌<◌}
 use native.Mathlib.Omega.{arith}
 use lib.Dec.{T}
-use lib.ListN.{get_or, length, length-set, set}
+use lib.ListN.{get_or, length, length-set, set, take}
+use lib.Seq.{get_or-take, length-take-le}
+use Rattle.std.specs.Prelude.{Option, None, Some, is_some}
 use Rattle.model.specs.Models.LayOut.{begin, check, number, reach, strokes, Plane}
 use Rattle.tokens_masks.specs.Masks.{Blank, paint, table_in}
 use Rattle.tokens.specs.Scans.{Innermost, is_ended, no_frame, ReadyAt, scan_of, StepSays, with_frames}
@@ -14,8 +16,6 @@ use Rattle.tokens_masks.specs.Tables.{blank, paint_all}
 use Rattle.tokens_masks.specs.Tapes.{deeper_by, is_tree, on_tape, PlanesHold, ScanLays, tokens_of}
 use Rattle.tokens.specs.Kinds.{read_kind}
 use Rattle.tokens.specs.Tokens.{token_of}
-use Rattle.tokens_masks.specs.declared.OnTape.{OnTape}
-use Rattle.tokens_masks.specs.declared.OnTape.TheVariants.{Other, Tree}
 use Rattle.tokens_masks.specs.declared.Tape.{Tape}
 use Rattle.tokens.specs.declared.Frame.{Frame}
 use Rattle.tokens.specs.declared.Next.{Next}
@@ -28,6 +28,10 @@ use Rattle.tokens_masks.proofs.Reaching.{Reaching, reaching_begin, reaching_end,
 use Rattle.tokens_masks.proofs.Within.{strokes_within}
 
 -- ---- the loop
+-- what it goes over, the kinds on the tape
+abbrev pub kinds_on : Tape → List ℕ
+kinds_on t = take t.length t.kinds
+
 pub record Scanning (t : Tape) (ms : List ℕ) (fs : List Frame) (q : Scan) (deepest i : ℕ) : Type 0 where
   pub nine : length fs ≡ 9
   pub long : length ms ≡ 936
@@ -54,27 +58,39 @@ module _ {t : Tape} {ms : List ℕ} {fs : List Frame} {q : Scan} {deepest i : �
   scanning_depth = along_depth t (with_frames q fs) i S.along
 
   -- a tape that is none, and one that is
-  not_tree : is_tree t ≡ false → (Other ≡ on_tape t) × ScanLays t ms
-  not_tree e = (sym (ap (λ (b : Bool). cond b (Tree (reach (tokens_of t) begin)) Other) e), record { long = S.long; held = λ z w. absurd (subst T e z) })
+  not_tree : is_tree t ≡ false → (None ≡ on_tape t) × ScanLays t ms
+  not_tree e = (sym (ap (λ (b : Bool). cond b (Some (reach (tokens_of t) begin)) None) e), record { long = S.long; held = λ z w. absurd (subst T e z) })
 
-  module _ (h : t.length ≤ i) where
-    pub scanning_other : is_ended (with_frames q fs) ≡ false → (Other ≡ on_tape t) × ScanLays t ms
-    scanning_other e = not_tree (along_end t (with_frames q fs) i S.along h ∙ e)
+  all_on : length (kinds_on t) ≡ t.length
+  all_on = length-take-le t.length t.kinds (omega (arith, S.along.whole, S.along.short))
 
-    pub scanning_tree : is_ended (with_frames q fs) ≡ true → (Tree deepest ≡ on_tape t) × ScanLays t ms
+  module _ (end : length (kinds_on t) ≤ i) where
+    past : t.length ≤ i
+    past = omega (arith, all_on)
+
+    pub scanning_other : is_ended (with_frames q fs) ≡ false → (None ≡ on_tape t) × ScanLays t ms
+    scanning_other e = not_tree (along_end t (with_frames q fs) i S.along past ∙ e)
+
+    pub scanning_tree : is_ended (with_frames q fs) ≡ true → (Some deepest ≡ on_tape t) × ScanLays t ms
     scanning_tree e =
-        let is = along_end t (with_frames q fs) i S.along h ∙ e in (
-          sym (ap₂ (λ (b : Bool) (d : ℕ). cond b (Tree d) Other) is (reaching_end t (with_frames q fs) i S.along deepest S.reaching h)),
+        let is = along_end t (with_frames q fs) i S.along past ∙ e in (
+          sym (ap₂ (λ (b : Bool) (d : ℕ). cond b (Some d) None) is (reaching_end t (with_frames q fs) i S.along deepest S.reaching past)),
           record {
             long = S.long;
             held = λ z w. sym (ap (λ (b : Bool). cond b (paint_all (tokens_of t) begin w blank) blank) is
-                ∙ painting_end t (with_frames q fs) i S.along w (table_in ms (number w)) (S.painting w) h);
+                ∙ painting_end t (with_frames q fs) i S.along w (table_in ms (number w)) (S.painting w) past);
           },
         )
 
   -- at the token y, with the innermost frame
-  module _ {y : Token} {top : Frame} (h : i < t.length) (e : y ≡ read_kind (get_or t.kinds i 0)) (I : Innermost q top fs) where
-    pub scanning_misfit : check (token_of y) (scan_of (with_frames q fs)) ≡ false → (Other ≡ on_tape t) × ScanLays t ms
+  module _ {y : Token} {top : Frame} (on : i < length (kinds_on t)) (kind : y ≡ read_kind (get_or (kinds_on t) i 0)) (I : Innermost q top fs) where
+    h : i < t.length
+    h = omega (arith, all_on)
+
+    e : y ≡ read_kind (get_or t.kinds i 0)
+    e = kind ∙ ap read_kind (get_or-take t.length t.kinds i 0 h)
+
+    pub scanning_misfit : check (token_of y) (scan_of (with_frames q fs)) ≡ false → (None ≡ on_tape t) × ScanLays t ms
     scanning_misfit f = not_tree (along_misfit t (with_frames q fs) i S.along y h e f)
 
     module _ (f : check (token_of y) (scan_of (with_frames q fs)) ≡ true) where
@@ -89,7 +105,7 @@ module _ {t : Tape} {ms : List ℕ} {fs : List Frame} {q : Scan} {deepest i : �
           let stepped = N.steps fs S.nine I in
           let A = S.along in
           let ss = strokes (token_of y) (scan_of known) in
-          let W = strokes_within (token_of y) (scan_of known) A.sane (omega (arith, A.at, A.short)) in
+          let W = strokes_within (token_of y) (scan_of known) A.sane (omega (arith, A.at, A.short, h)) in
           record {
             nine = length-set fs n.place n.frame ∙ S.nine;
             long = ap length P ∙ paint_long ss ms ∙ S.long;
@@ -100,21 +116,19 @@ module _ {t : Tape} {ms : List ℕ} {fs : List Frame} {q : Scan} {deepest i : �
           }
 
 -- ---- what the scan told
-pub tree_told : (b : Bool) (x d : ℕ) → cond b (Tree x) Other ≡ Tree d → T b
+pub tree_told : (b : Bool) (x d : ℕ) → cond b (Some x) None ≡ Some d → T b
 tree_told true x d q = tt
 tree_told false x d q = let z : ◌≡◌ {A = ℕ} 0 1 = cc in absurd (omega arith)
 
-other_told : (b : Bool) (x : ℕ) → cond b (Tree x) Other ≡ Other → b ≡ false
-other_told true x q = let z : ◌≡◌ {A = ℕ} 0 1 = cc in absurd (omega arith)
-other_told false x q = refl
+none_told : (b : Bool) (x : ℕ) → is_some (cond b (Some x) None) ≡ b
+none_told true x = refl
+none_told false x = refl
 
-module _ (t : Tape) {told : OnTape} (e : told ≡ on_tape t) where
-  pub planes_tree : {d : ℕ} {ms : List ℕ} → told ≡ Tree d → ScanLays t ms → PlanesHold t ms
-  planes_tree {d} q L = record { long = L.long; held = L.held (tree_told (is_tree t) (reach (tokens_of t) begin) d (sym e ∙ q)) }
-
-  pub planes_other : {ms : List ℕ} → told ≡ Other → Blank ms → PlanesHold t ms
+module _ (t : Tape) {told : Option ℕ} (e : told ≡ on_tape t) where
+  pub planes_other : {ms : List ℕ} → is_some told ≡ false → Blank ms → PlanesHold t ms
   planes_other q B = record {
     long = B.long;
     held = λ w. B.none w
-        ∙ sym (ap (λ (b : Bool). cond b (paint_all (tokens_of t) begin w blank) blank) (other_told (is_tree t) (reach (tokens_of t) begin) (sym e ∙ q)));
+        ∙ sym (ap (λ (b : Bool). cond b (paint_all (tokens_of t) begin w blank) blank)
+        (sym (none_told (is_tree t) (reach (tokens_of t) begin)) ∙ ap is_some (sym e) ∙ q));
   }

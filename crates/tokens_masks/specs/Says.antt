@@ -1,5 +1,5 @@
 -- WHAT THE PUBLIC FUNCTIONS SAY OF THE TAPE OF A RULE'S TREE, in the terms of document 01.
-use Rattle.std.specs.Prelude.{◌≡◌, Bool, ◌&&◌, List, [], ℕ, suc, ◌≤◌, ◌<◌, get_or, replicate}
+use Rattle.std.specs.Prelude.{◌≡◌, Option, Some, Bool, ◌&&◌, List, [], ℕ, suc, ◌≤◌, ◌<◌, get_or, replicate}
 use Rattle.model.specs.Bits.{bit, mask}
 use Rattle.model.specs.Edges.{depth, states}
 use Rattle.model.specs.Grammar.{IsRule}
@@ -11,8 +11,6 @@ use Rattle.model.specs.Tree as tree
 use Rattle.tokens_masks.specs.Masks.{block_plane, row_in, row_number, table_in}
 use Rattle.tokens_masks.specs.Tables.{Table}
 use Rattle.tokens_masks.specs.Tapes.{propagate_block_table, propagate_source_table, propagate_target_table, table_of, TapeOf}
-use Rattle.tokens_masks.specs.declared.OnTape.{OnTape}
-use Rattle.tokens_masks.specs.declared.OnTape.TheVariants.{Tree}
 use Rattle.tokens_masks.specs.declared.Tape.{Tape}
 
 -- the tree of a rule, "within 512 states and depth 8", and its tape
@@ -24,9 +22,9 @@ pub record TreeOnTape (s : tree.Tree) (t : Tape) : Type 0 where
   pub tape : TapeOf s t
 
 -- a tape is told to be a tree's exactly if it is one, with the tree's depth
-pub record OnTapeSays (t : Tape) (told : OnTape) : Type 0 where
-  pub of_tree : (s : tree.Tree) → TreeOnTape s t → told ≡ Tree (depth s)
-  pub some_tree : (d : ℕ) → told ≡ Tree d → (s : tree.Tree) × TreeOnTape s t
+pub record OnTapeSays (t : Tape) (told : Option ℕ) : Type 0 where
+  pub of_tree : (s : tree.Tree) → TreeOnTape s t → told ≡ Some (depth s)
+  pub some_tree : (d : ℕ) → told ≡ Some d → (s : tree.Tree) × TreeOnTape s t
 
 -- the first rows are, in eight words, the masks of sets of the tree's states, one for each depth; the rows past them are 0
 pub record RowsAre (s : tree.Tree) (table : Table) (rows : ℕ) (sets : ℕ → ℕ → Bool) : Type 0 where

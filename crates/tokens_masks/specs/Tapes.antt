@@ -1,5 +1,5 @@
 -- TAPES: the tokens on a tape, which tapes are a tree's, and the masks laid out for them.
-use Rattle.std.specs.Prelude.{◌≡◌, Bool, ◌&&◌, cond, List, [], ◌∷◌, ℕ, suc, max, leb, T, length, take}
+use Rattle.std.specs.Prelude.{◌≡◌, Option, None, Some, Bool, ◌&&◌, cond, List, [], ◌∷◌, ℕ, suc, max, leb, T, length, take}
 use Rattle.model.specs.Tree as tree
 use Rattle.model.specs.Models.LayOut.{begin, entering, leaving, number, reach, valid, Plane}
 use Rattle.model.specs.Models.Tokens.{a_bar, a_close, a_letter, an_open}
@@ -9,8 +9,6 @@ use Rattle.tokens_masks.specs.Masks.{table_in}
 use Rattle.tokens_masks.specs.Tables.{blank, paint_all, Table}
 use Rattle.tokens.specs.Kinds.{read_kind}
 use Rattle.tokens.specs.Tokens.{bare, token_of}
-use Rattle.tokens_masks.specs.declared.OnTape.{OnTape}
-use Rattle.tokens_masks.specs.declared.OnTape.TheVariants.{Other, Tree}
 use Rattle.tokens_masks.specs.declared.Tape.{Tape}
 
 abbrev pub read_kinds : List ℕ → List model.Token
@@ -35,8 +33,8 @@ abbrev pub is_tree : Tape → Bool
 is_tree t = leb t.length 511 && valid (tokens_of t) begin
 
 -- WHAT IS ON A TAPE: a tree's tokens and their depth, or anything else
-abbrev pub on_tape : Tape → OnTape
-on_tape t = cond (is_tree t) (Tree (reach (tokens_of t) begin)) Other
+abbrev pub on_tape : Tape → Option ℕ
+on_tape t = cond (is_tree t) (Some (reach (tokens_of t) begin)) None
 
 -- an open leads one deeper
 abbrev pub deeper_by : ℕ → ℕ → model.Token → ℕ

@@ -9,13 +9,13 @@ mod masks;
 pub mod plane;
 mod stroke;
 
-ghost use Rattle.std.specs.Prelude.{◌≡◌, ◌<◌, max, length};
+ghost use Rattle.std.specs.Prelude.{◌≡◌, ◌<◌, length};
 ghost use Rattle.tokens_masks.specs.Masks.{Blank, planes, row_in, row_number};
 ghost use Rattle.tokens_masks.specs.Says.{Laid, MasksSay, OnTapeSays};
 ghost use Rattle.tokens_masks.specs.Tapes.{deeper_by, on_tape, PlanesHold, ScanLays};
 ghost use Rattle.tokens.specs.Tokens.{token_of};
 
-use crate::masks::{blank, join_propagate};
+use crate::masks::join_propagate;
 use crate::plane::place_of;
 use crate::stroke::mark_token;
 use tokens::kind::read_kind;
@@ -29,90 +29,61 @@ pub struct Tape {
     pub length: usize,
 }
 
-// What is on a tape: the tokens of a tree within 512 states and depth 8, and that tree's depth; or anything else.
-#[derive(Clone, Copy)]
-pub enum OnTape {
-    Tree(usize),
-    Other,
-}
-
-fn larger(a: usize, b: usize) -> usize
-    ensures { result ≡ max a b }
-{
-    if a < b { b } else { a }
-}
-
 // The largest depth after a token: an open leads one deeper.
 fn deeper(deepest: usize, depth: usize, token: Token) -> usize
     requires { depth < 9 }
     ensures { result ≡ deeper_by deepest depth (token_of token) }
 {
     match token {
-        Token::Letter(_) => deepest,
-        Token::Open => larger(deepest, depth + 1),
-        Token::Bar => deepest,
-        Token::Close(_) => deepest,
+        Token::Open => deepest.max(depth + 1),
+        _ => deepest,
     }
 }
 
 // The scan over the whole tape, which marks what each token marks.
-fn scan_tape(tape: Tape, masks: &mut [u64]) -> OnTape
+fn scan_tape(tape: Tape, masks: &mut [u64]) -> Option<usize>
     requires { Blank masks.old }
     ensures told { result ≡ on_tape tape }
     ensures masks { ScanLays tape masks.new }
 {
-    let kinds = tape.kinds;
-    let length = tape.length;
-    if length > 511 {
-        return OnTape::Other;
+    if tape.length > 511 {
+        return None;
     }
-    let none = no_frame();
-    let mut frames = [none; 9];
+    let mut frames = [no_frame(); 9];
     let mut scan = begin_scan();
     let mut deepest: usize = 0;
-    let mut i: usize = 0;
-    while i < length {
-        let token = read_kind(kinds[i]);
-        let top = innermost(scan.depth);
-        let frame = frames[top];
+    for kind in &tape.kinds[..tape.length] {
+        let token = read_kind(*kind);
+        let frame = frames[innermost(scan.depth)];
         if !fits(scan, frame, token) {
-            return OnTape::Other;
+            return None;
         }
         mark_token(masks, scan, frame, token);
-        let d = deeper(deepest, scan.depth, token);
-        deepest = d;
+        deepest = deeper(deepest, scan.depth, token);
         let next = step_over(scan, frame, token);
-        let stored = next.frame;
-        let place = next.place;
-        frames[place] = stored;
-        let after = next.scan;
-        scan = after;
-        i += 1;
+        frames[next.place] = next.frame;
+        scan = next.scan;
     }
-    if is_ended(scan) {
-        OnTape::Tree(deepest)
-    } else {
-        OnTape::Other
-    }
+    if is_ended(scan) { Some(deepest) } else { None }
 }
 
 // What is marked for the tape. Where it is not a tree's, no mask has a state.
-fn lay_planes(tape: Tape, masks: &mut [u64]) -> OnTape
+fn lay_planes(tape: Tape, masks: &mut [u64]) -> Option<usize>
     requires { length masks.old ≡ 936 }
     ensures told { result ≡ on_tape tape }
     ensures planes { PlanesHold tape masks.new }
 {
-    blank(masks);
+    masks.fill(0);
     let on_tape = scan_tape(tape, masks);
-    if let OnTape::Other = on_tape {
-        blank(masks);
+    if on_tape.is_none() {
+        masks.fill(0);
     }
     on_tape
 }
 
-// Lay out: whether the tape is the tokens of a tree, and how deep that is; letter places and loop places; block, source and target of each depth; and
+// Lay out: how deep the tree is whose tokens are on the tape, or none where they are no tree's within 512 states and depth 8; letter places and loop places; block, source and target of each depth; and
 // source and target of its back edges.
-pub fn lay_out(tape: Tape, masks: &mut [u64; 936]) -> OnTape
+pub fn lay_out(tape: Tape, masks: &mut [u64; 936]) -> Option<usize>
     ensures computed { result ≡ on_tape tape }
     ensures told { OnTapeSays tape result }
     ensures laid { Laid tape masks.new }
@@ -128,11 +99,8 @@ pub fn row_of(masks: &[u64], depth: usize, plane: usize) -> [u64; 8]
     requires { (depth < 9) × (plane < planes) × (length masks.now ≡ 936) }
     ensures { result ≡ row_in masks.now (row_number depth plane) }
 {
+    let at = place_of(depth, plane, 0);
     let mut words = [0u64; 8];
-    let mut j: usize = 0;
-    while j < 8 {
-        words[j] = masks[place_of(depth, plane, j)];
-        j += 1;
-    }
+    words.copy_from_slice(&masks[at..at + 8]);
     words
 }

@@ -1,19 +1,8 @@
 // Masks in a row of words, eight for each: state i is bit i mod 64 of word i/64. For each of nine depths there is one of each plane (`plane`).
-ghost use Rattle.std.specs.Prelude.{◌≡◌, cond, suc, ◌+◌, ◌≤◌, ◌<◌, length, replicate};
+ghost use Rattle.std.specs.Prelude.{◌≡◌, cond, suc, ◌+◌, ◌≤◌, ◌<◌, length};
 ghost use Rattle.tokens_masks.specs.Masks.{edge_in, Joined, planes, run_in};
 
 use crate::plane::{PROPAGATE_BLOCK, place_of};
-
-// No state in any mask.
-pub fn blank(masks: &mut [u64])
-    ensures { masks.new ≡ replicate (length masks.old) 0 }
-{
-    let mut i: usize = 0;
-    while i < masks.len() {
-        masks[i] = 0;
-        i += 1;
-    }
-}
 
 // One more state in the mask of a plane and a depth.
 pub fn mark(masks: &mut [u64], plane: usize, depth: usize, state: usize)
@@ -39,10 +28,8 @@ pub fn mark_run(masks: &mut [u64], plane: usize, depth: usize, from: usize, to: 
     requires { (to ≤ 512) × (plane < planes) × (depth < 9) × (length masks.old ≡ 936) }
     ensures { masks.new ≡ run_in masks.old plane depth from to }
 {
-    let mut state = from;
-    while state < to {
+    for state in from..to {
         mark(masks, plane, depth, state);
-        state += 1;
     }
 }
 
@@ -63,14 +50,12 @@ pub fn join_propagate(masks: &mut [u64])
     requires { length masks.old ≡ 936 }
     ensures { Joined masks.old masks.new }
 {
-    let mut n: usize = 0;
-    while n < 72 {
+    for n in 0..72 {
         let at = place_of(n / 8, PROPAGATE_BLOCK, n % 8);
         let leaving = masks[at + 8];
         let entering = masks[at + 16];
         masks[at] = leaving | entering;
         masks[at + 8] = leaving & !entering;
         masks[at + 16] = entering & !leaving;
-        n += 1;
     }
 }

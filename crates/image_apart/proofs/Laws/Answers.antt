@@ -1,6 +1,6 @@
 -- WHAT TAKE APART ANSWERS, at each of its ways out: a header that fails is none of an image, and of words whose header passes the parts have found what
 -- the model finds.
-use mathlib.Core.Path.{◌≡◌, sym, ap, ◌∙◌, subst}
+use mathlib.Core.Path.{◌≡◌, refl, sym, ap, ◌∙◌, subst}
 use mathlib.Core.List.{List}
 use Prim.Native.Nat.{ℕ, ◌-◌, ◌≤◌}
 use native.Mathlib.Omega.{arith}
@@ -9,8 +9,7 @@ use Rattle.model.specs.Models.Sections.{depth_word, state_word, width_word}
 use Rattle.model.specs.Models.Words.{Fit}
 use Rattle.image_sections.specs.Header.{Headed, header_fits, header_if}
 use Rattle.image_sections.specs.Sections.{Within}
-use Rattle.image_sections.specs.declared.Header.{Header}
-use Rattle.image_sections.specs.declared.Header.TheVariants.{Other, Sound}
+use Rattle.std.specs.Prelude.{Option, None, Some}
 use Rattle.image_sections.specs.declared.Sections.{Sections}
 use Rattle.image_sections.proofs.Laws.Header.{header_is, not_told, own_words, placed, Told, told}
 use Rattle.image_sections.proofs.Laws.Within.{within}
@@ -22,7 +21,7 @@ use Rattle.image_apart.specs.declared.marks.Marks.{Marks}
 use Rattle.image_apart.proofs.Laws.Apart.{apart_is, letters_fit, letters_long, letters_row, shows}
 
 -- a header that fails
-pub refused_says : (ws : List ℕ) {answer : Header} {r : Apart} → answer ≡ header_if (header_fits ws) ws → answer ≡ Other → r.header ≡ Other → ApartSays ws r
+pub refused_says : (ws : List ℕ) {header : Option Sections} {r : Option Apart} → header ≡ header_if (header_fits ws) ws → header ≡ None → r ≡ None → ApartSays ws r
 refused_says ws e f g = no_header (λ H. not_told (header_fits ws) ws e f ((header_is ws).1 H)) g
 
 -- a header that passes: what is asked of the words where they are read
@@ -67,9 +66,9 @@ module _ {ws : List ℕ} {p : Sections} {marks : Marks} {t : Tape} (fit : Fit ws
   }
 
 -- put together from what the parts have answered
-pub taken_says : {ws : List ℕ} {answer : Header} {p : Sections} {marks : Marks} {t : Tape} → Fit ws
-    → answer ≡ header_if (header_fits ws) ws → answer ≡ Sound p → marks ≡ marks_of ws p → ShownBy marks (p.states - 1) t
-    → length t.kinds ≡ 512 → ApartSays ws (record { header = Sound p; letters = marks.letters; tape = t })
+pub taken_says : {ws : List ℕ} {header : Option Sections} {p : Sections} {marks : Marks} {t : Tape} → Fit ws
+    → header ≡ header_if (header_fits ws) ws → header ≡ Some p → marks ≡ marks_of ws p → ShownBy marks (p.states - 1) t
+    → length t.kinds ≡ 512 → ApartSays ws (Some (record { sections = p; letters = marks.letters; tape = t }))
 taken_says {ws} {t = t} f e g q s r =
     let D = told (header_fits ws) ws e g in
-    taken ((header_is ws).0 D.passed) (ap Sound D.own) (letters_are f D q s r) (tape_shown f D q s r)
+    taken ((header_is ws).0 D.passed) _ refl D.own (letters_are f D q s r) (tape_shown f D q s r)

@@ -23,9 +23,9 @@ use Rattle.model.proofs.Image.WellFormed.{well_fine}
 use Rattle.model.proofs.Laws.Bool.{and_both, and_split, is_true}
 use Rattle.model.proofs.Reading.WellFormed.{rule_well}
 use Rattle.tokens_masks.specs.Tapes.{bares, is_tree, on_tape, table_of, TapeOf, tokens_of}
-use Rattle.tokens_masks.specs.declared.OnTape.TheVariants.{Other, Tree}
 use Rattle.tokens_masks.specs.declared.Tape.{Tape}
 use Rattle.tokens_masks.proofs.Bare.{bares_reach, bares_valid}
+use Rattle.std.specs.Prelude.{None, Some}
 use Rattle.image_sections.specs.Header.{Headed}
 use Rattle.image_sections.specs.Sections.{sections_for}
 use Rattle.image_apart.specs.Says.{LettersOf, ShownTape}
@@ -33,15 +33,15 @@ use Rattle.image_check.specs.Work.{same_all, same_back, same_gather, same_propag
 use Rattle.image_check.proofs.Laws.Agree.{back_is, gather_is, letters_is, propagate_is, repeats_is, scatter_is}
 
 -- ---- what well_formed says
-pub on_tape_tree : (t : Tape) (k : ℕ) → on_tape t ≡ Tree k → T (is_tree t) × (reach (tokens_of t) begin ≡ k)
+pub on_tape_tree : (t : Tape) (k : ℕ) → on_tape t ≡ Some k → T (is_tree t) × (reach (tokens_of t) begin ≡ k)
 on_tape_tree t k e = go (is_tree t) e
   where
-    go : (b : Bool) → cond b (Tree (reach (tokens_of t) begin)) Other ≡ Tree k → T b × (reach (tokens_of t) begin ≡ k)
+    go : (b : Bool) → cond b (Some (reach (tokens_of t) begin)) None ≡ Some k → T b × (reach (tokens_of t) begin ≡ k)
     go true e = (tt, cc)
     go false e = let z : ◌≡◌ {A = ℕ} 0 1 = cc in absurd (omega arith)
 
-pub tree_on_tape : (t : Tape) → T (is_tree t) → on_tape t ≡ Tree (reach (tokens_of t) begin)
-tree_on_tape t h = ap (λ (b : Bool). cond b (Tree (reach (tokens_of t) begin)) Other) (is_true (is_tree t) h)
+pub tree_on_tape : (t : Tape) → T (is_tree t) → on_tape t ≡ Some (reach (tokens_of t) begin)
+tree_on_tape t h = ap (λ (b : Bool). cond b (Some (reach (tokens_of t) begin)) None) (is_true (is_tree t) h)
 
 -- ---- words with a header, and what was taken from them
 module _ (ws : List ℕ) (fit : Fit ws) (H : Headed ws) {letters : List ℕ} (L : LettersOf ws letters) {t : Tape} (S : ShownTape ws t) where

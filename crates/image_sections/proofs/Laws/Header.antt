@@ -13,8 +13,7 @@ use Rattle.model.specs.Models.Sections.{back_count, Counted, depth_word, gather_
 use Rattle.model.proofs.Laws.Bool.{and_both, and_split, is_not, is_true}
 use Rattle.image_sections.specs.Header.{counts_fit, Headed, header_fits, header_if, holds, shape_fits}
 use Rattle.image_sections.specs.Sections.{Placed, sections_for, sections_in, sections_of}
-use Rattle.image_sections.specs.declared.Header.{Header}
-use Rattle.image_sections.specs.declared.Header.TheVariants.{Other, Sound}
+use Rattle.std.specs.Prelude.{Option, None, Some}
 use Rattle.image_sections.specs.declared.Sections.{Sections}
 
 equal : (m n : ℕ) → m ≡ n → T (eqb m n)
@@ -209,10 +208,10 @@ headed_placed {ws} H e = record {
 }
 
 -- ---- the answer, by a test
-pub refused : (b : Bool) (ws : List ℕ) → (T b → ⊥) → Other ≡ header_if b ws
+pub refused : (b : Bool) (ws : List ℕ) → (T b → ⊥) → None ≡ header_if b ws
 refused b ws n = ap (λ (t : Bool). header_if t ws) (sym (is_not b n))
 
-pub taken : (b : Bool) (ws : List ℕ) → T b → Sound (sections_in ws) ≡ header_if b ws
+pub taken : (b : Bool) (ws : List ℕ) → T b → Some (sections_in ws) ≡ header_if b ws
 taken b ws t = ap (λ (t : Bool). header_if t ws) (sym (is_true b t))
 
 -- an answer that is a header passed the test, and says what the words say
@@ -220,11 +219,11 @@ pub record Told (b : Bool) (ws : List ℕ) (p : Sections) : Type 0 where
   pub passed : T b
   pub own : p ≡ sections_in ws
 
-pub told : (b : Bool) (ws : List ℕ) {answer : Header} {p : Sections} → answer ≡ header_if b ws → answer ≡ Sound p → Told b ws p
+pub told : (b : Bool) (ws : List ℕ) {answer : Option Sections} {p : Sections} → answer ≡ header_if b ws → answer ≡ Some p → Told b ws p
 told true ws e f = record { passed = tt; own = cc }
 told false ws e f = absurd (let z : ◌≡◌ {A = ℕ} 0 1 = cc in omega arith)
 
-pub not_told : (b : Bool) (ws : List ℕ) {answer : Header} → answer ≡ header_if b ws → answer ≡ Other → T b → ⊥
+pub not_told : (b : Bool) (ws : List ℕ) {answer : Option Sections} → answer ≡ header_if b ws → answer ≡ None → T b → ⊥
 not_told true ws e f t = let z : ◌≡◌ {A = ℕ} 0 1 = cc in omega arith
 not_told false ws e f t = t
 
@@ -239,19 +238,19 @@ pub placed : {ws : List ℕ} {p : Sections} → Told (header_fits ws) ws p → P
 placed {ws} D = headed_placed ((header_is ws).0 D.passed) D.own
 
 -- ---- after the shape the length decides, and then the counts
-pub shape_fails : (ws : List ℕ) → (T (shape_fits ws) → ⊥) → Other ≡ header_if (header_fits ws) ws
+pub shape_fails : (ws : List ℕ) → (T (shape_fits ws) → ⊥) → None ≡ header_if (header_fits ws) ws
 shape_fails ws n = refused (header_fits ws) ws (λ t. n (and_split (shape_fits ws) _ t).0)
 
 module _ {ws : List ℕ} {p : Sections} (K : Told (shape_fits ws) ws p) where
-  pub length_fails : (length ws ≡ p.length → ⊥) → Other ≡ header_if (header_fits ws) ws
+  pub length_fails : (length ws ≡ p.length → ⊥) → None ≡ header_if (header_fits ws) ws
   length_fails n = refused (header_fits ws) ws (λ t. n ((fits_of ws t).long ∙ ap (λ (q : Sections). q.length) (sym K.own)))
 
-  pub counts_fail : counts_fit ws p ≡ false → Other ≡ header_if (header_fits ws) ws
+  pub counts_fail : counts_fit ws p ≡ false → None ≡ header_if (header_fits ws) ws
   counts_fail e = refused (header_fits ws) ws (λ t. subst T (sym (ap (counts_fit ws) K.own) ∙ e) (fits_of ws t).counts)
 
-  pub header_passes : length ws ≡ p.length → counts_fit ws p ≡ true → Sound p ≡ header_if (header_fits ws) ws
+  pub header_passes : length ws ≡ p.length → counts_fit ws p ≡ true → Some p ≡ header_if (header_fits ws) ws
   header_passes l e =
-      ap Sound K.own
+      ap Some K.own
       ∙ taken (header_fits ws) ws (header-fits ws (record {
         shape = shape_of ws K.passed;
         long = l ∙ ap (λ (q : Sections). q.length) K.own;

@@ -7,7 +7,7 @@ use Rattle.tokens.proofs.after_close.Goals as goal
 pub returns : goal.returns
 returns c =
     let a = c.args in
-    let o = c.can_omit-omits in
+    let o = c.can_omit in
     record {
       inside = omega (arith, c.requires.1.1);
       steps = λ fs l I. closed_scan a.scan fs a.frame I c.requires.1.0 a.frame (mark_of a.mark) o.result o.ensures;

@@ -1,9 +1,6 @@
 -- `step_over`: a token that fits is within the limits that its step asks for (`ready_depth` and its like), and each kind of token has its step.
-use mathlib.Core.Path.{sym, subst}
 use Rattle.tokens.proofs.Scans.{ready_bar, ready_close, ready_depth, ready_open}
-use Rattle.tokens.specs.Scans.{Known, StepSays, with_frames}
-use Rattle.tokens.specs.Tokens.{token_of}
-use Rattle.tokens.specs.declared.token.Token.{Token}
+use Rattle.tokens.specs.Scans.{with_frames}
 use Rattle.tokens.proofs.step_over.Goals as goal
 
 pub after_letter-requires : goal.after_letter-requires

@@ -1,7 +1,4 @@
 -- `counts_fit`: the tests are those of `counts_fit`, each made where those before it passed.
-use mathlib.Core.Path.{refl, ◌∙◌}
-use borrow.Author.Tests.{eq-eqb, ne_eqb}
-use Rattle.image_sections.proofs.Laws.Header.{both, counts_are, here, stops}
 use Rattle.image_sections.proofs.Laws.Within.{backs_fit, chains_fit, unions_fit}
 use Rattle.image_sections.proofs.reader.counts_fit.Goals as goal
 

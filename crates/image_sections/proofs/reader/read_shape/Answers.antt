@@ -1,11 +1,8 @@
 -- `read_shape`: each refusal is a test of `shape_fits` that fails.
 use native.Mathlib.Omega.{arith}
-use mathlib.Core.Path.{ap, ◌∙◌}
-use mathlib.Core.Logic.{⊎_elim}
-use borrow.Author.Tests.{ltb-false, ltb-true}
+use borrow.Author.Tests.{ltb-false}
 use Rattle.image_sections.specs.Header.{shape_fits}
-use Rattle.image_sections.specs.declared.Header.TheVariants.{Sound}
-use Rattle.image_sections.proofs.Laws.Header.{refused, shape-fits, shape_of, taken}
+use Rattle.image_sections.proofs.Laws.Header.{refused, shape_of}
 use Rattle.image_sections.proofs.reader.read_shape.Goals as goal
 
 pub returns-then-words-lt4 : goal.returns-then-words-lt4

@@ -29,9 +29,7 @@ fn returns(first: u64, depth: usize, backs: &[u64; 16]) -> u64
     ensures { Returned backs.now depth first result }
 {
     let mut r = first;
-    let mut k = depth;
-    while k > 0 {
-        k -= 1;
+    for k in (0..depth).rev() {
         r = return_at(first, r, k, backs);
     }
     r

@@ -43,11 +43,9 @@ fn rise(live: u64, depth: usize, any: bool, table: &[u64; 81]) -> u64
     ensures { Risen any table.now depth live result }
 {
     let mut r = live;
-    let mut k = depth;
-    while k > 0 {
-        let moved = along_at(r, k, any, table);
-        r = gather_at(moved, k, table);
-        k -= 1;
+    for k in (0..depth).rev() {
+        let moved = along_at(r, k + 1, any, table);
+        r = gather_at(moved, k + 1, table);
     }
     r
 }
@@ -58,11 +56,9 @@ fn fall(live: u64, depth: usize, any: bool, table: &[u64; 81]) -> u64
     ensures { Fallen any table.now depth live result }
 {
     let mut r = live;
-    let mut k = 0;
-    while k < depth {
+    for k in 0..depth {
         let started = scatter_at(r, k + 1, table);
         r = along_at(started, k + 1, any, table);
-        k += 1;
     }
     r
 }

@@ -1,6 +1,6 @@
 // The run over a stretch of bytes, from any live states and any place, for a rule of at most 64 states. The loop stands once: where it is called with
 // the depth and the presence of chains as literals, the compiler makes a loop of its own for them.
-ghost use Rattle.std.specs.Prelude.{◌≡◌, ◌<◌, ◌≤◌, true, false, [], ◌∷◌, length};
+ghost use Rattle.std.specs.Prelude.{◌≡◌, ◌<◌, ◌≤◌, [], ◌∷◌, length};
 ghost use Rattle.model.specs.Bits.{bit};
 ghost use Rattle.model.specs.Models.Sections.{repeat_place};
 ghost use Rattle.model.specs.Models.Words.{value};
@@ -57,12 +57,15 @@ fn over(
 {
     let mut live = first;
     let mut total = found;
-    let mut p: usize = 0;
-    while p < stretch.len() {
-        let on = moved(live, image, stretch[p]);
+    for (p, byte) in stretch.iter().enumerate() {
+        let on = moved(live, image, *byte);
         live = pass(on, depth, any, block, below, target, table);
-        p += 1;
-        total = note(ends, total, (place + p as u64) as u32, is_live(live, last));
+        total = note(
+            ends,
+            total,
+            (place + (p as u64 + 1)) as u32,
+            is_live(live, last),
+        );
     }
     Ran {
         live,
@@ -70,8 +73,8 @@ fn over(
     }
 }
 
-// The loop for depths 0 and 1 with and without chains; for depth 2 with chains.
-fn over_0(
+// The loop for one depth and for rules with chains or without: what the compiler makes of it has both as literals.
+fn over_fixed<const DEPTH: usize, const ANY: bool>(
     image: &[u64],
     stretch: &[u8],
     ends: &mut [u32],
@@ -82,96 +85,12 @@ fn over_0(
     target: u64,
     table: &[u64; 81],
 ) -> Ran
-    requires { Overs image.now stretch.now from last }
-    ensures { RanFrom (table_masks image.now true block below target table.now []) 0 last stretch.now from
+    requires { Overs image.now stretch.now from last × (DEPTH ≤ 8) }
+    ensures { RanFrom (table_masks image.now ANY block below target table.now []) DEPTH last stretch.now from
         ends.old result ends.new }
 {
     over(
-        image, stretch, ends, from.live, from.place, from.found, last, 0, true, block, below,
-        target, table,
-    )
-}
-
-fn over_0_plain(
-    image: &[u64],
-    stretch: &[u8],
-    ends: &mut [u32],
-    from: From,
-    last: usize,
-    block: u64,
-    below: u64,
-    target: u64,
-    table: &[u64; 81],
-) -> Ran
-    requires { Overs image.now stretch.now from last }
-    ensures { RanFrom (table_masks image.now false block below target table.now []) 0 last stretch.now from
-        ends.old result ends.new }
-{
-    over(
-        image, stretch, ends, from.live, from.place, from.found, last, 0, false, block, below,
-        target, table,
-    )
-}
-
-fn over_1(
-    image: &[u64],
-    stretch: &[u8],
-    ends: &mut [u32],
-    from: From,
-    last: usize,
-    block: u64,
-    below: u64,
-    target: u64,
-    table: &[u64; 81],
-) -> Ran
-    requires { Overs image.now stretch.now from last }
-    ensures { RanFrom (table_masks image.now true block below target table.now []) 1 last stretch.now from
-        ends.old result ends.new }
-{
-    over(
-        image, stretch, ends, from.live, from.place, from.found, last, 1, true, block, below,
-        target, table,
-    )
-}
-
-fn over_1_plain(
-    image: &[u64],
-    stretch: &[u8],
-    ends: &mut [u32],
-    from: From,
-    last: usize,
-    block: u64,
-    below: u64,
-    target: u64,
-    table: &[u64; 81],
-) -> Ran
-    requires { Overs image.now stretch.now from last }
-    ensures { RanFrom (table_masks image.now false block below target table.now []) 1 last stretch.now from
-        ends.old result ends.new }
-{
-    over(
-        image, stretch, ends, from.live, from.place, from.found, last, 1, false, block, below,
-        target, table,
-    )
-}
-
-fn over_2(
-    image: &[u64],
-    stretch: &[u8],
-    ends: &mut [u32],
-    from: From,
-    last: usize,
-    block: u64,
-    below: u64,
-    target: u64,
-    table: &[u64; 81],
-) -> Ran
-    requires { Overs image.now stretch.now from last }
-    ensures { RanFrom (table_masks image.now true block below target table.now []) 2 last stretch.now from
-        ends.old result ends.new }
-{
-    over(
-        image, stretch, ends, from.live, from.place, from.found, last, 2, true, block, below,
+        image, stretch, ends, from.live, from.place, from.found, last, DEPTH, ANY, block, below,
         target, table,
     )
 }
@@ -194,15 +113,13 @@ fn over_back(
 {
     let mut live = from.live;
     let mut total = from.found;
-    let mut p: usize = 0;
-    while p < stretch.len() {
-        let next = moved(live, image, stretch[p]);
+    for (p, byte) in stretch.iter().enumerate() {
+        let next = moved(live, image, *byte);
         live = close(next, depth, any, table, backs);
-        p += 1;
         total = note(
             ends,
             total,
-            (from.place + p as u64) as u32,
+            (from.place + (p as u64 + 1)) as u32,
             is_live(live, last),
         );
     }
@@ -231,25 +148,25 @@ fn run_plain(
     let block = t[6];
     let below = t[7];
     let target = t[8];
-    if depth == 0 {
-        if any {
-            return over_0(image, stretch, ends, from, last, block, below, target, &t);
+    match (depth, any) {
+        (0, true) => {
+            over_fixed::<0, true>(image, stretch, ends, from, last, block, below, target, &t)
         }
-        return over_0_plain(image, stretch, ends, from, last, block, below, target, &t);
-    }
-    if depth == 1 {
-        if any {
-            return over_1(image, stretch, ends, from, last, block, below, target, &t);
+        (0, false) => {
+            over_fixed::<0, false>(image, stretch, ends, from, last, block, below, target, &t)
         }
-        return over_1_plain(image, stretch, ends, from, last, block, below, target, &t);
+        (1, true) => {
+            over_fixed::<1, true>(image, stretch, ends, from, last, block, below, target, &t)
+        }
+        (1, false) => {
+            over_fixed::<1, false>(image, stretch, ends, from, last, block, below, target, &t)
+        }
+        (2, _) => over_fixed::<2, true>(image, stretch, ends, from, last, block, below, target, &t),
+        _ => over(
+            image, stretch, ends, from.live, from.place, from.found, last, depth, any, block,
+            below, target, &t,
+        ),
     }
-    if depth == 2 {
-        return over_2(image, stretch, ends, from, last, block, below, target, &t);
-    }
-    over(
-        image, stretch, ends, from.live, from.place, from.found, last, depth, any, block, below,
-        target, &t,
-    )
 }
 
 // With or without back edges: a rule without one pays nothing for them after this.

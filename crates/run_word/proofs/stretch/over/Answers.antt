@@ -9,38 +9,14 @@ use Rattle.run_word.proofs.stretch.over.Goals as goal
 pub loop-p-init : goal.loop-p-init
 loop-p-init c = since_now _ _ _ _ _ _ _ _ 0 (omega arith) (omega (arith, c.requires.3.few))
 
-pub moved-on-requires : goal.moved-on-requires
-moved-on-requires c = c.requires.0
-
-pub pass-live-requires : goal.pass-live-requires
-pass-live-requires c = c.requires.2
-
-pub overflow_add-p : goal.overflow_add-p
-overflow_add-p c = omega (arith, c.loop-p-test.true, c.requires.3.small)
-
-pub overflow_add-place : goal.overflow_add-place
-overflow_add-place c = omega (arith, c.loop-p-test.true, c.requires.3.near)
-
-pub overflow_cast-place : goal.overflow_cast-place
-overflow_cast-place c = omega (arith, c.loop-p-test.true, c.requires.3.near)
-
-pub is_live-requires : goal.is_live-requires
-is_live-requires c = c.requires.1
-
-pub loop-p-smaller : goal.loop-p-smaller
-loop-p-smaller c = omega (arith, c.loop-p-test.true)
-
 pub loop-p-preserved : goal.loop-p-preserved
 loop-p-preserved c =
     let a = c.args in
     let ws = a.image.now in
-    at_next _ _ _ _ _ c.requires.3.small (c.pass-live.result ∷ []) c.loop-p.invariant c.loop-p-test.true
+    at_next _ _ _ _ _ c.requires.3.small (c.pass-live.result ∷ []) c.loop-p.invariant (omega arith)
     (c.pass-live.ensures ws [] ∙ no_edges ws a.any a.block a.below a.target a.table.now a.depth c.moved-on.result
     ∙ ap (close_words (table_masks ws a.any a.block a.below a.target a.table.now []) a.depth) c.moved-on.ensures) c.is_live.result c.is_live.ensures
     c.note-total.ensures.counted c.note-total.ensures.written
 
-pub shape_of-ends : goal.shape_of-ends
-shape_of-ends c = c.loop-p.invariant.long
-
 pub returns : goal.returns
-returns c = let l = c.loop-p in at_end _ _ _ _ _ 1 _ _ _ (l.live ∷ []) l.invariant c.loop-p-test.false
+returns c = let l = c.loop-p in at_end _ _ _ _ _ 1 _ _ _ (l.live ∷ []) l.invariant (omega arith)

@@ -9,7 +9,7 @@ use lib.Dec.{T, eqb, eqb_refl, eqb→eq, leb, leb→le, le→leb}
 use lib.ListN.{get_or, length}
 use Rattle.model.specs.Image.{width}
 use Rattle.model.specs.Models.Sections.{back_count, Counted, depth_word, gather_count, image_length, letters_count, propagate_count, repeats_count, scatter_count, state_word, width_word}
-use Rattle.model.proofs.Laws.Bool.{and_both, and_split, is_not, is_true}
+use Rattle.model.proofs.Laws.Bool.{and_both, and_split}
 use Rattle.image_sections.specs.Header.{counts_fit, Headed, header_fits, header_if, holds, shape_fits}
 use Rattle.image_sections.specs.Sections.{Placed, sections_for, sections_in, sections_of}
 use Rattle.std.specs.Prelude.{Option, None, Some}
@@ -176,12 +176,6 @@ headed_placed {ws} H e = record {
 }
 
 -- ---- the answer, by a test
-pub refused : (b : Bool) (ws : List ℕ) → (T b → ⊥) → None ≡ header_if b ws
-refused b ws n = ap (λ (t : Bool). header_if t ws) (sym (is_not b n))
-
-pub taken : (b : Bool) (ws : List ℕ) → T b → Some (sections_in ws) ≡ header_if b ws
-taken b ws t = ap (λ (t : Bool). header_if t ws) (sym (is_true b t))
-
 -- an answer that is a header passed the test, and says what the words say
 pub record Told (b : Bool) (ws : List ℕ) (p : Sections) : Type 0 where
   pub passed : T b

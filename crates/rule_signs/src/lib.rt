@@ -53,7 +53,7 @@ fn read_third(rule: &[u8], at: usize, least: usize, v: usize) -> Result<(usize, 
     Ok((v, at))
 }
 
-// At most a second and a third digit, after v.
+// At most a second and a third digit, after v. Not one function with the third digit alone: each has its own bound on what may still follow.
 fn read_second(rule: &[u8], at: usize, least: usize, v: usize) -> Result<(usize, usize), Unreadable>
     requires { (at ≤ length rule.now) × (v ≤ 9) }
     ensures { NumberSays rule.now (read_digits 2 least v (drop at rule.now)) result }

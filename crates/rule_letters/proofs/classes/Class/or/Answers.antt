@@ -3,12 +3,12 @@ use mathlib.Core.Path.{refl}
 use Rattle.rule_letters.specs.Classes.{bytes_of, words_of}
 use Rattle.rule_letters.proofs.Laws.Classes.{or_value}
 use native.Mathlib.Omega.{arith}
-use Rattle.rule_letters.proofs.classes.or.Goals as goal
+use Rattle.rule_letters.proofs.classes.Class.or.Goals as goal
 
 pub returns : goal.returns
 unfolding bytes_of
 returns c =
     let s = c.args in
-    or_value (words_of s.a) (words_of s.b) refl refl
+    or_value (words_of s.self) (words_of s.other) refl refl
     (omega arith, (omega arith, (omega arith, (omega arith, tt))))
     (omega arith, (omega arith, (omega arith, (omega arith, tt))))

@@ -2,7 +2,7 @@
 use mathlib.Core.Path.{sym, ◌∙◌}
 use Rattle.rule_letters.specs.Classes.{bytes_of}
 use Rattle.rule_letters.proofs.Laws.Classes.{span_none, span_of}
-use Rattle.rule_letters.proofs.classes.span.Goals as goal
+use Rattle.rule_letters.proofs.classes.Class.span.Goals as goal
 
 pub returns-then-last-first : goal.returns-then-last-first
 returns-then-last-first c = c.none.ensures ∙ sym (span_none c.args.lo c.args.hi c.if-last-first.true)

@@ -15,7 +15,6 @@ use crate::groups::bracket;
 use crate::parts::Part;
 use crate::readers::read_alternatives;
 use answers::Refusal;
-use rule_bytes::Unreadable;
 
 // The tree of a rule: how many states it has, and its tokens, five words for each, with 0 after them.
 #[derive(Clone, Copy)]
@@ -46,10 +45,8 @@ pub fn read_rule(rule: &[u8]) -> Result<Tree, Refusal>
         return Err(Refusal::RuleTooLong);
     }
     let mut tokens = [0; 2555];
-    let alternatives = match read_alternatives(rule, 0, &mut tokens, 0) {
-        Ok(alternatives) => alternatives,
-        Err(Unreadable(place)) => return Err(Refusal::NotARule(place)),
-    };
+    let read = read_alternatives(rule, 0, &mut tokens, 0);
+    let alternatives = read.map_err(|e| Refusal::NotARule(e.0))?;
     let whole = bracket(&mut tokens, alternatives);
     let states = count_states(whole, rule.len())?;
     Ok(Tree { states, tokens })

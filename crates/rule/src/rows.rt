@@ -17,19 +17,12 @@ use rule_signs::HowOften;
 use tokens::kind::{ONCE, OPEN, OPTION, mark_kind, repeat_kind};
 use tokens::token::Mark;
 
-// How many words there is room for: behind a reference to an array only the slice of all of it tells its length.
-fn room(tokens: &[u64]) -> usize
-    ensures { result ≡ length tokens.now }
-{
-    tokens.len()
-}
-
 // Token n, and the number of the token after it.
 pub fn put_token(tokens: &mut [u64; 2555], n: usize, kind: u8, class: Class) -> usize
     ensures count { result ≡ cut (n + 1) }
     ensures written { tokens.new ≡ sets tokens.old (5 * n) (kind ∷ words_of class) }
 {
-    if n >= room(tokens) / 5 {
+    if n >= tokens.len() / 5 {
         return 512;
     }
     let at = 5 * n;
@@ -67,7 +60,7 @@ fn shift(tokens: &mut [u64; 2555], from: usize, to: usize, by: usize)
     requires { Numbered from to × (by ≤ 512) }
     ensures { tokens.new ≡ copied tokens.old from (to - from) by }
 {
-    let all = room(tokens);
+    let all = tokens.len();
     let gap = 5 * by;
     let mut i = if to + by < all / 5 { 5 * to + gap } else { all };
     let stop = 5 * from + gap;
@@ -104,7 +97,7 @@ pub fn double(tokens: &mut [u64; 2555], from: usize, to: usize) -> usize
 {
     let count = to - from;
     shift(tokens, from, to, count);
-    if to + count > 512 { 512 } else { to + count }
+    (to + count).min(512)
 }
 
 // A letter with its repeat sign, from token n on, and the number of the token after it.

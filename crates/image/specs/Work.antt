@@ -8,6 +8,7 @@ use Rattle.model.specs.Models.LayOut.{set as statesIn}
 use Rattle.model.specs.Models.Words.{and_words}
 use Rattle.image_sections.specs.declared.Sections.{Sections}
 use Rattle.tokens.specs.Kinds.{kind_in}
+use Rattle.tokens_masks.specs.Masks.{row_in, row_number}
 use Rattle.tokens_masks.specs.Tables.{Table}
 use Rattle.tokens_masks.specs.Tapes.{propagate_block_table, propagate_source_table, propagate_target_table, table_of}
 use Rattle.tokens_masks.specs.declared.Tape.{Tape}
@@ -57,6 +58,10 @@ letters_part width row n = section (join 256 0 (λ b. take width (letter_row row
 
 abbrev pub repeats_part : ℕ → List ℕ → ℕ → List ℕ → List ℕ
 repeats_part width row n loops = section (join 256 0 (λ b. take width (repeat_row row n loops b)))
+
+-- of the masks that lay out lends, `count` rows of depth k: those of plane `first` and of the planes after it
+abbrev pub depth_masks : (W first count : ℕ) (masks : List ℕ) → ℕ → List ℕ
+depth_masks W first count masks k = join count 0 (λ i. take W (row_in masks (row_number k (first + i))))
 
 abbrev pub three_rows : ℕ → List ℕ → List ℕ → List ℕ → List ℕ
 three_rows width block source target = take width block ++ (take width source ++ take width target)

@@ -1,19 +1,8 @@
 // The masks of bytes: the states that a byte's letters lead to, and those of them with a loop. They are written where they will stand:
 // the bytes of a word of a class are 64 rows, which begin empty and get their states token by token.
-ghost use Rattle.std.specs.Prelude.{◌≡◌, ◌+◌, ◌-◌, ◌*◌, ◌≤◌, ◌<◌, length as length_of, replicate};
+ghost use Rattle.std.specs.Prelude.{◌≡◌, ◌+◌, ◌-◌, ◌*◌, ◌≤◌, ◌<◌, length as length_of};
 ghost use Rattle.std.proofs.lemmas.List.Edits.{sets};
 ghost use Rattle.image.specs.Work.{both_part, both_row, letters_part, quarter_part, with_state};
-
-fn clear(words: &mut [u64], at: usize, count: usize)
-    requires { at + count ≤ length_of words.old }
-    ensures { words.new ≡ sets words.old at (replicate count 0) }
-{
-    let mut j: usize = 0;
-    while j < count {
-        words[at + j] = 0;
-        j += 1;
-    }
-}
 
 // The state's bit in the rows of those bytes that the word of a class has.
 fn put_state(words: &mut [u64], at: usize, width: usize, class: u64, state: usize)
@@ -21,13 +10,11 @@ fn put_state(words: &mut [u64], at: usize, width: usize, class: u64, state: usiz
     ensures { words.new ≡ with_state 64 width class state at words.old }
 {
     let one: u64 = 1 << (state % 64);
-    let mut b: usize = 0;
-    while b < 64 {
+    for b in 0..64 {
         if (class >> b) & 1 == 1 {
             let place = at + width * b + state / 64;
-            words[place] = words[place] | one;
+            words[place] |= one;
         }
-        b += 1;
     }
 }
 
@@ -43,14 +30,12 @@ fn put_quarter(
     requires { (width ≤ 8) × (at + 64 * width ≤ length_of words.old) × (length ≤ 511) × (length < 64 * width) × (q < 4) }
     ensures { words.new ≡ sets words.old at (quarter_part width tokens.now length q) }
 {
-    clear(words, at, 64 * width);
-    let mut i: usize = 0;
-    while i < length {
+    words[at..at + 64 * width].fill(0);
+    for i in 0..length {
         let class = tokens[5 * i + 1 + q];
         if class != 0 {
             put_state(words, at, width, class, i + 1);
         }
-        i += 1;
     }
 }
 
@@ -60,10 +45,8 @@ pub fn put_letters(words: &mut [u64], at: usize, width: usize, tokens: &[u64; 25
     ensures { words.new ≡ sets words.old (at - 1) (letters_part width tokens.now length) }
 {
     words[at - 1] = (256 * width) as u64;
-    let mut q: usize = 0;
-    while q < 4 {
+    for q in 0..4 {
         put_quarter(words, at + 64 * width * q, width, tokens, length, q);
-        q += 1;
     }
 }
 
@@ -72,10 +55,8 @@ fn put_both(words: &mut [u64], from: usize, at: usize, width: usize, loops: [u64
     requires { (width ≤ 8) × (from + width ≤ at) × (at + width ≤ length_of words.old) }
     ensures { words.new ≡ sets words.old at (both_row width words.old from loops) }
 {
-    let mut j: usize = 0;
-    while j < width {
+    for j in 0..width {
         words[at + j] = words[from + j] & loops[j];
-        j += 1;
     }
 }
 
@@ -85,9 +66,7 @@ pub fn put_repeats(words: &mut [u64], from: usize, at: usize, width: usize, loop
     ensures { words.new ≡ sets words.old (at - 1) (both_part width words.old from loops) }
 {
     words[at - 1] = (256 * width) as u64;
-    let mut b: usize = 0;
-    while b < 256 {
+    for b in 0..256 {
         put_both(words, from + width * b, at + width * b, width, loops);
-        b += 1;
     }
 }

@@ -11,10 +11,8 @@ pub fn tape_of(tokens: [u64; 2555], length: usize) -> Tape
     ensures kinds { KindsAre tokens result.kinds }
 {
     let mut kinds = [0u8; 512];
-    let mut i: usize = 0;
-    while i < 511 {
+    for i in 0..511 {
         kinds[i] = kind_in(tokens[5 * i]);
-        i += 1;
     }
     Tape { kinds, length }
 }

@@ -12,24 +12,17 @@ ghost use Rattle.rule_signs.specs.Repeats.{Bounded};
 ghost use Rattle.tokens.specs.Rows.{token_words};
 ghost use Rattle.rule.specs.Tokens.{copied, cut, enclosed, Numbered, opened, Stands, times_words};
 
-use rule_letters::{Class, none};
+use rule_letters::Class;
 use rule_signs::HowOften;
 use tokens::kind::{ONCE, OPEN, OPTION, mark_kind, repeat_kind};
 use tokens::token::Mark;
-
-// How many words there is room for: behind a reference to an array only the slice of all of it tells its length.
-fn room(tokens: &[u64]) -> usize
-    ensures { result ≡ length tokens.now }
-{
-    tokens.len()
-}
 
 // Token n, and the number of the token after it.
 pub fn put_token(tokens: &mut [u64; 2555], n: usize, kind: u8, class: Class) -> usize
     ensures count { result ≡ cut (n + 1) }
     ensures written { tokens.new ≡ sets tokens.old (5 * n) (kind ∷ words_of class) }
 {
-    if n >= room(tokens) / 5 {
+    if n >= tokens.len() / 5 {
         return 512;
     }
     let at = 5 * n;
@@ -46,7 +39,7 @@ pub fn put_union(tokens: &mut [u64; 2555], n: usize, kind: u8) -> usize
     ensures count { result ≡ cut (n + 1) }
     ensures written { tokens.new ≡ sets tokens.old (5 * n) (kind ∷ words 4 0) }
 {
-    put_token(tokens, n, kind, none())
+    put_token(tokens, n, kind, Class::none())
 }
 
 // The token n and those after it up to n + count - 1, all alike, and the number of the token after them.
@@ -56,10 +49,8 @@ fn put_many(tokens: &mut [u64; 2555], n: usize, count: usize, kind: u8, class: C
     ensures written { tokens.new ≡ sets tokens.old (5 * n) (times_words count (kind ∷ words_of class)) }
 {
     let mut next = n;
-    let mut i: usize = 0;
-    while i < count {
+    for _ in 0..count {
         next = put_token(tokens, next, kind, class);
-        i += 1;
     }
     next
 }
@@ -69,7 +60,7 @@ fn shift(tokens: &mut [u64; 2555], from: usize, to: usize, by: usize)
     requires { Numbered from to × (by ≤ 512) }
     ensures { tokens.new ≡ copied tokens.old from (to - from) by }
 {
-    let all = room(tokens);
+    let all = tokens.len();
     let gap = 5 * by;
     let mut i = if to + by < all / 5 { 5 * to + gap } else { all };
     let stop = 5 * from + gap;
@@ -106,7 +97,7 @@ pub fn double(tokens: &mut [u64; 2555], from: usize, to: usize) -> usize
 {
     let count = to - from;
     shift(tokens, from, to, count);
-    if to + count > 512 { 512 } else { to + count }
+    (to + count).min(512)
 }
 
 // A letter with its repeat sign, from token n on, and the number of the token after it.

@@ -6,7 +6,8 @@ use mathlib.Core.List.{List}
 use Prim.Native.Nat.{ℕ, ◌+◌, ◌-◌, ◌≤◌, ◌<◌}
 use native.Mathlib.Omega.{arith}
 use lib.Dec.{T}
-use lib.ListN.{get_or, length, length-set, set}
+use lib.ListN.{get_or, length, length-set, set, take}
+use lib.Seq.{get_or-take, length-take-le}
 use Rattle.std.specs.Prelude.{Option, None, Some, is_some}
 use Rattle.model.specs.Models.LayOut.{begin, check, number, reach, strokes, Plane}
 use Rattle.tokens_masks.specs.Masks.{Blank, paint, table_in}
@@ -27,6 +28,10 @@ use Rattle.tokens_masks.proofs.Reaching.{Reaching, reaching_begin, reaching_end,
 use Rattle.tokens_masks.proofs.Within.{strokes_within}
 
 -- ---- the loop
+-- what it goes over, the kinds on the tape
+abbrev pub kinds_on : Tape → List ℕ
+kinds_on t = take t.length t.kinds
+
 pub record Scanning (t : Tape) (ms : List ℕ) (fs : List Frame) (q : Scan) (deepest i : ℕ) : Type 0 where
   pub nine : length fs ≡ 9
   pub long : length ms ≡ 936
@@ -56,23 +61,35 @@ module _ {t : Tape} {ms : List ℕ} {fs : List Frame} {q : Scan} {deepest i : �
   not_tree : is_tree t ≡ false → (None ≡ on_tape t) × ScanLays t ms
   not_tree e = (sym (ap (λ (b : Bool). cond b (Some (reach (tokens_of t) begin)) None) e), record { long = S.long; held = λ z w. absurd (subst T e z) })
 
-  module _ (h : t.length ≤ i) where
+  all_on : length (kinds_on t) ≡ t.length
+  all_on = length-take-le t.length t.kinds (omega (arith, S.along.whole, S.along.short))
+
+  module _ (end : length (kinds_on t) ≤ i) where
+    past : t.length ≤ i
+    past = omega (arith, all_on)
+
     pub scanning_other : is_ended (with_frames q fs) ≡ false → (None ≡ on_tape t) × ScanLays t ms
-    scanning_other e = not_tree (along_end t (with_frames q fs) i S.along h ∙ e)
+    scanning_other e = not_tree (along_end t (with_frames q fs) i S.along past ∙ e)
 
     pub scanning_tree : is_ended (with_frames q fs) ≡ true → (Some deepest ≡ on_tape t) × ScanLays t ms
     scanning_tree e =
-        let is = along_end t (with_frames q fs) i S.along h ∙ e in (
-          sym (ap₂ (λ (b : Bool) (d : ℕ). cond b (Some d) None) is (reaching_end t (with_frames q fs) i S.along deepest S.reaching h)),
+        let is = along_end t (with_frames q fs) i S.along past ∙ e in (
+          sym (ap₂ (λ (b : Bool) (d : ℕ). cond b (Some d) None) is (reaching_end t (with_frames q fs) i S.along deepest S.reaching past)),
           record {
             long = S.long;
             held = λ z w. sym (ap (λ (b : Bool). cond b (paint_all (tokens_of t) begin w blank) blank) is
-                ∙ painting_end t (with_frames q fs) i S.along w (table_in ms (number w)) (S.painting w) h);
+                ∙ painting_end t (with_frames q fs) i S.along w (table_in ms (number w)) (S.painting w) past);
           },
         )
 
   -- at the token y, with the innermost frame
-  module _ {y : Token} {top : Frame} (h : i < t.length) (e : y ≡ read_kind (get_or t.kinds i 0)) (I : Innermost q top fs) where
+  module _ {y : Token} {top : Frame} (on : i < length (kinds_on t)) (kind : y ≡ read_kind (get_or (kinds_on t) i 0)) (I : Innermost q top fs) where
+    h : i < t.length
+    h = omega (arith, all_on)
+
+    e : y ≡ read_kind (get_or t.kinds i 0)
+    e = kind ∙ ap read_kind (get_or-take t.length t.kinds i 0 h)
+
     pub scanning_misfit : check (token_of y) (scan_of (with_frames q fs)) ≡ false → (None ≡ on_tape t) × ScanLays t ms
     scanning_misfit f = not_tree (along_misfit t (with_frames q fs) i S.along y h e f)
 
@@ -88,7 +105,7 @@ module _ {t : Tape} {ms : List ℕ} {fs : List Frame} {q : Scan} {deepest i : �
           let stepped = N.steps fs S.nine I in
           let A = S.along in
           let ss = strokes (token_of y) (scan_of known) in
-          let W = strokes_within (token_of y) (scan_of known) A.sane (omega (arith, A.at, A.short)) in
+          let W = strokes_within (token_of y) (scan_of known) A.sane (omega (arith, A.at, A.short, h)) in
           record {
             nine = length-set fs n.place n.frame ∙ S.nine;
             long = ap length P ∙ paint_long ss ms ∙ S.long;

@@ -46,33 +46,23 @@ fn scan_tape(tape: Tape, masks: &mut [u64]) -> Option<usize>
     ensures told { result ≡ on_tape tape }
     ensures masks { ScanLays tape masks.new }
 {
-    let kinds = tape.kinds;
-    let length = tape.length;
-    if length > 511 {
+    if tape.length > 511 {
         return None;
     }
-    let none = no_frame();
-    let mut frames = [none; 9];
+    let mut frames = [no_frame(); 9];
     let mut scan = begin_scan();
     let mut deepest: usize = 0;
-    let mut i: usize = 0;
-    while i < length {
-        let token = read_kind(kinds[i]);
-        let top = innermost(scan.depth);
-        let frame = frames[top];
+    for kind in &tape.kinds[..tape.length] {
+        let token = read_kind(*kind);
+        let frame = frames[innermost(scan.depth)];
         if !fits(scan, frame, token) {
             return None;
         }
         mark_token(masks, scan, frame, token);
-        let d = deeper(deepest, scan.depth, token);
-        deepest = d;
+        deepest = deeper(deepest, scan.depth, token);
         let next = step_over(scan, frame, token);
-        let stored = next.frame;
-        let place = next.place;
-        frames[place] = stored;
-        let after = next.scan;
-        scan = after;
-        i += 1;
+        frames[next.place] = next.frame;
+        scan = next.scan;
     }
     if is_ended(scan) { Some(deepest) } else { None }
 }

@@ -1,4 +1,5 @@
 // Planes: for each depth one mask of each, by these numbers, and where they lie in the words. Letter and loop places have depth 0 alone.
+// No enum: they are places of rows, and are counted on from a section's first mask to its second and third (`mark_edge`, `row_of(masks, depth, block + 1)`).
 ghost use Rattle.std.specs.Prelude.{◌≡◌, ◌<◌};
 ghost use Rattle.tokens_masks.specs.Masks.{place_of, planes};
 

@@ -16,37 +16,32 @@ ghost use Rattle.writing.specs.Work.{bytes_after, range_text, written_if};
 
 use crate::own::own_marks;
 use crate::ranges::write_tokens;
-use answers::{Answer, Refusal};
-use image_check::{Verdict, check};
+use answers::Refusal;
+use image_check::check;
 use image_sections::Sections;
 use tokens_masks::Tape;
 
 // The writing of an image, from its tape with each union's own mark.
-fn write(words: &[u64], sections: Sections, tape: Tape, bytes: &mut [u8]) -> Answer
+fn write(words: &[u64], sections: Sections, tape: Tape, bytes: &mut [u8]) -> Result<usize, Refusal>
     requires { Placed words.now sections × (tape.length < sections.states) }
     ensures answer { result ≡ written_if (range_text words.now sections.width tape.kinds tape.length 0) bytes.old }
     ensures written { bytes.new ≡ bytes_after (range_text words.now sections.width tape.kinds tape.length 0) bytes.old }
 {
-    let kinds = tape.kinds;
-    let length = tape.length;
-    let size = write_tokens(words, sections, &kinds, length, &mut bytes[0..0]);
+    let size = write_tokens(words, sections, &tape.kinds, tape.length, &mut bytes[0..0]);
     if bytes.len() < size {
-        return Answer::Refused(Refusal::NoRoomForWriting);
+        return Err(Refusal::NoRoomForWriting);
     }
-    write_tokens(words, sections, &kinds, length, bytes);
-    Answer::Done(size)
+    write_tokens(words, sections, &tape.kinds, tape.length, bytes);
+    Ok(size)
 }
 
 // The refusals are 6 and 8; done gives the writing's length.
-pub fn read_back(words: &[u64], bytes: &mut [u8]) -> Answer
+pub fn read_back(words: &[u64], bytes: &mut [u8]) -> Result<usize, Refusal>
     ensures { ReadBackSays words.now bytes.old (answered result bytes.new) }
 {
-    let checked = check(words);
-    let verdict = checked.verdict;
-    let tape = checked.tape;
-    let Verdict::Image(sections) = verdict else {
-        return Answer::Refused(Refusal::NotAnImage);
+    let Some(checked) = check(words) else {
+        return Err(Refusal::NotAnImage);
     };
-    let own = own_marks(tape);
-    write(words, sections, own, bytes)
+    let own = own_marks(checked.tape);
+    write(words, checked.sections, own, bytes)
 }

@@ -27,27 +27,16 @@ pub fn own_marks(tape: Tape) -> Tape
     requires { T (is_tree tape) }
     ensures { OwnMarks tape result }
 {
-    let shown = tape.kinds;
-    let length = tape.length;
     let mut kinds = [0u8; 512];
-    let none = no_frame();
-    let mut frames = [none; 9];
+    let mut frames = [no_frame(); 9];
     let mut scan = begin_scan();
-    let mut i: usize = 0;
-    while i < length {
-        let kind = shown[i];
-        let top = innermost(scan.depth);
-        let frame = frames[top];
-        let own = own_kind(kind, frame.empty_before | scan.can_be_empty);
-        kinds[i] = own;
-        let token = read_kind(kind);
-        let next = step_over(scan, frame, token);
-        let stored = next.frame;
-        let place = next.place;
-        frames[place] = stored;
-        let after = next.scan;
-        scan = after;
-        i += 1;
+    for i in 0..tape.length {
+        let kind = tape.kinds[i];
+        let frame = frames[innermost(scan.depth)];
+        kinds[i] = own_kind(kind, frame.empty_before | scan.can_be_empty);
+        let next = step_over(scan, frame, read_kind(kind));
+        frames[next.place] = next.frame;
+        scan = next.scan;
     }
-    Tape { kinds, length }
+    Tape { kinds, ..tape }
 }

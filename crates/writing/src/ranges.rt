@@ -8,7 +8,7 @@ ghost use Rattle.image_sections.specs.Sections.{Placed};
 ghost use Rattle.tokens.specs.Tokens.{mark_of};
 ghost use Rattle.writing.specs.Work.{range_text, token_text};
 
-use crate::letter::write_letter;
+use crate::letter::{write_if, write_letter};
 use image_classes::{move_on, put_column};
 use image_sections::Sections;
 use tokens::kind::read_kind;
@@ -21,10 +21,9 @@ fn open_after(unions: usize, token: Token) -> usize
     ensures { result ≤ unions + 1 }
 {
     match token {
-        Token::Letter(_) => unions,
         Token::Open => unions + 1,
-        Token::Bar => unions,
         Token::Close(_) => unions - 1,
+        Token::Letter(_) | Token::Bar => unions,
     }
 }
 
@@ -34,16 +33,13 @@ fn close_of(kinds: &[u8; 512], from: usize, to: usize) -> usize
     ensures { (from ≤ result) × (result ≤ to) }
 {
     let mut open: usize = 1;
-    let mut i = from;
-    while i < to {
-        let next = open_after(open, read_kind(kinds[i]));
-        if next == 0 {
+    for i in from..to {
+        open = open_after(open, read_kind(kinds[i]));
+        if open == 0 {
             return i;
         }
-        open = next;
-        i += 1;
     }
-    i
+    to
 }
 
 // A union's close, and its sign, if it has one.
@@ -53,17 +49,12 @@ fn write_close(out: &mut [u8], at: usize, mark: Mark) -> usize
     ensures written { out.new ≡ sets out.old at (byte ")" ∷ mark_writing (mark_of mark)) }
 {
     set_byte(out, at, b')');
-    match mark {
-        Mark::Unmarked => at + 1,
-        Mark::Optional => {
-            set_byte(out, at + 1, b'?');
-            at + 2
-        }
-        Mark::Starred => {
-            set_byte(out, at + 1, b'*');
-            at + 2
-        }
-    }
+    let sign = match mark {
+        Mark::Unmarked => None,
+        Mark::Optional => Some(b'?'),
+        Mark::Starred => Some(b'*'),
+    };
+    write_if(out, at + 1, sign)
 }
 
 // The token before a state of the column at hand.
@@ -106,6 +97,7 @@ fn write_range(
 {
     let mut p = at;
     let mut i = from;
+    // No for: a union's inner range is passed in one turn.
     while i < to {
         move_on(words, sections, i + 1, classes);
         let token = read_kind(kinds[i]);

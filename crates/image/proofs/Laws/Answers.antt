@@ -11,37 +11,43 @@ use Rattle.model.specs.Answers.{gives, refused}
 use Rattle.model.specs.Edges.{depth, states}
 use Rattle.model.specs.Image.{image}
 use Rattle.model.specs.Tree as tree
+use Rattle.model.proofs.Image.Tokens.{length_tokens}
 use Rattle.model.proofs.Laws.Bool.{le_or_lt}
 use Rattle.model.proofs.Laws.Stores.{sets_fit}
 use Rattle.image_sections.specs.Sections.{sections_of}
 use Rattle.image_sections.specs.declared.Sections.{Sections}
 use Rattle.tokens_masks.specs.Says.{OnTapeSays, TreeOnTape}
-use Rattle.tokens_masks.specs.declared.OnTape.{OnTape}
-use Rattle.tokens_masks.specs.declared.OnTape.TheVariants.{Other, Tree}
+use Rattle.std.specs.Prelude.{None, Option, Some}
 use Rattle.tokens_masks.specs.declared.Tape.{Tape}
-use Rattle.image.specs.Says.{no_room, stored, StoreSays, TokensOf, too_deep, TreeSays}
+use Rattle.image.specs.Says.{no_room, OfRule, stored, StoreSays, TokensOf, too_deep, TreeSays}
 use Rattle.image.specs.Work.{image_words, KindsAre}
 use Rattle.image.proofs.Laws.Tapes.{depth_is, on-tape, states_are, tape-of}
 use Rattle.image.proofs.Laws.OfSets.{image_stored, length_image}
 
-not_other : (d : ℕ) → Other ≡ Tree d → ⊥
-not_other d e = let z : ◌≡◌ {A = ℕ} 0 1 = cc in omega arith
+-- a rule's tokens are as many as its tree's states, but for one
+pub few : (row : List ℕ) (n : ℕ) → OfRule row n → n + 1 ≤ 512
+few row n R = omega (arith, R.1.long, R.1.few, length_tokens R.0)
 
-same_told : (d e : ℕ) → Tree d ≡ Tree e → d ≡ e
-same_told d e p = cc
+-- the depth told is a tree's within depth 8
+pub shallow : {tape : Tape} {laid : Option ℕ} {d : ℕ} → OnTapeSays tape laid → laid ≡ Some d → d ≤ 8
+shallow {d = d} S told =
+    let there = S.some_tree d told in
+    let says = S.of_tree there.0 there.1 in
+    let e : d ≡ depth there.0 = cc in
+    omega (arith, e, there.1.shallow)
 
 -- the tape of the first n tokens of a row, and what it was told to be
-pub record Taped (row : List ℕ) (n : ℕ) (tape : Tape) (laid : OnTape) : Type 0 where
+pub record Taped (row : List ℕ) (n : ℕ) (tape : Tape) (laid : Option ℕ) : Type 0 where
   pub long : tape.length ≡ n
   pub kinds : KindsAre row tape.kinds
   pub room : length tape.kinds ≡ 512
   pub says : OnTapeSays tape laid
 
-pub taped : (row : List ℕ) (tape : Tape) {n : ℕ} {laid : OnTape} → tape.length ≡ n → KindsAre row tape.kinds
+pub taped : (row : List ℕ) (tape : Tape) {n : ℕ} {laid : Option ℕ} → tape.length ≡ n → KindsAre row tape.kinds
     → length tape.kinds ≡ 512 → OnTapeSays tape laid → Taped row n tape laid
 taped row tape l k e S = record { long = l; kinds = k; room = e; says = S }
 
-module _ {row : List ℕ} {n : ℕ} {tape : Tape} {laid : OnTape} (T : Taped row n tape laid) where
+module _ {row : List ℕ} {n : ℕ} {tape : Tape} {laid : Option ℕ} (T : Taped row n tape laid) where
   all_tokens : (t : tree.Tree) → TokensOf t row n → TokensOf t row tape.length
   all_tokens t R = subst (TokensOf t row) (sym T.long) R
 
@@ -49,29 +55,23 @@ module _ {row : List ℕ} {n : ℕ} {tape : Tape} {laid : OnTape} (T : Taped row
   shallow_on_tape t R h = on-tape row tape T.kinds T.room t (all_tokens t R) h
 
   -- NO TREE
-  pub says_no_tree : (before : List ℕ) → laid ≡ Other → StoreSays row n before (refused 4 before)
+  pub says_no_tree : (before : List ℕ) → laid ≡ None → StoreSays row n before (refused 4 before)
   says_no_tree before e t R = go (le_or_lt (depth t) 8)
     where
       go : (depth t ≤ 8) ⊎ (8 < depth t) → TreeSays t before (refused 4 before)
-      go (inl h) = absurd (not_other (depth t) (sym e ∙ T.says.of_tree t (shallow_on_tape t R h)))
+      go (inl h) = let told = T.says.of_tree t (shallow_on_tape t R h) in cc
       go (inr h) = too_deep h refl
 
   -- ---- a tree's tape, of the depth told
-  module _ {d : ℕ} (told : laid ≡ Tree d) where
+  module _ {d : ℕ} (told : laid ≡ Some d) where
     abbrev there : (s : tree.Tree) × TreeOnTape s tape
     there = T.says.some_tree d told
 
     depth_told : (t : tree.Tree) → TreeOnTape t tape → depth t ≡ d
-    depth_told t P = same_told (depth t) d (sym (T.says.of_tree t P) ∙ told)
+    depth_told t P = let says = T.says.of_tree t P in cc
 
     states_told : (t : tree.Tree) → TreeOnTape t tape → n + 1 ≡ states t
     states_told t P = omega (arith, T.long, states_are P)
-
-    pub few : n + 1 ≤ 512
-    few = omega (arith, states_told there.0 there.1, there.1.few)
-
-    pub shallow : d ≤ 8
-    shallow = omega (arith, depth_told there.0 there.1, there.1.shallow)
 
     -- a rule's tree with those tokens is as deep as the tree that is there
     of_rule : (t : tree.Tree) → TokensOf t row n → TreeOnTape t tape

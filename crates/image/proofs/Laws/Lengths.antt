@@ -3,12 +3,13 @@ use mathlib.Core.Path.{◌≡◌, refl, sym, ap, ◌∙◌, subst}
 use mathlib.Core.Bool.{Bool, true, false, cond}
 use mathlib.Core.List.{List, [], ◌++◌}
 use Prim.Native.Nat.{ℕ, suc, ◌+◌, ◌*◌, ◌≤◌, ◌<◌}
+use native.Mathlib.Nat.{mul_comm}
 use native.Mathlib.Omega.{arith}
 use lib.Bits.{bit_and}
 use lib.Dec.{T}
 use lib.ListN.{get_or, length, take, length-append}
 use lib.Seq.{length-take-le}
-use Rattle.model.specs.Models.LayOut.{back-source, back-target, begin, lay_out, number, Plane}
+use Rattle.model.specs.Models.LayOut.{begin, lay_out, Plane}
 use Rattle.model.proofs.Image.Rows.{length-set}
 use Rattle.model.proofs.Words.Operations.{each_length}
 use Rattle.tokens_masks.specs.Masks.{planes, row_in, row_number, table_in}
@@ -18,8 +19,8 @@ use Rattle.tokens_masks.specs.declared.Tape.{Tape}
 use Rattle.tokens_masks.proofs.InWords.{row_long, table_row}
 use Rattle.tokens_masks.proofs.Painted.{row_is}
 use Rattle.tokens_masks.proofs.TableBits.{blank_rows}
-use Rattle.image.specs.Work.{leads, letter_row, repeat_row, three_rows, two_rows}
-use Rattle.image.proofs.Laws.Parts.{AllLong}
+use Rattle.image.specs.Work.{depth_masks, leads, letter_row, repeat_row, three_rows, two_rows}
+use Rattle.image.proofs.Laws.Parts.{AllLong, length_joined}
 
 pub length_row : {W : ℕ} (row : List ℕ) → W ≤ 8 → length row ≡ 8 → length (take W row) ≡ W
 length_row {W} row h e = length-take-le W row (omega arith)
@@ -74,18 +75,12 @@ depths_long block source target narrow few b s t k h =
 abbrev pub back_rows : ℕ → Table → Table → ℕ → List ℕ
 back_rows W source target k = two_rows W (get_or source k []) (get_or target k [])
 
-pub backs_long : {W n : ℕ} (source target : Table) → W ≤ 8 → n ≤ 9 → Eights source → Eights target → AllLong (2 * W) n (back_rows W source target)
-backs_long {W} source target narrow few s t k h =
-    length-append (take W (get_or source k [])) (take W (get_or target k []))
-    ∙ omega (arith, length_row (get_or source k []) narrow (s k (omega arith)), length_row (get_or target k []) narrow (t k (omega arith)))
+-- and the masks that lay out lends, of planes one after another
+pub plane_long : {W : ℕ} (ms : List ℕ) (k i : ℕ) → W ≤ 8 → k < 9 → i < planes → length ms ≡ 936 → length (take W (row_in ms (row_number k i))) ≡ W
+plane_long ms k i narrow h hi long = length_row (row_in ms (row_number k i)) narrow (row_long ms (row_number k i) (omega arith))
 
--- and of the masks that lay out lends, as they are read
-pub three_read : (W : ℕ) (ms : List ℕ) (first k : ℕ) {block source target : List ℕ} → k < 9 → block ≡ row_in ms (row_number k first)
-    → source ≡ row_in ms (row_number k (first + 1)) → target ≡ row_in ms (row_number k (first + 2))
-    → three_rows W block source target ≡ depth_rows W (table_in ms first) (table_in ms (first + 1)) (table_in ms (first + 2)) k
-three_read W ms first k h b s t =
-    λ i. three_rows W ((b ∙ sym (table_row ms first k h)) i) ((s ∙ sym (table_row ms (first + 1) k h)) i) ((t ∙ sym (table_row ms (first + 2) k h)) i)
-
-pub two_read : (W : ℕ) (ms : List ℕ) (k : ℕ) {source target : List ℕ} → k < 9 → source ≡ row_in ms (row_number k (number back-source))
-    → target ≡ row_in ms (row_number k (number back-target)) → two_rows W source target ≡ back_rows W (table_in ms (number back-source)) (table_in ms (number back-target)) k
-two_read W ms k h s t = λ i. two_rows W ((s ∙ sym (table_row ms (number back-source) k h)) i) ((t ∙ sym (table_row ms (number back-target) k h)) i)
+pub masks_long : {W n : ℕ} (count : ℕ) (ms : List ℕ) (first : ℕ) → W ≤ 8 → n ≤ 9 → first + count ≤ planes → length ms ≡ 936
+    → AllLong (count * W) n (depth_masks W first count ms)
+masks_long {W} count ms first narrow few hi long k h =
+    length_joined W count (λ j. take W (row_in ms (row_number k (first + j)))) (λ j m. plane_long ms k (first + j) narrow (omega arith) (omega arith) long)
+    ∙ mul_comm W count

@@ -5,8 +5,8 @@ use Prim.Native.Nat.{ℕ, zero, suc, ◌+◌, ◌-◌, ◌*◌, ◌≤◌, ◌<�
 use native.Mathlib.Nat.{add-zero, le_of_lt, le_refl, mul-suc, mul-zero, zero-add}
 use native.Mathlib.Numerals.{add-one}
 use native.Mathlib.Omega.{arith}
-use lib.ListN.{length, set, length-append, length-set}
-use lib.Seq.{length-sets, sets}
+use lib.ListN.{length, set, length-append}
+use lib.Seq.{sets}
 use Rattle.model.specs.Image.{join, section}
 use Rattle.image.proofs.Laws.Stores.{sets_on}
 
@@ -45,30 +45,22 @@ module _ (w n : ℕ) (f : ℕ → List ℕ) (same : AllLong w n f) where
 -- of n parts of w words the first k are written to l, from place i on
 pub record Parts (w n : ℕ) (f : ℕ → List ℕ) (l : List ℕ) (i : ℕ) (words : List ℕ) (k : ℕ) : Type 0 where
   pub same : AllLong w n f
-  pub within : k ≤ n
-  pub long : length words ≡ length l
   pub are : words ≡ sets l i (join k 0 f)
 
 pub parts_none : {w n : ℕ} {f : ℕ → List ℕ} {l : List ℕ} {i : ℕ} → AllLong w n f → Parts w n f l i l 0
-parts_none same = record { same = same; within = omega arith; long = refl; are = refl }
+parts_none same = record { same = same; are = refl }
 
 module _ {w n : ℕ} {f : ℕ → List ℕ} {l : List ℕ} {i : ℕ} {words : List ℕ} {k : ℕ} (P : Parts w n f l i words k) where
   pub parts_more : {after : List ℕ} → k < n → after ≡ sets words (i + w * k) (f k) → Parts w n f l i after (k + 1)
   parts_more h e = record {
     same = P.same;
-    within = omega arith;
-    long = ap length e ∙ length-sets words (i + w * k) (f k) ∙ P.long;
     are = e ∙ ap (λ (ws : List ℕ). sets ws (i + w * k) (f k)) P.are ∙ part_more w n f P.same l i k h;
   }
 
 -- the same from place i on, after the count c of their words
 module _ (l : List ℕ) (i c : ℕ) {w n : ℕ} {f : ℕ → List ℕ} {words : List ℕ} {k : ℕ} (P : Parts w n f (set l (i - 1) c) i words k) where
-  pub parts_long : length words ≡ length l
-  parts_long = P.long ∙ length-set l (i - 1) c
-
-  pub parts_all : 1 ≤ i → c ≡ w * n → n ≤ k → words ≡ sets l (i - 1) (section (join n 0 f))
-  parts_all some e h =
-      let q : k ≡ n = omega arith in
+  pub parts_all : 1 ≤ i → c ≡ w * n → k ≡ n → words ≡ sets l (i - 1) (section (join n 0 f))
+  parts_all some e q =
       let next : i ≡ suc (i - 1) = omega arith in
       P.are
       ∙ ap (λ (j : ℕ). sets (set l (i - 1) c) i (join j 0 f)) q

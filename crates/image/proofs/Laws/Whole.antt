@@ -6,6 +6,7 @@ use native.Mathlib.Numerals.{add-one}
 use native.Mathlib.Omega.{arith}
 use lib.ListN.{get_or, length, take}
 use lib.Seq.{length-sets, sets}
+use Rattle.model.specs.Image.{join, section}
 use Rattle.model.specs.Models.LayOut.{back-source, back-target, entering, gather-block, gather-source, gather-target, leaving, loop_place, number, scatter-block, scatter-source, scatter-target, Plane}
 use Rattle.model.specs.Models.Sections.{letters_at}
 use Rattle.image_sections.specs.Sections.{Within}
@@ -16,10 +17,11 @@ use Rattle.tokens_masks.specs.Says.{Laid}
 use Rattle.tokens_masks.specs.Tables.{Table}
 use Rattle.tokens_masks.specs.Tapes.{propagate_block_table, propagate_source_table, propagate_target_table, table_of}
 use Rattle.tokens_masks.specs.declared.Tape.{Tape}
-use Rattle.image.specs.Work.{back_part, both_part, image_words, letter_row, letters_part, repeat_row, repeats_part, shape_part, tables_part}
+use Rattle.image.specs.Work.{back_part, both_part, depth_masks, image_words, letter_row, letters_part, repeat_row, repeats_part, shape_part, tables_part}
 use Rattle.image.proofs.Laws.Lengths.{depth_rows, depths_long, Eights, in_eights, laid_eights, letters_long, repeats_long}
 use Rattle.image.proofs.Laws.Loops.{repeats_are}
 use Rattle.image.proofs.Laws.Parts.{length_section}
+use Rattle.image.proofs.Laws.Planes.{three_masks, two_masks}
 use Rattle.image.proofs.Laws.Stores.{sets_on}
 
 -- a section us with its count before place i, and then vs, which goes where us ends
@@ -27,10 +29,15 @@ both : (l : List ℕ) (i : ℕ) (us vs : List ℕ) {words after : List ℕ} {k :
     → after ≡ sets words (k - 1) vs → after ≡ sets l (i - 1) (us ++ vs)
 both l i us vs {k = k} some e p q = q ∙ ap (λ (ws : List ℕ). sets ws (k - 1) vs) p ∙ sets_on l (i - 1) us vs (k - 1) (omega arith)
 
--- a section of tables that are equal
-tables_as : {a a' b b' c c' : Table} → a ≡ a' → b ≡ b' → c ≡ c' → (W d : ℕ) (l : List ℕ) (i : ℕ) {after : List ℕ}
-    → after ≡ sets l i (tables_part W d a b c) → after ≡ sets l i (tables_part W d a' b' c')
-tables_as ea eb ec W d l i e = e ∙ (λ j. sets l i (tables_part W d (ea j) (eb j) (ec j)))
+-- a section of the masks of planes whose tables are known
+module _ (W d first : ℕ) (ms l : List ℕ) (i : ℕ) (few : d ≤ 9) {after : List ℕ} where
+  tables_as : {a b c : Table} → table_in ms (first + 0) ≡ a → table_in ms (first + 1) ≡ b → table_in ms (first + 2) ≡ c
+      → after ≡ sets l i (section (join d 0 (depth_masks W first 3 ms))) → after ≡ sets l i (tables_part W d a b c)
+  tables_as ea eb ec e = e ∙ ap (λ (ws : List ℕ). sets l i (section ws)) (three_masks W d first ms few) ∙ (λ j. sets l i (tables_part W d (ea j) (eb j) (ec j)))
+
+  back_as : {a b : Table} → table_in ms (first + 0) ≡ a → table_in ms (first + 1) ≡ b
+      → after ≡ sets l i (section (join d 0 (depth_masks W first 2 ms))) → after ≡ sets l i (back_part W d a b)
+  back_as ea eb e = e ∙ ap (λ (ws : List ℕ). sets l i (section ws)) (two_masks W d first ms few) ∙ (λ j. sets l i (back_part W d (ea j) (eb j)))
 
 module _ (p : Sections) (row : List ℕ) (t : Tape) (I : Within p p.length) where
   abbrev W : ℕ
@@ -81,10 +88,10 @@ module _ (p : Sections) (row : List ℕ) (t : Tape) (I : Within p p.length) wher
       → shaped ≡ sets l 0 (shape_part p)
       → lettered ≡ sets shaped (p.letters - 1) letter_part
       → repeated ≡ sets lettered (p.repeats - 1) (both_part W lettered p.letters places)
-      → scattered ≡ sets repeated (p.scatter - 1) (tables_part W d (table_in ms (number scatter-block)) (table_in ms (number scatter-source)) (table_in ms (number scatter-target)))
-      → gathered ≡ sets scattered (p.gather - 1) (tables_part W d (table_in ms (number gather-block)) (table_in ms (number gather-source)) (table_in ms (number gather-target)))
-      → propagated ≡ sets gathered (p.propagate - 1) (tables_part W (d + 1) (table_in ms block_plane) (table_in ms (number leaving)) (table_in ms (number entering)))
-      → after ≡ sets propagated (p.back - 1) (back_part W d (table_in ms (number back-source)) (table_in ms (number back-target))) → after ≡ sets l 0 (image_words p row t)
+      → scattered ≡ sets repeated (p.scatter - 1) (section (join d 0 (depth_masks W (number scatter-block) 3 ms)))
+      → gathered ≡ sets scattered (p.gather - 1) (section (join d 0 (depth_masks W (number gather-block) 3 ms)))
+      → propagated ≡ sets gathered (p.propagate - 1) (section (join (d + 1) 0 (depth_masks W block_plane 3 ms)))
+      → after ≡ sets propagated (p.back - 1) (section (join d 0 (depth_masks W (number back-source) 2 ms))) → after ≡ sets l 0 (image_words p row t)
   whole {ms = ms} L long first l fits {places} {shaped} {lettered} {repeated} {scattered} {gathered} {propagated} are-loops by_shape by-letters
       by-repeats by-scatter by-gather by-propagate by-back =
       let scatter_part = laid_part scatter-block scatter-source scatter-target in
@@ -95,6 +102,7 @@ module _ (p : Sections) (row : List ℕ) (t : Tape) (I : Within p p.length) wher
       ∙ repeats_are W row t.length I.narrow shaped p.letters I.counted
       (omega (arith, I.letters, I.repeats, scatters_in I, ap length by_shape, length-sets l 0 (shape_part p))) places
       ∙ ap (repeats_part W row t.length) (are-loops ∙ L.loop_places) in
+      let few : d ≤ 9 = omega (arith, I.deep) in
       let fromPropagate = propagate_part ++ backs_part in
       let fromGather = gather_part ++ fromPropagate in
       let fromScatter = scatter_part ++ fromGather in
@@ -105,11 +113,11 @@ module _ (p : Sections) (row : List ℕ) (t : Tape) (I : Within p p.length) wher
       (by-repeats ∙ ap (sets lettered (p.repeats - 1)) are_repeats)
       (both repeated p.scatter scatter_part fromGather (omega (arith, I.repeats))
       (omega (arith, length_laid scatter-block scatter-source scatter-target, I.scatters))
-      (tables_as L.scatter_blocks L.scatter_sources L.scatter_targets W d repeated (p.scatter - 1) by-scatter)
+      (tables_as W d (number scatter-block) ms repeated (p.scatter - 1) few L.scatter_blocks L.scatter_sources L.scatter_targets by-scatter)
       (both scattered p.gather gather_part fromPropagate (omega (arith, I.scatters))
       (omega (arith, length_laid gather-block gather-source gather-target, I.gathers))
-      (tables_as L.gather_blocks L.gather_sources L.gather_targets W d scattered (p.gather - 1) by-gather)
+      (tables_as W d (number gather-block) ms scattered (p.gather - 1) few L.gather_blocks L.gather_sources L.gather_targets by-gather)
       (both gathered p.propagate propagate_part backs_part (omega (arith, I.gathers)) (omega (arith, length_propagate L long, I.propagates))
-      (tables_as L.propagate_blocks L.propagate_sources L.propagate_targets W (suc d) gathered (p.propagate - 1)
-      (by-propagate ∙ ap (λ (n : ℕ). sets gathered (p.propagate - 1) (tables_part W n (table_in ms block_plane) (table_in ms (number leaving)) (table_in ms (number entering)))) (add-one d)))
-      (by-back ∙ (λ j. sets propagated (p.back - 1) (back_part W d (L.back_sources j) (L.back_targets j)))))))))
+      (tables_as W (suc d) block_plane ms gathered (p.propagate - 1) (omega (arith, I.deep)) L.propagate_blocks L.propagate_sources L.propagate_targets
+      (by-propagate ∙ ap (λ (n : ℕ). sets gathered (p.propagate - 1) (section (join n 0 (depth_masks W block_plane 3 ms)))) (add-one d)))
+      (back_as W d (number back-source) ms propagated (p.back - 1) few L.back_sources L.back_targets by-back))))))

@@ -5,12 +5,6 @@ use Rattle.tokens_masks.proofs.Told.{on_tape_says}
 use Rattle.tokens_masks.specs.Says.{OnTapeSays}
 use Rattle.tokens_masks.proofs.lay_out.Goals as goal
 
-pub lay_planes-on_tape-requires : goal.lay_planes-on_tape-requires
-lay_planes-on_tape-requires c = c.lay_planes-arg-1.given.0.1
-
-pub join_propagate-requires : goal.join_propagate-requires
-join_propagate-requires c = c.join_propagate-arg-1.given.0.1
-
 pub returns : goal.returns
 returns c =
     let t = c.args.tape in

@@ -14,7 +14,8 @@ use Rattle.model.proofs.Image.Tokens.{length_tokens}
 use Rattle.model.proofs.Laws.Bool.{le_false, le_or_lt, le_true}
 use Rattle.model.proofs.Laws.Stores.{sets_fit}
 use Rattle.answers.specs.Answers.{answered}
-use Rattle.answers.specs.declared.Answer.{Answer}
+use Rattle.answers.specs.declared.Refusal.{Refusal}
+use Rattle.std.specs.Prelude.{Result}
 use Rattle.image_sections.specs.Sections.{Placed}
 use Rattle.image_sections.specs.declared.Sections.{Sections}
 use Rattle.tokens_masks.specs.Tapes.{is_tree}
@@ -57,10 +58,10 @@ module _ {ws : List ℕ} {p : Sections} {t : Tape} (F : Found ws p t) where
     width_is : p.width ≡ width_word ws
     width_is = ap (λ (q : Sections). q.width) F.sections_are ∙ sym (ap width_word I.laid)
 
-    pub says_found : length u.kinds ≡ 512 → (before after : List ℕ) (r : Answer)
+    pub says_found : length u.kinds ≡ 512 → (before after : List ℕ) (r : Result ℕ Refusal)
         → r ≡ written_if (text p.width) before → after ≡ bytes_after (text p.width) before → ReadBackSays ws before (answered r after)
     says_found room before after r e a =
-        subst (λ (q : Answer). ReadBackSays ws before (answered q after)) (sym e)
+        subst (λ (q : Result ℕ Refusal). ReadBackSays ws before (answered q after)) (sym e)
         (subst (λ (l : List ℕ). ReadBackSays ws before (answered (written_if (text p.width) before) l)) (sym a)
         (of_text ws F.tree I before (text p.width)
         (ap text width_is ∙ all_written ws F.tree I t u F.tape-of M room)))

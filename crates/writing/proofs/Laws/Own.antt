@@ -1,23 +1,22 @@
 -- EACH UNION'S OWN MARK, as the loop over a tree's tape goes: the kinds filled so far and the own marks of the tokens still to come make those of the
 -- whole tape.
 use mathlib.Core.Path.{◌≡◌, refl, sym, ap, ap₂, ◌∙◌, subst}
-use mathlib.Core.Bool.{Bool, true, false, ◌&&◌, ◌||◌, cond}
+use mathlib.Core.Bool.{Bool, true, false, ◌||◌}
 use mathlib.Core.List.{List, [], ◌∷◌, ◌++◌, append-nil}
-use Prim.Native.Nat.{ℕ, zero, suc, ◌+◌, ◌≤◌, ◌<◌}
+use Prim.Native.Nat.{ℕ, ◌+◌, ◌≤◌, ◌<◌}
 use native.Mathlib.Numerals.{add-one}
 use native.Mathlib.Omega.{arith}
-use lib.Dec.{T, eqb, leb, leb→le}
+use lib.Dec.{T, leb, leb→le}
 use lib.ListN.{get_or, length, length-set, set, take}
 use lib.Seq.{take-suc-set}
 use Rattle.model.specs.Models.LayOut.{begin, check, empty_in, own, owns, valid}
 use Rattle.model.specs.Models.LayOut as model
 use Rattle.model.specs.Models.Tokens.{a_close, kept}
-use Rattle.model.specs.Tree.{optional, unmarked}
 use Rattle.model.specs.Models.Tokens as tokens
-use Rattle.model.proofs.Laws.Bool.{and_split, unequal}
+use Rattle.model.proofs.Laws.Bool.{and_split}
 use Rattle.tokens.specs.Scans.{Innermost, Ready, ReadyAt, scan_of, StepSays, stack_of, with_frames}
 use Rattle.tokens.specs.Tokens.{mark_of, token_of}
-use Rattle.tokens.specs.Kinds.{mark_kind, read_kind}
+use Rattle.tokens.specs.Kinds.{read_kind}
 use Rattle.tokens.specs.declared.Frame.{Frame}
 use Rattle.tokens.specs.declared.Next.{Next}
 use Rattle.tokens.specs.declared.Scan.{Scan}
@@ -28,23 +27,6 @@ use Rattle.tokens_masks.specs.Tapes.{is_tree, read_kinds, tokens_of}
 use Rattle.tokens_masks.specs.declared.Tape.{Tape}
 use Rattle.tokens_masks.proofs.Along.{Along, along_begin, along_misfit, along_ready, along_step, from, from_cons, from_end, tape_of}
 use Rattle.writing.specs.Work.{OwnMarks}
-
--- ---- one kind
-with_own_mark : (k : ℕ) (e : Bool) → token_of (read_kind (cond (eqb k (mark_kind optional) && e) (mark_kind unmarked) k)) ≡ own (token_of (read_kind k)) e
-with_own_mark zero e = refl
-with_own_mark (suc zero) e = refl
-with_own_mark (suc (suc zero)) e = refl
-with_own_mark (suc (suc (suc zero))) e = refl
-with_own_mark (suc (suc (suc (suc zero)))) e = refl
-with_own_mark (suc (suc (suc (suc (suc zero))))) e = refl
-with_own_mark (suc (suc (suc (suc (suc (suc zero)))))) e = refl
-with_own_mark (suc (suc (suc (suc (suc (suc (suc zero))))))) true = refl
-with_own_mark (suc (suc (suc (suc (suc (suc (suc zero))))))) false = refl
-with_own_mark (suc (suc (suc (suc (suc (suc (suc (suc k)))))))) e = rw (unequal (suc (suc (suc (suc (suc (suc (suc (suc k)))))))) (mark_kind optional) (λ q. omega arith))
-
--- by the test's outcome b
-pub own_kind : (k : ℕ) (e : Bool) {b : Bool} → (eqb k (mark_kind optional) && e) ≡ b → token_of (read_kind (cond b (mark_kind unmarked) k)) ≡ own (token_of (read_kind k)) e
-own_kind k e h = subst (λ (b : Bool). token_of (read_kind (cond b (mark_kind unmarked) k)) ≡ own (token_of (read_kind k)) e) h (with_own_mark k e)
 
 -- where a token fits, the innermost frame tells whether an alternative can be empty
 own_here : (q : Scan) (fs : List Frame) (top : Frame) (y : Token) → Innermost q top fs → Ready (with_frames q fs) y

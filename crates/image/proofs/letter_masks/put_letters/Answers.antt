@@ -5,8 +5,7 @@ use Prim.Native.Nat.{ℕ, ◌*◌, ◌-◌}
 use native.Mathlib.Omega.{arith}
 use lib.Seq.{sets}
 use Rattle.model.specs.Image.{section}
-use Rattle.model.proofs.Image.Address.{part_fits}
-use Rattle.image.proofs.Laws.Parts.{parts_all, parts_long, parts_more, parts_none}
+use Rattle.image.proofs.Laws.Parts.{parts_all, parts_more, parts_none}
 use Rattle.image.proofs.Laws.States.{quarter_long, quarters}
 use Rattle.image.proofs.letter_masks.put_letters.Goals as goal
 
@@ -15,40 +14,13 @@ loop-q-init c =
     let a = c.args in
     parts_none (λ q h. quarter_long a.width a.tokens.now a.length c.requires.0 q)
 
-pub overflow_mul-width-in-loop-q : goal.overflow_mul-width-in-loop-q
-overflow_mul-width-in-loop-q c = omega (arith, part_fits (64 * c.args.width) c.loop-q-test.true)
-
-pub overflow_add-at : goal.overflow_add-at
-overflow_add-at c = omega (arith, part_fits (64 * c.args.width) c.loop-q-test.true)
-
-pub put_quarter-requires : goal.put_quarter-requires
-put_quarter-requires c =
-    let a = c.args in
-    let l = c.loop-q in (
-      c.requires.0,
-      omega (
-        arith,
-        part_fits (64 * a.width) c.loop-q-test.true,
-        parts_long a.words.now a.at (256 * a.width) l.invariant,
-        c.requires.2,
-      ),
-      c.requires.3,
-      c.requires.4,
-      c.loop-q-test.true,
-    )
-
 pub loop-q-preserved : goal.loop-q-preserved
 loop-q-preserved c =
     parts_more c.loop-q.invariant c.loop-q-test.true c.put_quarter.ensures
-
-pub shape_of-words : goal.shape_of-words
-shape_of-words c =
-    let a = c.args in
-    parts_long a.words.now a.at (256 * a.width) c.loop-q.invariant
 
 pub returns : goal.returns
 returns c =
     let a = c.args in
     let e : 256 * a.width ≡ 64 * a.width * 4 = omega arith in
-    parts_all a.words.now a.at (256 * a.width) c.loop-q.invariant c.requires.1 e c.loop-q-test.false
+    parts_all a.words.now a.at (256 * a.width) c.loop-q.invariant c.requires.1 e (omega arith)
     ∙ ap (λ (ws : List ℕ). sets a.words.now (a.at - 1) (section ws)) (quarters a.width a.tokens.now a.length)

@@ -10,7 +10,7 @@ use Rattle.model.specs.Image.{join, section}
 use Rattle.model.proofs.Image.Rows.{join_same}
 use Rattle.model.proofs.Image.Address.{part_fits}
 use Rattle.image.proofs.Laws.Loops.{both_kept, both_long}
-use Rattle.image.proofs.Laws.Parts.{parts_all, parts_long, parts_more, parts_none}
+use Rattle.image.proofs.Laws.Parts.{parts_all, parts_more, parts_none}
 use Rattle.image.specs.Work.{both_row}
 use Rattle.image.proofs.letter_masks.put_repeats.Goals as goal
 
@@ -20,28 +20,6 @@ loop-b-init c =
     parts_none (λ b h.
     both_long a.width (set a.words.now (a.at - 1) (256 * a.width)) (a.from + a.width * b) a.loops c.requires.0
     (omega (arith, part_fits a.width h, length-set a.words.now (a.at - 1) (256 * a.width), c.requires.1, c.requires.2)) c.well_formed.1.1.1.1.0.1.0.1)
-
-pub overflow_mul-width : goal.overflow_mul-width
-overflow_mul-width c = omega (arith, part_fits c.args.width c.loop-b-test.true)
-
-pub overflow_add-from : goal.overflow_add-from
-overflow_add-from c = omega (arith, part_fits c.args.width c.loop-b-test.true)
-
-pub overflow_mul-width-in-loop-b : goal.overflow_mul-width-in-loop-b
-overflow_mul-width-in-loop-b c = omega (arith, part_fits c.args.width c.loop-b-test.true)
-
-pub overflow_add-at : goal.overflow_add-at
-overflow_add-at c = omega (arith, part_fits c.args.width c.loop-b-test.true)
-
-pub put_both-requires : goal.put_both-requires
-put_both-requires c =
-    let a = c.args in
-    let l = c.loop-b in
-    let fits = part_fits a.width c.loop-b-test.true in (
-      c.requires.0,
-      omega (arith, fits, c.requires.1),
-      omega (arith, fits, parts_long a.words.now a.at (256 * a.width) l.invariant, c.requires.2),
-    )
 
 pub loop-b-preserved : goal.loop-b-preserved
 loop-b-preserved c =
@@ -56,16 +34,11 @@ loop-b-preserved c =
     (ap (λ (ws : List ℕ). both_row a.width ws from a.loops) l.invariant.are
     ∙ both_kept a.width counted a.at (join l.b 0 (λ k. both_row a.width counted (a.from + a.width * k) a.loops)) from a.loops fits))
 
-pub shape_of-words : goal.shape_of-words
-shape_of-words c =
-    let a = c.args in
-    parts_long a.words.now a.at (256 * a.width) c.loop-b.invariant
-
 pub returns : goal.returns
 returns c =
     let a = c.args in
     let n = 256 * a.width in
-    parts_all a.words.now a.at n c.loop-b.invariant (omega (arith, c.requires.1)) (mul_comm 256 a.width) c.loop-b-test.false
+    parts_all a.words.now a.at n c.loop-b.invariant (omega (arith, c.requires.1)) (mul_comm 256 a.width) (omega arith)
     ∙ ap (λ (ws : List ℕ). sets a.words.now (a.at - 1) (section ws))
     (join_same 256 0 (λ b. both_row a.width (set a.words.now (a.at - 1) n) (a.from + a.width * b) a.loops)
     (λ b. both_row a.width a.words.now (a.from + a.width * b) a.loops) (λ b h.

@@ -1,52 +1,24 @@
 -- `letter_masks::put_state`: after b turns the rows of the first b bits have the state's bit where the class has them.
-use mathlib.Core.Path.{◌≡◌, refl, sym, ap, ◌∙◌}
+use mathlib.Core.Path.{◌≡◌, sym, ap, ◌∙◌}
 use mathlib.Core.Bool.{Bool}
 use Prim.Native.Nat.{ℕ, ◌+◌, ◌*◌, ◌/◌}
 use native.Mathlib.Numerals.{add-one}
 use native.Mathlib.Omega.{arith}
 use lib.Bits.{bit_or}
-use lib.ListN.{get_or, length, set}
+use lib.ListN.{get_or, set}
 use Rattle.mask.proofs.Laws.Bits.{one_shifted}
 use Rattle.model.specs.Bits.{bit}
-use Rattle.model.proofs.Image.Address.{part_fits}
 use Rattle.image.specs.Work.{with_bit, with_state}
-use Rattle.image.proofs.Laws.States.{has_bit, has_not, length_with}
+use Rattle.image.proofs.Laws.States.{has_bit, has_not}
 use Rattle.image.proofs.letter_masks.put_state.Goals as goal
 use Rattle.image.proofs.letter_masks.put_state.Goals.{then-class-b-eq1, else-class-b-eq1}
-
-pub loop-b-init : goal.loop-b-init
-loop-b-init c = (omega arith, refl, refl)
-
-pub overflow_mul-place : goal.overflow_mul-place
-overflow_mul-place c = omega (arith, part_fits c.args.width c.loop-b-test.true)
-
-pub overflow_add-place : goal.overflow_add-place
-overflow_add-place c = omega (arith, part_fits c.args.width c.loop-b-test.true)
-
-pub overflow_add-place-then-class-b-eq1 : goal.overflow_add-place-then-class-b-eq1
-overflow_add-place-then-class-b-eq1 c = omega (arith, part_fits c.args.width c.loop-b-test.true)
-
-pub offset_bounds-words-place : goal.offset_bounds-words-place
-offset_bounds-words-place c = omega (arith, part_fits c.args.width c.loop-b-test.true)
-
-pub bounds-words-place : goal.bounds-words-place
-bounds-words-place c = omega (arith, part_fits c.args.width c.loop-b-test.true)
-
-pub offset_bounds-words-place-then-class-b-eq1 : goal.offset_bounds-words-place-then-class-b-eq1
-offset_bounds-words-place-then-class-b-eq1 c = omega (arith, part_fits c.args.width c.loop-b-test.true)
-
-pub bounds-words-place-then-class-b-eq1 : goal.bounds-words-place-then-class-b-eq1
-bounds-words-place-then-class-b-eq1 c = omega (arith, part_fits c.args.width c.loop-b-test.true)
-
-pub shape_of-words : goal.shape_of-words
-shape_of-words c = c.loop-b.invariant.2
 
 pub returns : goal.returns
 returns c =
     let a = c.args in
     let l = c.loop-b in
     let e : l.b ≡ 64 = omega arith in
-    l.invariant.1 ∙ ap (λ (k : ℕ). with_state k a.width a.class a.state a.at a.words.now) e
+    l.invariant ∙ ap (λ (k : ℕ). with_state k a.width a.class a.state a.at a.words.now) e
 
 pub loop-b-preserved : goal.loop-b-preserved
 loop-b-preserved c =
@@ -59,9 +31,5 @@ loop-b-preserved c =
       | then-class-b-eq1 w ↦ w.words-is ∙ ap (λ (n : ℕ). set l.words i (bit_or (get_or l.words i 0) n)) (one_shifted a.state)
           ∙ ap (λ (t : Bool). with_bit t place a.state l.words) (sym (has_bit a.class l.b w.if-class-b-eq1.true))
       | else-class-b-eq1 w ↦ w.words-is ∙ ap (λ (t : Bool). with_bit t place a.state l.words) (sym (has_not a.class l.b w.if-class-b-eq1.false))
-    ] in (
-      omega arith,
-      e ∙ ap (with_bit (bit a.class l.b) place a.state) l.invariant.1
-          ∙ ap (λ (k : ℕ). with_state k a.width a.class a.state a.at a.words.now) (sym (add-one l.b)),
-      ap length e ∙ length_with (bit a.class l.b) place a.state l.words ∙ l.invariant.2,
-    )
+    ] in
+    e ∙ ap (with_bit (bit a.class l.b) place a.state) l.invariant ∙ ap (λ (k : ℕ). with_state k a.width a.class a.state a.at a.words.now) (sym (add-one l.b))

@@ -1,32 +1,14 @@
--- `sections::put_row`: the words written so far are the first of the row.
-use mathlib.Core.Path.{◌≡◌, refl, ap, ◌∙◌}
-use mathlib.Core.List.{List}
-use Prim.Native.Nat.{ℕ, ◌+◌}
+-- `sections::put_row`: a part of as many words as the row's first is made those.
+use Prim.Native.Nat.{◌+◌, ◌-◌}
 use native.Mathlib.Omega.{arith}
-use lib.ListN.{get_or, length-set, set, take}
-use lib.Seq.{sets}
-use Rattle.image.proofs.Laws.Stores.{take_more}
+use lib.ListN.{take}
+use lib.Seq.{length-take-le}
+use Rattle.image.proofs.Laws.Stores.{part_written}
 use Rattle.image.proofs.sections.put_row.Goals as goal
-
-pub loop-j-init : goal.loop-j-init
-loop-j-init c = (omega arith, refl, refl)
-
-pub loop-j-preserved : goal.loop-j-preserved
-loop-j-preserved c =
-    let a = c.args in
-    let l = c.loop-j in
-    let v = get_or a.row l.j 0 in (
-      omega arith,
-      ap (λ (ws : List ℕ). set ws (a.at + l.j) v) l.invariant.1 ∙ take_more a.words.now a.at a.row l.j (omega arith),
-      length-set l.words (a.at + l.j) v ∙ l.invariant.2,
-    )
-
-pub shape_of-words : goal.shape_of-words
-shape_of-words c = c.loop-j.invariant.2
 
 pub returns : goal.returns
 returns c =
     let a = c.args in
-    let l = c.loop-j in
-    let e : l.j ≡ a.width = omega arith in
-    l.invariant.1 ∙ ap (λ (n : ℕ). sets a.words.now a.at (take n a.row)) e
+    let long = length-take-le a.width a.row (omega arith) in
+    part_written a.words.now a.at (a.at + a.width - a.at) (take a.width a.row) c.copy_from_slice.new.self (omega arith) (omega arith)
+    (c.copy_from_slice.ensures.after)

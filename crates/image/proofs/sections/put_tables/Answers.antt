@@ -1,58 +1,21 @@
--- `sections::put_tables`: after the count the rows of the first depths stand one after another.
-use mathlib.Core.List.{List}
-use mathlib.Core.Path.{refl, ap, ◌∙◌}
-use Prim.Native.Nat.{ℕ, ◌+◌, ◌*◌}
+-- `sections::put_tables`: the masks of each depth are written where those of the depth before it end.
+use mathlib.Core.Path.{refl}
+use Prim.Native.Nat.{◌*◌}
 use native.Mathlib.Omega.{arith}
-use lib.Seq.{sets}
-use Rattle.model.proofs.Image.Address.{part_fits}
-use Rattle.tokens_masks.specs.Masks.{table_in}
-use Rattle.image.proofs.Laws.Lengths.{depths_long, in_eights, three_read}
-use Rattle.image.proofs.Laws.Parts.{parts_all, parts_long, parts_more, parts_none}
+use Rattle.image.proofs.Laws.Lengths.{masks_long}
+use Rattle.image.proofs.Laws.Parts.{parts_all, parts_more, parts_none}
 use Rattle.image.proofs.sections.put_tables.Goals as goal
 
 pub loop-k-init : goal.loop-k-init
-loop-k-init c =
-    let ms = c.args.masks.now in
-    let i = c.args.first in
-    parts_none
-    (depths_long (table_in ms i) (table_in ms (i + 1)) (table_in ms (i + 2)) c.requires.0 c.requires.1
-    (in_eights ms i c.requires.5 (omega (arith, c.requires.4)))
-    (in_eights ms (i + 1) c.requires.5 (omega (arith, c.requires.4)))
-    (in_eights ms (i + 2) c.requires.5 (omega (arith, c.requires.4))))
-
-pub overflow_mul-width-in-loop-k : goal.overflow_mul-width-in-loop-k
-overflow_mul-width-in-loop-k c = omega (arith, part_fits (3 * c.args.width) c.loop-k-test.true)
-
-pub overflow_add-at : goal.overflow_add-at
-overflow_add-at c = omega (arith, part_fits (3 * c.args.width) c.loop-k-test.true)
-
-pub put_three-requires : goal.put_three-requires
-put_three-requires c =
-    let a = c.args in (
-      c.requires.0,
-      omega (
-        arith,
-        part_fits (3 * a.width) c.loop-k-test.true,
-        parts_long a.words.now a.at (3 * a.width * a.depths) c.loop-k.invariant,
-        c.requires.3,
-      ),
-    )
+loop-k-init g c =
+    let a = c.args in
+    let r = c.requires in
+    parts_none (masks_long g.row.N a.masks.now a.first r.0 r.1 r.4 r.5)
 
 pub loop-k-preserved : goal.loop-k-preserved
-loop-k-preserved c =
-    let l = c.loop-k in
-    parts_more l.invariant c.loop-k-test.true
-    (c.put_three.ensures
-    ∙ ap (λ (rows : List ℕ). sets l.words (c.args.at + 3 * c.args.width * l.k) rows)
-    (three_read c.args.width c.args.masks.now c.args.first l.k (omega (arith, c.requires.1)) c.row_of-block.ensures
-    c.row_of-source.ensures c.row_of-target.ensures))
-
-pub shape_of-words : goal.shape_of-words
-shape_of-words c =
-    let a = c.args in
-    parts_long a.words.now a.at (3 * a.width * a.depths) c.loop-k.invariant
+loop-k-preserved g c = parts_more c.loop-k.invariant c.loop-k-test.true c.put_depth.ensures
 
 pub returns : goal.returns
-returns c =
+returns g c =
     let a = c.args in
-    parts_all a.words.now a.at (3 * a.width * a.depths) c.loop-k.invariant c.requires.2 refl c.loop-k-test.false
+    parts_all a.words.now a.at (g.row.N * a.width * a.depths) c.loop-k.invariant c.requires.2 refl (omega arith)

@@ -4,4 +4,3 @@ use Rattle.spelling_propose.proofs.origins.find_origins.Given as goal
 
 abbrev pub invariant-loop-q : goal.invariant-loop-q
 invariant-loop-q l = Found l.image l.count l.q l.origins
-

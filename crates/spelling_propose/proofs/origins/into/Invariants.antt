@@ -4,4 +4,3 @@ use Rattle.spelling_propose.proofs.origins.into.Given as goal
 
 abbrev pub invariant-loop-i : goal.invariant-loop-i
 invariant-loop-i l = Gathered l.origins l.fn.row l.i l.r
-

@@ -4,4 +4,3 @@ use Rattle.spelling_propose.proofs.search.find_start.Given as goal
 
 abbrev pub invariant-loop-k : goal.invariant-loop-k
 invariant-loop-k l = Backed l.image l.origins l.last l.text l.end l.k l.set l.kept
-

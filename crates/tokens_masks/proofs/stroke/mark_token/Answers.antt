@@ -7,32 +7,24 @@ use Rattle.model.specs.Models.LayOut.{Stroke}
 use Rattle.tokens.proofs.Scans.{ready_bar, ready_close, ready_depth, ready_top}
 use Rattle.tokens_masks.proofs.Strokes.{bar-strokes, close-strokes, letter-strokes, open-strokes}
 use Rattle.tokens_masks.specs.Masks.{paint}
-use Rattle.tokens.specs.Scans.{with_frames}
+use Rattle.tokens.specs.Scans.{ReadyAt, with_frames}
+use Rattle.tokens.specs.declared.Scan.{Scan}
+use Rattle.tokens.specs.declared.token.Token.{Token}
 use Rattle.tokens.specs.declared.Frame.{Frame}
 use Rattle.tokens_masks.proofs.stroke.mark_token.Goals as goal
 
+-- where a token fits, at most eight unions are open
+shallow : {q : Scan} {f : Frame} {y : Token} → ReadyAt q f y → q.depth < 9
+shallow {q} {f} {y} R = omega (arith, ready_depth (with_frames q R.frames) y R.ready)
+
 pub mark_letter-requires : goal.mark_letter-requires
-mark_letter-requires c =
-    let R = c.requires.ready.ready in
-    (R.below, omega (arith, ready_depth (with_frames c.args.scan c.requires.ready.frames) c.args.token R), c.requires.long)
+mark_letter-requires c = (c.requires.ready.ready.below, shallow c.requires.ready, c.requires.long)
 
 pub mark_open-requires : goal.mark_open-requires
-mark_open-requires c =
-    let R = c.requires.ready.ready in
-    (R.below, omega (arith, ready_depth (with_frames c.args.scan c.requires.ready.frames) c.args.token R), c.requires.long)
-
-pub overflow_sub-depth : goal.overflow_sub-depth
-overflow_sub-depth c =
-    ready_bar (with_frames c.args.scan c.requires.ready.frames) c.args.token c.requires.ready.ready c.in-Bar.is
+mark_open-requires c = (c.requires.ready.ready.below, shallow c.requires.ready, c.requires.long)
 
 pub mark_bar-requires : goal.mark_bar-requires
-mark_bar-requires c =
-    let R = c.requires.ready.ready in
-    (R.below, omega (arith, ready_depth (with_frames c.args.scan c.requires.ready.frames) c.args.token R), c.requires.long)
-
-pub overflow_sub-depth-in-Close : goal.overflow_sub-depth-in-Close
-overflow_sub-depth-in-Close c =
-    ready_close (with_frames c.args.scan c.requires.ready.frames) c.args.token c.requires.ready.ready c.in-Close.shown c.in-Close.is
+mark_bar-requires c = (c.requires.ready.ready.below, omega (arith, shallow c.requires.ready), c.requires.long)
 
 pub mark_close-requires : goal.mark_close-requires
 mark_close-requires c =
@@ -40,7 +32,7 @@ mark_close-requires c =
     let R = c.requires.ready.ready in
     let inner = ready_close q c.args.token R c.in-Close.shown c.in-Close.is in
     let top = subst (λ (f : Frame). (f.alternative < 511) × (f.start < 511)) (c.requires.ready.top inner) (ready_top q c.args.token R c.in-Close.shown c.in-Close.is) in
-    (R.below, omega (arith, ready_depth q c.args.token R), top.0, top.1, c.requires.long)
+    (R.below, omega (arith, shallow c.requires.ready), top.0, top.1, c.requires.long)
 
 pub returns-in-Letter : goal.returns-in-Letter
 returns-in-Letter c = λ fs I.

@@ -2,6 +2,7 @@
 use mathlib.Core.Path.{refl}
 use mathlib.Core.List.{List}
 use native.Mathlib.Omega.{arith}
+use borrow.Author.Rules.{rules}
 use lib.ListN.{replicate}
 use Rattle.tokens.specs.Scans.{with_frames}
 use Rattle.tokens.specs.declared.Frame.{Frame}
@@ -12,30 +13,30 @@ use Rattle.writing.proofs.own.own_marks.Goals as goal
 
 pub loop-i-init : goal.loop-i-init
 loop-i-init c =
-    let fs : List Frame = replicate 9 c.no_frame-none.result in
-    owning_begin c.requires fs c.well_formed.0.1.1.0.1.0.1 refl refl (c.begin_scan-scan.ensures fs)
+    let fs : List Frame = replicate 9 c.no_frame-frames.result in
+    owning_begin c.requires fs (search rules) refl refl (c.begin_scan-scan.ensures fs)
 
-pub offset_bounds-frames-top : goal.offset_bounds-frames-top
-offset_bounds-frames-top c =
+pub offset_bounds-frames-innermost : goal.offset_bounds-frames-innermost
+offset_bounds-frames-innermost c =
     let l = c.loop-i in
-    omega (arith, along_depth _ (with_frames l.scan l.frames) _ l.invariant.along, c.innermost-top.ensures)
+    omega (arith, along_depth _ (with_frames l.scan l.frames) _ l.invariant.along, c.innermost.ensures)
 
-pub bounds-frames-top : goal.bounds-frames-top
-bounds-frames-top c =
+pub bounds-frames-innermost : goal.bounds-frames-innermost
+bounds-frames-innermost c =
     let l = c.loop-i in
-    omega (arith, along_depth _ (with_frames l.scan l.frames) _ l.invariant.along, c.innermost-top.ensures)
+    omega (arith, along_depth _ (with_frames l.scan l.frames) _ l.invariant.along, c.innermost.ensures)
 
 -- the token that was read may be passed
 pub step_over-next-requires : goal.step_over-next-requires
 step_over-next-requires c =
     let l = c.loop-i in
-    owning_ready c.requires l.invariant c.loop-i-test.true c.read_kind-token.ensures (top_here l.scan l.frames c.innermost-top.ensures)
+    owning_ready c.requires l.invariant c.loop-i-test.true c.read_kind.ensures (top_here l.scan l.frames c.innermost.ensures)
 
 pub loop-i-preserved : goal.loop-i-preserved
 loop-i-preserved c =
     let l = c.loop-i in
-    owning_step c.requires l.invariant c.loop-i-test.true c.read_kind-token.ensures
-    (top_here l.scan l.frames c.innermost-top.ensures) _ c.step_over-next.ensures c.own_kind-own.ensures
+    owning_step c.requires l.invariant c.loop-i-test.true c.read_kind.ensures
+    (top_here l.scan l.frames c.innermost.ensures) _ c.step_over-next.ensures c.own_kind.ensures
 
 pub returns : goal.returns
 returns c = owning_end c.requires c.loop-i.invariant c.loop-i-test.false

@@ -3,17 +3,8 @@ use mathlib.Core.Path.{◌≡◌, subst}
 use Prim.Native.Nat.{ℕ, ◌+◌, ◌-◌, ◌/◌}
 use native.Mathlib.Omega.{arith}
 use Rattle.image_classes.specs.Classes.{ColumnOf}
-use Rattle.writing.proofs.Laws.Ranges.{tokens_of, wrote_none, wrote_then, wrote_token}
+use Rattle.writing.proofs.Laws.Ranges.{tokens_of, wrote_then, wrote_token}
 use Rattle.writing.proofs.ranges.+write_range.Goals as goal
-
-pub loop-i-init : goal.loop-i-init
-loop-i-init t c =
-    let a = c.args in
-    record {
-      inside = omega arith;
-      wrote = wrote_none (tokens_of a.words.now a.sections.width a.kinds.now) a.out.now a.at a.from (omega arith);
-      column = c.requires.4;
-    }
 
 pub move_on-requires : goal.move_on-requires
 move_on-requires t c =

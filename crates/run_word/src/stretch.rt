@@ -1,6 +1,6 @@
 // The run over a stretch of bytes, from any live states and any place, for a rule of at most 64 states. The loop stands once: where it is called with
 // the depth and the presence of chains as literals, the compiler makes a loop of its own for them.
-ghost use Rattle.std.specs.Prelude.{◌≡◌, ◌<◌, ◌≤◌, Bool, List, ℕ, [], ◌∷◌};
+ghost use Rattle.std.specs.Prelude.{◌≡◌, ◌<◌, ◌≤◌, Bool, List, ℕ, [], ◌∷◌, slice_index};
 ghost use Rattle.model.specs.Bits.{bit};
 ghost use Rattle.model.specs.Models.Words.{value};
 ghost use Rattle.run_word.specs.One.{Closed, one_masks, Passed, table_masks, work_masks};
@@ -75,19 +75,16 @@ fn over_plain(
     last: usize,
     depth: usize,
     any: bool,
-    block: u64,
-    below: u64,
-    target: u64,
     table: &[u64; 81],
 ) -> Ran
     requires { Overs image.now stretch.now from last × (depth ≤ 8) }
-    ensures { RanFrom (table_masks image.now any block below target table.now []) depth last stretch.now from
+    ensures { RanFrom (work_masks image.now any table.now []) depth last stretch.now from
         ends.old result ends.new }
 {
     let reach = |live: u64| -> u64
         requires { depth ≤ 8 }
-        ensures { Passed any block below target table.entry.now depth live result }
-    { pass(live, depth, any, block, below, target, table) };
+        ensures { Passed any (slice_index table.entry.now 6) (slice_index table.entry.now 7) (slice_index table.entry.now 8) table.entry.now depth live result }
+    { pass(live, depth, any, table) };
     over(image, stretch, ends, from, last, reach)
 }
 
@@ -130,28 +127,13 @@ fn run_plain(
     ensures { RanFrom (one_masks image.now) depth last stretch.now from ends.old result ends.new }
 {
     let t = *table;
-    let block = t[6];
-    let below = t[7];
-    let target = t[8];
     match (depth, any) {
-        (0, true) => over_plain(
-            image, stretch, ends, from, last, 0, true, block, below, target, &t,
-        ),
-        (0, false) => over_plain(
-            image, stretch, ends, from, last, 0, false, block, below, target, &t,
-        ),
-        (1, true) => over_plain(
-            image, stretch, ends, from, last, 1, true, block, below, target, &t,
-        ),
-        (1, false) => over_plain(
-            image, stretch, ends, from, last, 1, false, block, below, target, &t,
-        ),
-        (2, _) => over_plain(
-            image, stretch, ends, from, last, 2, true, block, below, target, &t,
-        ),
-        _ => over_plain(
-            image, stretch, ends, from, last, depth, any, block, below, target, &t,
-        ),
+        (0, true) => over_plain(image, stretch, ends, from, last, 0, true, &t),
+        (0, false) => over_plain(image, stretch, ends, from, last, 0, false, &t),
+        (1, true) => over_plain(image, stretch, ends, from, last, 1, true, &t),
+        (1, false) => over_plain(image, stretch, ends, from, last, 1, false, &t),
+        (2, _) => over_plain(image, stretch, ends, from, last, 2, true, &t),
+        _ => over_plain(image, stretch, ends, from, last, depth, any, &t),
     }
 }
 

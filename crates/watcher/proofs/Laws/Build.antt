@@ -40,6 +40,10 @@ module _ (rule before : List ℕ) where
   read_says (reading.too_many_states t l d m e) = rw e (too_many_states t l d m refl)
   read_says (reading.read t l d m e) = rw e (t, record { short = l; is_rule = d; few = m; size = refl; held = refl })
 
+  -- a refusal of the reading is passed on
+  pub passed_on : {x y : Refusal} {r : Result ℕ Refusal} → reading.ReadSays rule (Err x) → r ≡ Err y → y ≡ x → BuildSays rule before (answered r before)
+  passed_on R e same = rw (e, same) (read_says R)
+
   -- ---- a tree that was read
   module _ {t : tree.Tree} {m : ℕ} {row : List ℕ} (T : TreeRead t m row) where
     pub some_states : 1 ≤ m

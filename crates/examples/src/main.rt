@@ -3,10 +3,8 @@
 
 #![tactic(auto)]
 
-ghost use Rattle.std.specs.Prelude.{◌+◌, ◌≤◌, ◌<◌};
-
 use desk_report::report;
-use image_sections::sections_of;
+use image_sections::{Sections, sections_of};
 use std::io;
 use watcher::build;
 
@@ -21,31 +19,12 @@ fn show(rt: &impl Print, rule: &[u8], journal: &[u8]) -> io::Result<()> {
     rt.write_all(&text[..length])
 }
 
-fn show_mask(rt: &impl Print, image: &[u64; 4834], at: usize) -> io::Result<()>
-    requires { at < 4834 }
-{
-    let mask = image[at];
-    print!(rt; " {mask}")
-}
-
-// Block, source and target of one depth, where a mask has one word.
-fn show_three(rt: &impl Print, label: &[u8], image: &[u64; 4834], at: usize) -> io::Result<()>
-    requires { at + 3 ≤ 4834 }
-{
+// The masks of one depth, where a mask has one word: block, source and target, or of back edges, which have no block, source and target.
+fn show_depth(rt: &impl Print, label: &[u8], masks: &[u64]) -> io::Result<()> {
     rt.write_all(label)?;
-    show_mask(rt, image, at)?;
-    show_mask(rt, image, at + 1)?;
-    show_mask(rt, image, at + 2)?;
-    rt.write_all(b"\n")
-}
-
-// The same of back edges, which have no block.
-fn show_two(rt: &impl Print, label: &[u8], image: &[u64; 4834], at: usize) -> io::Result<()>
-    requires { at + 2 ≤ 4834 }
-{
-    rt.write_all(label)?;
-    show_mask(rt, image, at)?;
-    show_mask(rt, image, at + 1)?;
+    for mask in masks {
+        print!(rt; " {mask}")?;
+    }
     rt.write_all(b"\n")
 }
 
@@ -53,12 +32,18 @@ fn show_two(rt: &impl Print, label: &[u8], image: &[u64; 4834], at: usize) -> io
 fn show_masks(rt: &impl Print, rule: &[u8]) -> io::Result<()> {
     let mut image = [0u64; 4834];
     build(rule, &mut image);
-    let sections = sections_of(64, 1);
-    show_three(rt, b"scatter 0:", &image, sections.scatter)?;
-    show_three(rt, b"gather 0:", &image, sections.gather)?;
-    show_three(rt, b"propagate 0:", &image, sections.propagate)?;
-    show_three(rt, b"propagate 1:", &image, sections.propagate + 3)?;
-    show_two(rt, b"back 0:", &image, sections.back)
+    let Sections {
+        scatter,
+        gather,
+        propagate,
+        back,
+        ..
+    } = sections_of(64, 1);
+    show_depth(rt, b"scatter 0:", &image[scatter..scatter + 3])?;
+    show_depth(rt, b"gather 0:", &image[gather..gather + 3])?;
+    show_depth(rt, b"propagate 0:", &image[propagate..propagate + 3])?;
+    show_depth(rt, b"propagate 1:", &image[propagate + 3..propagate + 6])?;
+    show_depth(rt, b"back 0:", &image[back..back + 2])
 }
 
 fn show_letters(rt: &impl Print) -> io::Result<()> {

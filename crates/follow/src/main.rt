@@ -5,7 +5,7 @@
 
 ghost use Rattle.io.specs.Counts.{IsPrefixLen};
 
-use follow_report::{Watching, close, hear, open};
+use follow_report::{Opened, Watching, close, hear, open};
 use program_files::read_file;
 use std::io;
 use std::io::Read;
@@ -34,12 +34,10 @@ fn follow(
             return rt.write_all(&text[..length]);
         }
         let said = hear(image, watching, &stretch[..count], &mut text);
-        let length = said.length;
-        rt.write_all(&text[..length])?;
-        if !said.on {
+        rt.write_all(&text[..said.length])?;
+        let Some(next) = said.watching else {
             return Ok(());
-        }
-        let next = said.watching;
+        };
         watching = next;
     }
 }
@@ -50,13 +48,10 @@ fn main(rt: HostRuntime) -> io::Result<()> {
     let rule_length = read_file(&rt, b"rule", &mut rule);
     let mut image = [0u64; 4834];
     let mut text = [0u8; 18];
-    let opened = open(&rule[..rule_length], &mut image, &mut text);
-    let said = opened.said;
-    let length = said.length;
-    rt.write_all(&text[..length])?;
-    if !said.on {
+    let Opened { words, said } = open(&rule[..rule_length], &mut image, &mut text);
+    rt.write_all(&text[..said.length])?;
+    let Some(first) = said.watching else {
         return Ok(());
-    }
-    let words = opened.words;
-    follow(&rt, &mut rt.stdin(), &image[..words], said.watching)
+    };
+    follow(&rt, &mut rt.stdin(), &image[..words], first)
 }

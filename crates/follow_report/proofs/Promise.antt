@@ -1,5 +1,6 @@
 -- THE PROMISE OF FOLLOW (document 02, Wish 1): in whatever stretches a journal arrives, what is written is a line for each of document 01's ends of the
 -- whole journal, rising, and then `total` and their number. It is the promise of cuttings, with each call's ends in writing.
+use Rattle.std.specs.Prelude.{Ok}
 use Rattle.std.proofs.Common.{◌≡◌, ℕ, ◌<◌, List, [], ◌++◌, length, take, replicate, sym, refl, ap, ◌∙◌, append-nil, arith}
 use Rattle.model.specs.Answers.{BuildSays, Counted, done, gives}
 use Rattle.model.specs.Image.{image}
@@ -8,7 +9,6 @@ use Rattle.model.proofs.Answers.Build.{build_one}
 use Rattle.model.proofs.Answers.RoundTrip.{accepted}
 use Rattle.model.proofs.Definitions.EndsList.{ends_one}
 use Rattle.program_lines.specs.Lines.{end_lines, refused_text, total_text}
-use Rattle.answers.specs.declared.Answer.TheVariants.{Done}
 use Rattle.watcher.proofs.Demands.{Acceptable, accepts}
 use Rattle.follow_report.specs.Follow.{Arrives, built, ended, Followed, follows, FollowSays, Next, nothing, Opens, stopped, went_on, Writes}
 use Rattle.follow_report.proofs.Laws.Onward.{never}
@@ -41,7 +41,7 @@ unfollowed {rule} a B z (follows {first = first} (Opens.refused c C y k n e) W) 
 pub cut_anyhow : {rule journal text other : List ℕ} {stretches others : List (List ℕ)} → Arrives journal stretches → Arrives journal others → FollowSays rule stretches text
     → FollowSays rule others other → text ≡ other
 cut_anyhow {journal = journal} J K (follows {n} {after} (built B b) W) Q =
-    let (t, A) = (accepts (Done n) after B).0 (n, refl) in
+    let (t, A) = (accepts (Ok n) after B).0 (n, refl) in
     let P = followed t A J (follows (built B b) W) in
     let R = followed t A K Q in
     P.lines ∙ ap (λ (es : List ℕ). end_lines es ++ total_text (length es)) (ends_one t journal P.ends R.ends P.are R.are) ∙ sym R.lines

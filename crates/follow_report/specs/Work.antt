@@ -1,5 +1,5 @@
 -- WHAT THE PARTS OF A CALL SAY: what is kept as the code holds it, a refusal put in writing, and ends put in writing.
-use Rattle.std.specs.Prelude.{◌≡◌, ℕ, Bool, true, false, List, take}
+use Rattle.std.specs.Prelude.{None, Option, Some, ◌≡◌, ℕ, List, take}
 use Rattle.answers.specs.Answers.{number_of, place_of}
 use Rattle.answers.specs.declared.Refusal.{Refusal}
 use Rattle.image_sections.specs.Sections.{mask_words}
@@ -13,18 +13,17 @@ use Rattle.follow_report.specs.declared.Watching.{Watching}
 abbrev pub kept_in : (words : List ℕ) → Watching → Kept
 kept_in words w = record { mask = take (mask_words words) w.mask; place = w.place; total = w.total }
 
-abbrev pub next_if : Bool → Kept → Next
-next_if true kept = on kept
-next_if false kept = stopped
+abbrev pub next_with : (words : List ℕ) → Option Watching → Next
+next_with words (Some w) = on (kept_in words w)
+next_with words None = stopped
 
 abbrev pub next_in : (words : List ℕ) → Said → Next
-next_in words r = next_if r.on (kept_in words r.watching)
+next_in words r = next_with words r.watching
 
 pub record Stops (refusal : Refusal) (before : List ℕ) (r : Said) (after : List ℕ) : Type 0 where
-  pub off : r.on ≡ false
+  pub off : r.watching ≡ None
   pub put : PutAt (refused_text (number_of refusal) (place_of refusal)) before 0 r.length after
 
 pub record Goes (ends : List ℕ) (count : ℕ) (watching : Watching) (before : List ℕ) (r : Said) (after : List ℕ) : Type 0 where
-  pub on : r.on ≡ true
-  pub kept : r.watching ≡ watching
+  pub on : r.watching ≡ Some watching
   pub put : PutAt (end_lines (take count ends)) before 0 r.length after

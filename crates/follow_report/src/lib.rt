@@ -8,10 +8,9 @@ ghost use Rattle.program_lines.specs.Lines.{Reports, total_text};
 ghost use Rattle.follow_report.specs.Follow.{Begins, Hears, Opens};
 ghost use Rattle.follow_report.specs.Work.{Goes, kept_in, next_in, Stops};
 
-use answers::{Answer, Refusal};
+use answers::Refusal;
 use image_sections::mask_words;
 use program_lines::{put_ends, put_refusal, put_total};
-use std::num::wrapping_add_u64;
 use watcher::{begin, build, step};
 
 // What is kept between stretches: a mask, of whose words the image's first W count, the place, and how many ends were found. The image lies beside it.
@@ -22,12 +21,11 @@ pub struct Watching {
     pub total: u64,
 }
 
-// How long a text is, whether the program goes on after it, and with what.
+// How long a text is, and with what the program goes on after it, if it does.
 #[derive(Clone, Copy)]
 pub struct Said {
     pub length: usize,
-    pub on: bool,
-    pub watching: Watching,
+    pub watching: Option<Watching>,
 }
 
 // The same, with the number of the image's words.
@@ -41,17 +39,10 @@ pub struct Opened {
 fn stop(text: &mut [u8], refusal: Refusal) -> Said
     ensures { Stops refusal text.old result text.new }
 {
-    let mask = [0u64; 8];
-    let watching = Watching {
-        mask,
-        place: 0,
-        total: 0,
-    };
     let length = put_refusal(text, refusal);
     Said {
         length,
-        on: false,
-        watching,
+        watching: None,
     }
 }
 
@@ -63,8 +54,7 @@ fn go_on(text: &mut [u8], ends: &[u32], count: usize, watching: Watching) -> Sai
     let length = put_ends(text, 0, ends, count);
     Said {
         length,
-        on: true,
-        watching,
+        watching: Some(watching),
     }
 }
 
@@ -76,10 +66,9 @@ fn start(image: &[u64], text: &mut [u8]) -> Said
     let mut place = 0u64;
     let mut ends = [0u32; 1];
     let width = mask_words(image);
-    let begun = begin(image, &mut mask[..width], &mut place, &mut ends);
-    match begun {
-        Answer::Refused(refusal) => stop(text, refusal),
-        Answer::Done(count) => {
+    match begin(image, &mut mask[..width], &mut place, &mut ends) {
+        Err(refusal) => stop(text, refusal),
+        Ok(count) => {
             let total = count as u64;
             go_on(text, &ends, count, Watching { mask, place, total })
         }
@@ -91,16 +80,15 @@ pub fn open(rule: &[u8], image: &mut [u64], text: &mut [u8]) -> Opened
     ensures { Reports (Opens rule.now image.old result.words image.new (next_in (take result.words image.new) result.said))
         text.old result.said.length text.new }
 {
-    let built = build(rule, image);
-    match built {
-        Answer::Refused(refusal) => {
-            let said = stop(text, refusal);
-            Opened { words: 0, said }
-        }
-        Answer::Done(words) => {
-            let said = start(&image[..words], text);
-            Opened { words, said }
-        }
+    match build(rule, image) {
+        Err(refusal) => Opened {
+            words: 0,
+            said: stop(text, refusal),
+        },
+        Ok(words) => Opened {
+            words,
+            said: start(&image[..words], text),
+        },
     }
 }
 
@@ -113,11 +101,10 @@ pub fn hear(image: &[u64], watching: Watching, stretch: &[u8], text: &mut [u8]) 
     let mut place = watching.place;
     let mut ends = [0u32; 4096];
     let width = mask_words(image);
-    let stepped = step(image, &mut mask[..width], &mut place, stretch, &mut ends);
-    match stepped {
-        Answer::Refused(refusal) => stop(text, refusal),
-        Answer::Done(count) => {
-            let total = wrapping_add_u64(watching.total, count as u64);
+    match step(image, &mut mask[..width], &mut place, stretch, &mut ends) {
+        Err(refusal) => stop(text, refusal),
+        Ok(count) => {
+            let total = watching.total.wrapping_add(count as u64);
             go_on(text, &ends, count, Watching { mask, place, total })
         }
     }

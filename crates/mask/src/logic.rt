@@ -6,6 +6,7 @@ ghost use Rattle.model.specs.Models.Words.{and_words, each_word, or_words, xor_w
 use crate::{Mask, upto};
 
 // Of each two words the one that `op` makes of them.
+#[inline(always)]
 fn each<F: Fn(u64, u64) -> u64>(a: Mask, b: Mask, n: usize, op: F) -> Mask
     ghost made: { ℕ → ℕ → ℕ }
     requires always { F.IsAlwaysCallable op }
@@ -19,18 +20,21 @@ fn each<F: Fn(u64, u64) -> u64>(a: Mask, b: Mask, n: usize, op: F) -> Mask
     r
 }
 
+#[inline(always)]
 pub fn and(a: Mask, b: Mask, n: usize) -> Mask
     ensures { take n result.words ≡ and_words (take n a.words) (take n b.words) }
 {
     each(a, b, n, |x, y| x & y)
 }
 
+#[inline(always)]
 pub fn or(a: Mask, b: Mask, n: usize) -> Mask
     ensures { take n result.words ≡ or_words (take n a.words) (take n b.words) }
 {
     each(a, b, n, |x, y| x | y)
 }
 
+#[inline(always)]
 pub fn xor(a: Mask, b: Mask, n: usize) -> Mask
     ensures { take n result.words ≡ xor_words (take n a.words) (take n b.words) }
 {

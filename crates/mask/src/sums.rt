@@ -7,6 +7,7 @@ ghost use Rattle.mask.specs.Rows.{Handing, shift_word, top_bit};
 use crate::{Mask, upto};
 
 // From the lowest word up: `step` makes of two words and what comes in the word, and what goes into the next.
+#[inline(always)]
 fn ripple<F: Fn(u64, u64, u64) -> (u64, u64)>(a: Mask, b: Mask, n: usize, step: F) -> Mask
     ghost rule: { Handing }
     requires always { F.IsAlwaysCallable step }
@@ -25,6 +26,7 @@ fn ripple<F: Fn(u64, u64, u64) -> (u64, u64)>(a: Mask, b: Mask, n: usize, step: 
 }
 
 // Each state on by one; the top bit of the last word is lost.
+#[inline(always)]
 pub fn shift(a: Mask, n: usize) -> Mask
     ensures { take n result.words ≡ shift_words (take n a.words) false }
 {
@@ -35,6 +37,7 @@ pub fn shift(a: Mask, n: usize) -> Mask
 }
 
 // The carry is found by comparison, without a branch: compilers make one add-with-carry of it.
+#[inline(always)]
 pub fn add(a: Mask, b: Mask, n: usize) -> Mask
     ensures { take n result.words ≡ add_words (take n a.words) (take n b.words) false }
 {
@@ -46,6 +49,7 @@ pub fn add(a: Mask, b: Mask, n: usize) -> Mask
 }
 
 // The borrow is found in the same way.
+#[inline(always)]
 pub fn subtract(a: Mask, b: Mask, n: usize) -> Mask
     ensures { take n result.words ≡ subtract_words (take n a.words) (take n b.words) false }
 {

@@ -60,13 +60,11 @@ fn shift(tokens: &mut [u64; 2555], from: usize, to: usize, by: usize)
     requires { Numbered from to × (by ≤ 512) }
     ensures { tokens.new ≡ copied tokens.old from (to - from) by }
 {
-    let all = tokens.len();
-    let gap = 5 * by;
-    let mut i = if to + by < all / 5 { 5 * to + gap } else { all };
-    let stop = 5 * from + gap;
-    while i > stop {
-        i -= 1;
-        tokens[i] = tokens[i - gap];
+    let room = tokens.len();
+    let place = 5 * (from + by);
+    if place < room {
+        let end = (5 * to).min(room - 5 * by);
+        tokens.copy_within(5 * from..end, place);
     }
 }
 

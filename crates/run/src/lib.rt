@@ -10,5 +10,4 @@ pub mod rows;
 pub mod steps;
 pub mod stretch;
 pub mod table;
-mod turns;
 mod widths;

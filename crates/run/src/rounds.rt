@@ -11,6 +11,7 @@ use mask::Mask;
 use run_moves::{come_back, meet, same};
 
 // With what the back edges of depth k add.
+#[inline(always)]
 fn return_at(live: Mask, first: Mask, k: usize, n: usize, table: &Table) -> Mask
     requires { k < 8 }
     ensures { take n result.words ≡ or_words (take n live.words)
@@ -28,6 +29,7 @@ fn return_at(live: Mask, first: Mask, k: usize, n: usize, table: &Table) -> Mask
 }
 
 // What the back edges of all depths add to what the passes gave.
+#[inline(always)]
 fn returns(first: Mask, depth: usize, n: usize, table: &Table) -> Mask
     requires { depth ≤ 8 }
     ensures { take n result.words ≡ returns_words (pass_masks n table.now) depth (take n first.words) (take n first.words) }
@@ -40,6 +42,7 @@ fn returns(first: Mask, depth: usize, n: usize, table: &Table) -> Mask
 }
 
 // The same where all sources are at hand: mostly none of them is live, and nothing is added.
+#[inline(always)]
 pub fn come_round(first: Mask, depth: usize, n: usize, table: &Table, sources: Mask) -> Mask
     requires { (depth ≤ 8) × Whole table.now depth × Sources table.now depth sources.words }
     ensures { take n result.words ≡ returns_words (pass_masks n table.now) depth (take n first.words) (take n first.words) }

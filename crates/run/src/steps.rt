@@ -13,6 +13,7 @@ use mask::Mask;
 use run_moves::{advance, gather, propagate, scatter, start};
 
 // Scatter, gather and propagate with the nine masks of depth k.
+#[inline(always)]
 fn scatter_at(live: Mask, k: usize, n: usize, table: &Table) -> Mask
     requires { k ≤ 8 }
     ensures { take n result.words ≡ scatter_words (take n (get_or table.now (9 * k) [])) (take n (get_or table.now (9 * k + 1) []))
@@ -30,6 +31,7 @@ fn scatter_at(live: Mask, k: usize, n: usize, table: &Table) -> Mask
     )
 }
 
+#[inline(always)]
 fn gather_at(live: Mask, k: usize, n: usize, table: &Table) -> Mask
     requires { k ≤ 8 }
     ensures { take n result.words ≡ gather_words (take n (get_or table.now (9 * k + 3) [])) (take n (get_or table.now (9 * k + 4) []))
@@ -47,6 +49,7 @@ fn gather_at(live: Mask, k: usize, n: usize, table: &Table) -> Mask
     )
 }
 
+#[inline(always)]
 fn propagate_at(live: Mask, k: usize, n: usize, table: &Table) -> Mask
     requires { k ≤ 8 }
     ensures { take n result.words ≡ propagate_words (take n (get_or table.now (9 * k + 6) [])) (take n (plus_words (get_or table.now (9 * k + 7) []) true))
@@ -65,6 +68,7 @@ fn propagate_at(live: Mask, k: usize, n: usize, table: &Table) -> Mask
 }
 
 // Up from the deepest alternatives to the rule's own sequence: along a depth's chains before its ends go up one depth.
+#[inline(always)]
 pub fn rise(live: Mask, depth: usize, n: usize, table: &Table) -> Mask
     requires { depth ≤ 8 }
     ensures { take n result.words ≡ rise_words (pass_masks n table.now) depth (take n live.words) }
@@ -78,6 +82,7 @@ pub fn rise(live: Mask, depth: usize, n: usize, table: &Table) -> Mask
 }
 
 // Down again, rising from depth 1 to d: inner alternatives start only once the outer ones have.
+#[inline(always)]
 pub fn fall(live: Mask, depth: usize, n: usize, table: &Table) -> Mask
     requires { depth ≤ 8 }
     ensures { take n result.words ≡ fall_words (pass_masks n table.now) depth 0 (take n live.words) }
@@ -91,6 +96,7 @@ pub fn fall(live: Mask, depth: usize, n: usize, table: &Table) -> Mask
 }
 
 // Up and down: all that the live states reach by edges without a letter.
+#[inline(always)]
 pub fn pass(live: Mask, depth: usize, n: usize, table: &Table) -> Mask
     requires { depth ≤ 8 }
     ensures { take n result.words ≡ pass_words (pass_masks n table.now) depth (take n live.words) }
@@ -100,6 +106,7 @@ pub fn pass(live: Mask, depth: usize, n: usize, table: &Table) -> Mask
 }
 
 // The live states moved by a byte, and state 0; the byte's masks are read where they lie.
+#[inline(always)]
 pub fn moved(live: Mask, image: &[u64], width: usize, n: usize, byte: u8) -> Mask
     requires { (width ≤ 8) × (repeat_place width 256 ≤ length image.now) }
     ensures { take n result.words ≡ move_words (take n (row_at image.now (letter_place width byte) width))

@@ -1,15 +1,13 @@
 // The run over a stretch of bytes, from any live states and any place, for a rule of any size.
-ghost use Rattle.std.specs.Prelude.{◌≡◌, ◌/◌, ◌≤◌, ◌<◌, length, take};
+ghost use Rattle.std.specs.Prelude.{◌≡◌, ◌/◌, ◌<◌, false, length, take};
 ghost use Rattle.model.specs.Bits.{bit};
 ghost use Rattle.model.specs.Models.Words.{value};
 ghost use Rattle.run.specs.Work.{NoBack, Overs, rule_masks, Sources};
 ghost use Rattle.run_word.specs.Ends.{RanOver};
 
 use crate::table::{Table, all_sources};
-use crate::turns::turn_by;
 use crate::widths::step_by;
 use mask::Mask;
-use run_moves::same;
 use run_word::places::note;
 
 // The live states after a stretch, and the total of its ends with those found before.
@@ -17,14 +15,6 @@ use run_word::places::note;
 pub struct Ran {
     pub words: [u64; 8],
     pub total: u64,
-}
-
-// Where the portion of at most 256 bytes stops that begins at a place. Loops in a loop tell the compiler that what they call is worth unfolding.
-fn portion(at: usize, length: usize) -> usize
-    requires { at ≤ length }
-    ensures { (at ≤ result) × (result ≤ length) × (at < length → at < result) }
-{
-    if length - at > 256 { at + 256 } else { length }
 }
 
 // Whether a state is live, looked up where the live states lie: a copy of eight words for each place would cost a tenth of a byte's time.
@@ -35,47 +25,8 @@ pub fn is_live(live: &[u64], state: usize) -> bool
     (live[state / 64] >> (state % 64)) & 1 == 1
 }
 
-// With the table of work: a step for each byte, and its place in the whole text noted if the accepting state is then live. A rule without back edges.
-fn run_plain(
-    image: &[u64],
-    stretch: &[u8],
-    places: &mut [u32],
-    place: u64,
-    found: usize,
-    width: usize,
-    depth: usize,
-    last: usize,
-    first: [u64; 8],
-    table: &Table,
-) -> Ran
-    requires { Overs image.now stretch.now place found width depth last table.now × NoBack table.now depth }
-    ensures { RanOver (rule_masks image.now width table.now) width depth last place found stretch.now (take width first)
-        places.old result.words result.total places.new }
-{
-    let mut live = first;
-    let mut total = found;
-    let mut p: usize = 0;
-    while p < stretch.len() {
-        let stop = portion(p, stretch.len());
-        while p < stop {
-            step_by(&mut live, image, width, stretch[p], depth, table);
-            p += 1;
-            total = note(
-                places,
-                total,
-                (place + p as u64) as u32,
-                is_live(&live, last),
-            );
-        }
-    }
-    Ran {
-        words: live,
-        total: total as u64,
-    }
-}
-
-// The same with back edges.
-fn run_back(
+// With the table of work: a step for each byte, and its place in the whole text noted if the accepting state is then live.
+fn run_by<const BACK: bool>(
     image: &[u64],
     stretch: &[u8],
     places: &mut [u32],
@@ -88,25 +39,21 @@ fn run_back(
     table: &Table,
     sources: Mask,
 ) -> Ran
-    requires { Overs image.now stretch.now place found width depth last table.now × Sources table.now depth sources.words }
+    requires { Overs image.now stretch.now place found width depth last table.now × Sources table.now depth sources.words
+        × (BACK ≡ false → NoBack table.now depth) }
     ensures { RanOver (rule_masks image.now width table.now) width depth last place found stretch.now (take width first)
         places.old result.words result.total places.new }
 {
     let mut live = first;
     let mut total = found;
-    let mut p: usize = 0;
-    while p < stretch.len() {
-        let stop = portion(p, stretch.len());
-        while p < stop {
-            turn_by(&mut live, image, width, stretch[p], depth, table, sources);
-            p += 1;
-            total = note(
-                places,
-                total,
-                (place + p as u64) as u32,
-                is_live(&live, last),
-            );
-        }
+    for (p, byte) in stretch.iter().enumerate() {
+        step_by::<BACK>(&mut live, image, width, *byte, depth, table, sources);
+        total = note(
+            places,
+            total,
+            (place + p as u64 + 1) as u32,
+            is_live(&live, last),
+        );
     }
     Ran {
         words: live,
@@ -114,7 +61,7 @@ fn run_back(
     }
 }
 
-// Which of the two is asked once: with one loop for both, a rule without back edges would pay for them at each byte.
+// Whether there are back edges is asked once: asked at each byte, a rule without them would pay for them.
 pub fn run_over(
     image: &[u64],
     stretch: &[u8],
@@ -132,12 +79,12 @@ pub fn run_over(
         places.old result.words result.total places.new }
 {
     let sources = all_sources(table, depth);
-    if same(sources, mask::none(), 8) {
-        return run_plain(
-            image, stretch, places, place, found, width, depth, last, first, table,
+    if sources.words == [0; 8] {
+        return run_by::<false>(
+            image, stretch, places, place, found, width, depth, last, first, table, sources,
         );
     }
-    run_back(
+    run_by::<true>(
         image, stretch, places, place, found, width, depth, last, first, table, sources,
     )
 }

@@ -24,10 +24,8 @@ fn unshift(a: [u64; 8]) -> [u64; 8]
     ensures { result ≡ unshift_words a }
 {
     let mut r = a;
-    let mut i = 0;
-    while i < 7 {
+    for i in 0..7 {
         r[i] = (a[i] >> 1) | (a[i + 1] << 63);
-        i += 1;
     }
     r[7] = a[7] >> 1;
     r

@@ -17,6 +17,7 @@ use mask::sums::{add, shift, subtract};
 use mask::{Mask, upto};
 
 // From each live union start to the starts of its alternatives: below the block's bit the difference sets all bits from the source on.
+#[inline(always)]
 pub fn scatter(live: Mask, block: Mask, source: Mask, target: Mask, n: usize) -> Mask
     ensures { take n result.words ≡ scatter_words (take n block.words) (take n source.words) (take n target.words) (take n live.words) }
 {
@@ -27,6 +28,7 @@ pub fn scatter(live: Mask, block: Mask, source: Mask, target: Mask, n: usize) ->
 }
 
 // From each live end of an alternative to its union's end: the sum carries through the block.
+#[inline(always)]
 pub fn gather(live: Mask, block: Mask, source: Mask, target: Mask, n: usize) -> Mask
     ensures { take n result.words ≡ gather_words (take n block.words) (take n source.words) (take n target.words) (take n live.words) }
 {
@@ -37,6 +39,7 @@ pub fn gather(live: Mask, block: Mask, source: Mask, target: Mask, n: usize) -> 
 }
 
 // The states that the difference from the sources changes: (source - 1) - from is the complement of from - source.
+#[inline(always)]
 fn change(from: Mask, below: Mask, n: usize) -> Mask
     ensures { take n result.words ≡ xor_words (not_words (subtract_words (take n from.words) (take n (plus_words below.words true)) false)) (take n from.words) }
 {
@@ -45,6 +48,7 @@ fn change(from: Mask, below: Mask, n: usize) -> Mask
 }
 
 // Along each chain of propagate edges from its smallest live state to its end, with the source less one.
+#[inline(always)]
 pub fn propagate(live: Mask, block: Mask, below: Mask, target: Mask, n: usize) -> Mask
     ensures { take n result.words ≡ propagate_words (take n block.words) (take n (plus_words below.words true)) (take n target.words) (take n live.words) }
 {
@@ -56,6 +60,7 @@ pub fn propagate(live: Mask, block: Mask, below: Mask, target: Mask, n: usize) -
 }
 
 // By a byte: one state on along the letters, staying along the repeats, and the start.
+#[inline(always)]
 pub fn advance(live: Mask, letters: Mask, repeats: Mask, start: Mask, n: usize) -> Mask
     ensures { take n result.words ≡ move_words (take n letters.words) (take n repeats.words) (take n start.words) (take n live.words) }
 {
@@ -68,6 +73,7 @@ pub fn advance(live: Mask, letters: Mask, repeats: Mask, start: Mask, n: usize) 
 
 // The targets of the back edges whose sources are live. A target's source is the first one at or past it, so the words go from the highest down, and
 // each hands on whether the first source above is live.
+#[inline(always)]
 fn lead_back(live: Mask, source: Mask, target: Mask, n: usize) -> Mask
     ensures { take n result.words ≡ return_words (take n source.words) (take n target.words) (take n live.words) }
 {
@@ -84,6 +90,7 @@ fn lead_back(live: Mask, source: Mask, target: Mask, n: usize) -> Mask
 }
 
 // Whether a state is in both.
+#[inline(always)]
 pub fn meet(a: Mask, b: Mask, n: usize) -> bool
     ensures { Meets n a.words b.words result }
 {
@@ -95,6 +102,7 @@ pub fn meet(a: Mask, b: Mask, n: usize) -> bool
 }
 
 // Whether every state of b is in a.
+#[inline(always)]
 fn holds(a: Mask, b: Mask, n: usize) -> bool
     ensures { result ≡ true → Holds n a.words b.words }
 {
@@ -107,6 +115,7 @@ fn holds(a: Mask, b: Mask, n: usize) -> bool
 }
 
 // With the targets of the back edges whose sources the passes reached: none without a live source, and no new one where all are live.
+#[inline(always)]
 pub fn come_back(live: Mask, first: Mask, source: Mask, target: Mask, n: usize) -> Mask
     ensures { take n result.words ≡ or_words (take n live.words) (return_words (take n source.words) (take n target.words) (take n first.words)) }
 {
@@ -121,6 +130,7 @@ pub fn come_back(live: Mask, first: Mask, source: Mask, target: Mask, n: usize) 
 }
 
 // Whether the same states are in both.
+#[inline(always)]
 pub fn same(a: Mask, b: Mask, n: usize) -> bool
     ensures { result ≡ same_words (take n a.words) (take n b.words) }
 {

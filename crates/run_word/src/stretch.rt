@@ -1,12 +1,10 @@
 // The run over a stretch of bytes, from any live states and any place, for a rule of at most 64 states. The loop stands once: where it is called with
 // the depth and the presence of chains as literals, the compiler makes a loop of its own for them.
-ghost use Rattle.std.specs.Prelude.{◌≡◌, ◌<◌, ◌≤◌, [], ◌∷◌, length};
+ghost use Rattle.std.specs.Prelude.{◌≡◌, ◌<◌, ◌≤◌, Bool, List, ℕ, [], ◌∷◌, slice_index};
 ghost use Rattle.model.specs.Bits.{bit};
-ghost use Rattle.model.specs.Models.Sections.{repeat_place};
 ghost use Rattle.model.specs.Models.Words.{value};
-ghost use Rattle.run_word.specs.One.{one_masks, table_masks, work_masks};
-ghost use Rattle.run_word.specs.Ends.{Limits, RanOver};
-ghost use Rattle.run_word.specs.Stretch.{Chosen, Overs, RanFrom};
+ghost use Rattle.run_word.specs.One.{Closed, one_masks, Passed, table_masks, work_masks};
+ghost use Rattle.run_word.specs.Stretch.{Chosen, Closes, Overs, RanFrom};
 
 use crate::places::note;
 use crate::rounds::close;
@@ -35,35 +33,29 @@ pub fn is_live(live: u64, state: usize) -> bool
     (live >> state) & 1 == 1
 }
 
-// With the table of work: a step for each byte, and its place in the whole text noted if the accepting state is then live.
-fn over(
+// A step for each byte: the move by it, and all that `reach` leads to from there. Its place in the whole text is noted if the accepting state is then live.
+#[inline(always)]
+fn over<F: Fn(u64) -> u64>(
     image: &[u64],
     stretch: &[u8],
     ends: &mut [u32],
-    first: u64,
-    place: u64,
-    found: usize,
+    from: From,
     last: usize,
-    depth: usize,
-    any: bool,
-    block: u64,
-    below: u64,
-    target: u64,
-    table: &[u64; 81],
+    reach: F,
 ) -> Ran
-    requires { (repeat_place 1 256 ≤ length image.now) × (last < 64) × (depth ≤ 8) × Limits place found stretch.now }
-    ensures { RanOver (table_masks image.now any block below target table.now []) 1 depth last place found stretch.now (first ∷ [])
-        ends.old (result.live ∷ []) result.total ends.new }
+    requires begins { Overs image.now stretch.now from last }
+    requires callable { F.IsAlwaysCallable reach }
+    ensures { (any : Bool) (block below target : ℕ) (table backs : List ℕ) (d : ℕ) → Closes (table_masks image.now any block below target table backs) d (F.post reach)
+        → RanFrom (table_masks image.now any block below target table backs) d last stretch.now from ends.old result ends.new }
 {
-    let mut live = first;
-    let mut total = found;
+    let mut live = from.live;
+    let mut total = from.found;
     for (p, byte) in stretch.iter().enumerate() {
-        let on = moved(live, image, *byte);
-        live = pass(on, depth, any, block, below, target, table);
+        live = reach(moved(live, image, *byte));
         total = note(
             ends,
             total,
-            (place + (p as u64 + 1)) as u32,
+            (from.place + (p as u64 + 1)) as u32,
             is_live(live, last),
         );
     }
@@ -73,26 +65,27 @@ fn over(
     }
 }
 
-// The loop for one depth and for rules with chains or without: what the compiler makes of it has both as literals.
-fn over_fixed<const DEPTH: usize, const ANY: bool>(
+// The loop of a rule without back edges: where the depth and the presence of chains are literals, one of its own for them.
+#[inline(always)]
+fn over_plain(
     image: &[u64],
     stretch: &[u8],
     ends: &mut [u32],
     from: From,
     last: usize,
-    block: u64,
-    below: u64,
-    target: u64,
+    depth: usize,
+    any: bool,
     table: &[u64; 81],
 ) -> Ran
-    requires { Overs image.now stretch.now from last × (DEPTH ≤ 8) }
-    ensures { RanFrom (table_masks image.now ANY block below target table.now []) DEPTH last stretch.now from
+    requires { Overs image.now stretch.now from last × (depth ≤ 8) }
+    ensures { RanFrom (work_masks image.now any table.now []) depth last stretch.now from
         ends.old result ends.new }
 {
-    over(
-        image, stretch, ends, from.live, from.place, from.found, last, DEPTH, ANY, block, below,
-        target, table,
-    )
+    let reach = |live: u64| -> u64
+        requires { depth ≤ 8 }
+        ensures { Passed any (slice_index table.entry.now 6) (slice_index table.entry.now 7) (slice_index table.entry.now 8) table.entry.now depth live result }
+    { pass(live, depth, any, table) };
+    over(image, stretch, ends, from, last, reach)
 }
 
 // The loop of a rule with back edges: each step closes in two rounds.
@@ -111,22 +104,11 @@ fn over_back(
     ensures { RanFrom (work_masks image.now any table.now backs.now) depth last stretch.now from
         ends.old result ends.new }
 {
-    let mut live = from.live;
-    let mut total = from.found;
-    for (p, byte) in stretch.iter().enumerate() {
-        let next = moved(live, image, *byte);
-        live = close(next, depth, any, table, backs);
-        total = note(
-            ends,
-            total,
-            (from.place + (p as u64 + 1)) as u32,
-            is_live(live, last),
-        );
-    }
-    Ran {
-        live,
-        total: total as u64,
-    }
+    let reach = |live: u64| -> u64
+        requires { depth ≤ 8 }
+        ensures { Closed any table.entry.now backs.entry.now depth live result }
+    { close(live, depth, any, table, backs) };
+    over(image, stretch, ends, from, last, reach)
 }
 
 // The loop without back edges is chosen once, before the stretch. The table is copied: no store through `ends` can change the copy, so the compiler reads
@@ -145,27 +127,13 @@ fn run_plain(
     ensures { RanFrom (one_masks image.now) depth last stretch.now from ends.old result ends.new }
 {
     let t = *table;
-    let block = t[6];
-    let below = t[7];
-    let target = t[8];
     match (depth, any) {
-        (0, true) => {
-            over_fixed::<0, true>(image, stretch, ends, from, last, block, below, target, &t)
-        }
-        (0, false) => {
-            over_fixed::<0, false>(image, stretch, ends, from, last, block, below, target, &t)
-        }
-        (1, true) => {
-            over_fixed::<1, true>(image, stretch, ends, from, last, block, below, target, &t)
-        }
-        (1, false) => {
-            over_fixed::<1, false>(image, stretch, ends, from, last, block, below, target, &t)
-        }
-        (2, _) => over_fixed::<2, true>(image, stretch, ends, from, last, block, below, target, &t),
-        _ => over(
-            image, stretch, ends, from.live, from.place, from.found, last, depth, any, block,
-            below, target, &t,
-        ),
+        (0, true) => over_plain(image, stretch, ends, from, last, 0, true, &t),
+        (0, false) => over_plain(image, stretch, ends, from, last, 0, false, &t),
+        (1, true) => over_plain(image, stretch, ends, from, last, 1, true, &t),
+        (1, false) => over_plain(image, stretch, ends, from, last, 1, false, &t),
+        (2, _) => over_plain(image, stretch, ends, from, last, 2, true, &t),
+        _ => over_plain(image, stretch, ends, from, last, depth, any, &t),
     }
 }
 

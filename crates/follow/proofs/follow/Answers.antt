@@ -3,7 +3,6 @@ use mathlib.Core.Path.{ap}
 use Prim.Native.Nat.{◌<◌}
 use lib.ListN.{length}
 use native.Mathlib.Omega.{arith}
-use borrow.Author.Tests.{not-false}
 use Rattle.program_lines.proofs.Laws.Room.{first}
 use Rattle.follow_report.proofs.Laws.Onward.{heard_place}
 use Rattle.follow_report.proofs.Laws.Short.{hears_short, total_short}
@@ -34,5 +33,5 @@ loop-stretch-smaller g c =
     let h = c.hear-said in
     let w = c.loop-stretch.watching in
     let some : 0 < c.read_some-count.result = omega arith in
-    let p = heard_place c.args.image.now w h.result (not-false h.result.on c.if-not-said.false) h.ensures.says in
+    let p = heard_place c.args.image.now w h.result c.in-Some.is h.ensures.says in
     omega (arith, p, some, c.read_some-count.ensures.1)

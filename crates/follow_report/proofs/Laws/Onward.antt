@@ -1,9 +1,10 @@
 -- A PROGRAM THAT GOES ON has an image, and with each stretch its watch goes by as many places, not past 4,294,967,295: so its loop ends.
-use Rattle.std.proofs.Common.{◌≡◌, ℕ, ◌+◌, ◌≤◌, Bool, true, List, length, sym, ap, ◌∙◌, arith}
+use Rattle.std.specs.Prelude.{Some}
+use Rattle.std.proofs.Common.{◌≡◌, ℕ, ◌+◌, ◌≤◌, List, length, sym, ap, ◌∙◌, arith}
 use Rattle.model.specs.Watch.{stepped, StepSays, stretch_too_long, text_too_long, Watched}
 use Rattle.program_lines.proofs.Laws.Room.{build_fits}
 use Rattle.follow_report.specs.Follow.{built, Hears, Kept, Next, on, Opens, stopped, Told}
-use Rattle.follow_report.specs.Work.{kept_in, next_if, next_in}
+use Rattle.follow_report.specs.Work.{kept_in, next_in, next_with}
 use Rattle.follow_report.specs.declared.Said.{Said}
 use Rattle.follow_report.specs.declared.Watching.{Watching}
 
@@ -24,21 +25,22 @@ place_of stopped = 0
 pub never : {kept : Kept} → on kept ≡ stopped → ⊥
 never p = let z : ◌≡◌ {A = ℕ} 0 1 = cc in omega arith
 
-goes_on : (words : List ℕ) (r : Said) → r.on ≡ true → next_in words r ≡ on (kept_in words r.watching)
-goes_on words r e = ap (λ (b : Bool). next_if b (kept_in words r.watching)) e
+goes_on : (words : List ℕ) (r : Said) {next : Watching} → r.watching ≡ Some next → next_in words r ≡ on (kept_in words next)
+goes_on words r e = ap (next_with words) e
 
-told_place : (words : List ℕ) (r : Said) {w : Watched} {total : ℕ} {text : List ℕ} → r.on ≡ true → Told w total (next_in words r) text
-    → (w.number ≡ 0) × (r.watching.place ≡ w.lent.place)
+told_place : (words : List ℕ) (r : Said) {next : Watching} {w : Watched} {total : ℕ} {text : List ℕ} → r.watching ≡ Some next → Told w total (next_in words r) text
+    → (w.number ≡ 0) × (next.place ≡ w.lent.place)
 told_place words r e (Told.found z n t) = (z, ap place_of (sym (goes_on words r e) ∙ n))
 told_place words r e (Told.refused z n t) = absurd (never (sym (goes_on words r e) ∙ n))
 
-pub heard_place : (words : List ℕ) (w : Watching) (r : Said) {stretch text : List ℕ} → r.on ≡ true → Hears words (kept_in words w) stretch (next_in words r) text
-    → (r.watching.place ≡ w.place + length stretch) × (r.watching.place ≤ 4294967295)
+pub heard_place : (words : List ℕ) (w : Watching) (r : Said) {next : Watching} {stretch text : List ℕ} → r.watching ≡ Some next
+    → Hears words (kept_in words w) stretch (next_in words r) text
+    → (next.place ≡ w.place + length stretch) × (next.place ≤ 4294967295)
 heard_place words w r e H =
     let t = told_place words r e H.told in
     omega (arith, t.1, step_place H.says t.0)
 
 -- ---- an image that a watch is begun with lies in the words lent
-pub opened_words : (words : List ℕ) (r : Said) {rule lent after text : List ℕ} {n : ℕ} → r.on ≡ true → Opens rule lent n after (next_in words r) text → n ≤ length lent
+pub opened_words : (words : List ℕ) (r : Said) {next : Watching} {rule lent after text : List ℕ} {n : ℕ} → r.watching ≡ Some next → Opens rule lent n after (next_in words r) text → n ≤ length lent
 opened_words words r e (built B b) = (build_fits B).count
 opened_words words r e (Opens.refused a B l k n t) = absurd (never (sym (goes_on words r e) ∙ n))

@@ -5,19 +5,19 @@ use Rattle.follow_report.proofs.open.Goals as goal
 pub slice_bounds-start-end : goal.slice_bounds-start-end
 slice_bounds-start-end c =
     let b = c.build-built in
-    (image_first b.result b.new.image b.ensures c.in-Done.is b.auto.image).fits
+    (image_first b.result b.new.image b.ensures c.in-Ok.is b.auto.image).fits
 
-pub slice_bounds-start-end-in-Done : goal.slice_bounds-start-end-in-Done
-slice_bounds-start-end-in-Done c =
+pub slice_bounds-start-end-in-Ok : goal.slice_bounds-start-end-in-Ok
+slice_bounds-start-end-in-Ok c =
     let b = c.build-built in
-    (image_first b.result b.new.image b.ensures c.in-Done.is b.auto.image).counted
+    (image_first b.result b.new.image b.ensures c.in-Ok.is b.auto.image).counted
 
-pub returns-in-Refused : goal.returns-in-Refused
-returns-in-Refused c =
+pub returns-in-Err : goal.returns-in-Err
+returns-in-Err c =
     let b = c.build-built in
-    build_refused b.result b.new.image b.ensures c.in-Refused.is c.stop-said.ensures
+    build_refused b.result b.new.image b.ensures c.in-Err.is c.stop-said.ensures
 
-pub returns-in-Done : goal.returns-in-Done
-returns-in-Done c =
+pub returns-in-Ok : goal.returns-in-Ok
+returns-in-Ok c =
     let b = c.build-built in
-    image_goes_on b.result b.new.image b.ensures c.in-Done.is c.start-said.result c.start-said.ensures
+    image_goes_on b.result b.new.image b.ensures c.in-Ok.is c.start-said.result c.start-said.ensures

@@ -6,13 +6,13 @@ use Rattle.follow_report.proofs.start.Goals as goal
 pub slice_bounds-begin-end : goal.slice_bounds-begin-end
 slice_bounds-begin-end c = (wide c.args.image.now (replicate 8 0) c.mask_words-width.ensures refl).counted
 
-pub returns-in-Refused : goal.returns-in-Refused
-returns-in-Refused c =
+pub returns-in-Err : goal.returns-in-Err
+returns-in-Err c =
     let b = c.begin-begun in
-    begin_refused c.args.image.now c.mask_words-width.ensures b.result b.new.mask b.new.place b.new.ends b.ensures c.in-Refused.is c.stop.ensures
+    begin_refused c.args.image.now c.mask_words-width.ensures b.result b.new.mask b.new.place b.new.ends b.ensures c.in-Err.is c.stop.ensures
 
-pub returns-in-Done : goal.returns-in-Done
-returns-in-Done c =
+pub returns-in-Ok : goal.returns-in-Ok
+returns-in-Ok c =
     let b = c.begin-begun in
     begin_goes c.args.image.now c.mask_words-width.ensures b.result b.new.mask b.new.place b.new.ends b.ensures
-    (drop c.mask_words-width.result (replicate 8 0)) c.in-Done.is c.go_on.ensures (omega arith) b.auto.mask
+    (drop c.mask_words-width.result (replicate 8 0)) c.in-Ok.is c.go_on.ensures (omega arith) b.auto.mask

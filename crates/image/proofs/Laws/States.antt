@@ -3,14 +3,15 @@
 use mathlib.Core.Logic.{◌≢◌}
 use mathlib.Core.Path.{◌≡◌, refl, sym, ap, ap₂, ◌∙◌}
 use mathlib.Core.Bool.{Bool, true, false}
-use mathlib.Core.List.{List, [], ◌∷◌, ◌++◌, append_assoc}
-use Prim.Native.Nat.{ℕ, zero, suc, ◌+◌, ◌*◌, ◌/◌, ◌%◌, ◌^◌, ◌≤◌, ◌<◌}
+use mathlib.Core.List.{List, ◌++◌, append_assoc}
+use Prim.Native.Nat.{ℕ, zero, suc, ◌+◌, ◌-◌, ◌*◌, ◌/◌, ◌%◌, ◌^◌, ◌≤◌, ◌<◌}
 use native.Mathlib.Nat.{add-zero, mul_comm, mul-suc, mul-zero, zero-add}
 use native.Mathlib.Omega.{arith}
 use lib.Bits.{bit_and, bit_or}
 use lib.Dec.{eqb}
 use lib.ListN.{get_or-append, drop, get_or, length, length-append, length-set, replicate, replicate-append-replicate, set, take}
 use lib.Seq.{get_or-append-add, get_or-take, length-take-le, set-append_left, sets, take-set-lt}
+use Rattle.std.proofs.lemmas.List.{set-append_right, take-replicate}
 use Rattle.model.specs.Bits.{bit}
 use Rattle.model.specs.Image.{join}
 use Rattle.model.specs.Models.Words.{put_bit}
@@ -25,16 +26,12 @@ use Rattle.image.proofs.Laws.Parts.{join_snoc}
 use Rattle.image.proofs.Laws.Stores.{sets_between}
 
 -- ---- a store in the midst of words
-set_add : (xs ys : List ℕ) (n v : ℕ) → set (xs ++ ys) (length xs + n) v ≡ xs ++ set ys n v
-set_add [] ys n v = ap (λ (k : ℕ). set ys k v) (zero-add n)
-set_add (x ∷ xs) ys n v =
-    let e : length (x ∷ xs) + n ≡ suc (length xs + n) = omega arith in
-    ap (λ (k : ℕ). set (x ∷ (xs ++ ys)) k v) e ∙ ap (λ (ws : List ℕ). x ∷ ws) (set_add xs ys n v)
-
 module _ (xs r rest : List ℕ) (p j : ℕ) (e : p ≡ length xs) (h : j < length r) where
   set_mid : (v : ℕ) → set (xs ++ (r ++ rest)) (p + j) v ≡ xs ++ (set r j v ++ rest)
   set_mid v =
-      ap (λ (n : ℕ). set (xs ++ (r ++ rest)) (n + j) v) e ∙ set_add xs (r ++ rest) j v ∙ ap (λ (ws : List ℕ). xs ++ ws) (set-append_left r rest j v h)
+      let k : p + j - p ≡ j = omega arith in
+      set-append_right xs (r ++ rest) p (p + j) v (sym e) (omega arith)
+      ∙ ap (λ (ws : List ℕ). xs ++ ws) (ap (λ (i : ℕ). set (r ++ rest) i v) k ∙ set-append_left r rest j v h)
 
   get_d_mid : get_or (xs ++ (r ++ rest)) (p + j) 0 ≡ get_or r j 0
   get_d_mid =
@@ -117,17 +114,12 @@ module _ (W : ℕ) (row : List ℕ) (i : ℕ) (narrow : W ≤ 8) (h : suc i < 64
           ap₂ (λ (n m : ℕ). bit (get_or row (5 * i + 1 + n) 0) m) e d
 
 -- ---- BEFORE ANY TOKEN the rows are empty
-take_none : (W n : ℕ) → W ≤ n → take W (replicate {A = ℕ} n 0) ≡ replicate W 0
-take_none zero n h = refl
-take_none (suc W) zero h = absurd (omega arith)
-take_none (suc W) (suc n) h = ap (λ (ws : List ℕ). 0 ∷ ws) (take_none W n (omega arith))
-
 join_none : (W : ℕ) (row : List ℕ) → W ≤ 8 → (n a : ℕ) → replicate (n * W) 0 ≡ join n a (λ b. take W (letter_row row 0 b))
 join_none W row h zero a = let e : 0 * W ≡ 0 = omega arith in ap (λ (k : ℕ). replicate {A = ℕ} k 0) e
 join_none W row h (suc n) a =
     let e : suc n * W ≡ W + n * W = omega arith in
     ap (λ (k : ℕ). replicate {A = ℕ} k 0) e ∙ sym (replicate-append-replicate W (n * W) 0)
-    ∙ ap₂ ◌++◌ (sym (take_none W 8 h)) (join_none W row h n (suc a))
+    ∙ ap₂ ◌++◌ (sym (take-replicate {X = ℕ} W 8 0 h)) (join_none W row h n (suc a))
 
 pub no_token : (W : ℕ) (row : List ℕ) → W ≤ 8 → (q : ℕ) → replicate (64 * W) 0 ≡ quarter_part W row 0 q
 no_token W row h q = join_none W row h 64 (64 * q)

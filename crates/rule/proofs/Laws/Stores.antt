@@ -1,14 +1,15 @@
 -- RUNS OF STORES (`sets`): a store goes to the list's head or into its tail, so the laws go by the list and by the run, and hold also where the list's
 -- end cuts the run off.
-use mathlib.Core.Path.{◌≡◌, refl, sym, ap, ap₂, ◌∙◌}
+use mathlib.Core.Path.{◌≡◌, refl, sym, ap, ◌∙◌}
 use mathlib.Core.Logic.{◌⊎◌, inl, inr}
 use mathlib.Core.List.{List, [], ◌∷◌, ◌++◌, append_assoc}
-use Prim.Native.Nat.{ℕ, zero, suc, ◌+◌, ◌-◌, ◌≤◌, ◌<◌, min}
+use Prim.Native.Nat.{ℕ, zero, suc, ◌+◌, ◌≤◌, ◌<◌}
 use native.Mathlib.Nat.{add-zero}
 use native.Mathlib.Omega.{arith}
-use lib.ListN.{length, get_or, set, take, drop}
-use lib.Seq.{append_snoc, drop_at, drop-cons, get_or-set_other, length-take-le, set_comm, set_out, sets, sets-eq, take-append_seam}
-use Rattle.model.proofs.Laws.Bool.{le_or_lt}
+use lib.ListN.{length, set, take, drop}
+use Rattle.std.proofs.lemmas.List.{length-take, take-append-drop, take-take}
+use Rattle.model.proofs.Laws.Stores.{sets_append}
+use lib.Seq.{append_snoc, length-sets, paste, drop_at, length-take-le, set_comm, set_out, sets, sets-eq, take-append_seam}
 use Rattle.model.proofs.Laws.Stores.{sets_cons, sets_nil}
 
 module _ {A : Type 0} where
@@ -75,41 +76,29 @@ module _ {A : Type 0} where
       ∙ ap (λ (r : List A). x ∷ r) (sets_opened xs i vs ws)
       ∙ sym (sets_cons x xs i (ws ++ vs))
 
-  -- ---- elements moved on by k one after another, the last first: t is l with those before index e moved, as far down as index i
-  abbrev pub Moved : List A → ℕ → ℕ → ℕ → List A → Type 0
-  Moved l k e i t = t ≡ sets l i (take (e - i) (drop (i - k) l))
+  -- ---- a run written at once, as far as the list's end
+  -- what lies past the list's end is lost
+  sets_cut : (l : List A) (i m n : ℕ) (vs : List A) → m ≤ n → m ≤ length vs → length l ≤ i + m → sets l i (take m vs) ≡ sets l i (take n vs)
+  sets_cut l i m n vs h k b =
+      let head = take m (take n vs) in
+      let rest = drop m (take n vs) in
+      let e : length head ≡ m = length-take-le m (take n vs) (omega (arith, length-take n vs)) in
+      ap (sets l i) (sym (take-take m n vs h))
+      ∙ sym (sets_past (sets l i head) (i + length head) rest (omega (arith, length-sets l i head)))
+      ∙ sym (sets_append l i head rest)
+      ∙ ap (sets l i) (take-append-drop m (take n vs))
 
-  get_d_before : (l : List A) (i j : ℕ) (vs : List A) (d : A) → j < i → get_or (sets l i vs) j d ≡ get_or l j d
-  get_d_before l i j [] d h = refl
-  get_d_before l i j (v ∷ vs) d h = get_d_before (set l i v) (suc i) j vs d (omega arith) ∙ get_or-set_other l i j v d (λ e. omega arith)
+  pub pasted : (l : List A) (i m n : ℕ) (vs : List A) → i + m ≤ length l → m ≤ n → m ≤ length vs → (m ≡ n) ⊎ (length l ≤ i + m)
+      → paste l i vs m ≡ sets l i (take n vs)
+  pasted l i m n vs b h k c = written ∙ go c
+    where
+      size : length (take m vs) ≡ m
+      size = length-take-le m vs k
 
-  move_one : (l : List A) (i j n : ℕ) (d : A) → j ≤ i → j < length l
-      → let t = sets l (suc i) (take n (drop (suc j) l)) in set t i (get_or t j d) ≡ sets l i (take (suc n) (drop j l))
-  move_one l i j n d h b =
-      let vs = take n (drop (suc j) l) in
-      ap (set (sets l (suc i) vs) i) (get_d_before l (suc i) j vs d (omega arith))
-      ∙ set_before l i (suc i) (get_or l j d) vs (omega arith)
-      ∙ ap (λ (r : List A). sets l i (take (suc n) r)) (sym (drop-cons l j d b))
+      written : paste l i vs m ≡ sets l i (take m vs)
+      written =
+          ap (λ (j : ℕ). take i l ++ take m vs ++ drop (i + j) l) (sym size) ∙ sym (sets-eq (take m vs) l i (omega (arith, size)))
 
-  module _ (l : List A) (k e : ℕ) where
-    pub moved_none : (i : ℕ) → (e ≤ i) ⊎ (length l ≤ i) → Moved l k e i l
-    moved_none i (inl h) = let z : e - i ≡ 0 = omega arith in ap (λ (n : ℕ). sets l i (take n (drop (i - k) l))) (sym z)
-    moved_none i (inr h) = sym (sets_past l i (take (e - i) (drop (i - k) l)) h)
-
-    pub moved_one : (i : ℕ) (t : List A) (d : A) → k < i → i ≤ e → i ≤ length l → Moved l k e i t
-        → Moved l k e (i - 1) (set t (i - 1) (get_or t (i - 1 - k) d))
-    moved_one i t d q r b h =
-        let ei : i ≡ suc (i - 1) = omega arith in
-        let ej : i - k ≡ suc (i - 1 - k) = omega arith in
-        let en : suc (e - i) ≡ e - (i - 1) = omega arith in
-        ap (λ (s : List A). set s (i - 1) (get_or s (i - 1 - k) d)) (h ∙ ap₂ (λ (x y : ℕ). sets l x (take (e - i) (drop y l))) ei ej)
-        ∙ move_one l (i - 1) (i - 1 - k) (e - i) d (omega arith) (omega arith)
-        ∙ ap (λ (n : ℕ). sets l (i - 1) (take n (drop (i - 1 - k) l))) en
-
-    -- down to s, or there was no element to move
-    pub moved_all : (s i : ℕ) (t : List A) → min s (length l) ≤ i → i ≤ s → Moved l k e i t → Moved l k e s t
-    moved_all s i t b h m = go (le_or_lt (length l) i)
-      where
-        go : (length l ≤ i) ⊎ (i < length l) → Moved l k e s t
-        go (inl p) = m ∙ sets_past l i (take (e - i) (drop (i - k) l)) p ∙ moved_none s (inr (omega arith))
-        go (inr p) = let q : i ≡ s = omega arith in m ∙ ap (λ (j : ℕ). sets l j (take (e - j) (drop (j - k) l))) q
+      go : (m ≡ n) ⊎ (length l ≤ i + m) → sets l i (take m vs) ≡ sets l i (take n vs)
+      go (inl e) = ap (λ (j : ℕ). sets l i (take j vs)) e
+      go (inr e) = sets_cut l i m n vs h k e

@@ -1,7 +1,7 @@
 -- ONE TURN OF THE LOOPS OVER THE DEPTHS; that the passes look at no letter; and one byte: the move, up and down.
 use mathlib.Core.Path.{◌≡◌, refl, ap, ap₂, ◌∙◌}
 use mathlib.Core.List.{List, []}
-use Prim.Native.Nat.{ℕ, zero, suc, ◌+◌, ◌-◌, ◌≤◌, ◌<◌}
+use Prim.Native.Nat.{ℕ, zero, suc, ◌+◌, ◌-◌, ◌<◌}
 use native.Mathlib.Nat.{not-suc-le-zero}
 use native.Mathlib.Omega.{arith}
 use lib.ListN.{length, take}
@@ -44,10 +44,9 @@ module _ (n : ℕ) (ws ws' : List ℕ) (W W' : ℕ) (table : List (List ℕ)) wh
   pass_letters d live = fall_letters d 0 (rise_words A d live) ∙ ap (fall_words B d 0) (rise_letters d live)
 
 -- ONE BYTE
-pub step_made : (n : ℕ) (ws : List ℕ) (b d : ℕ) (table : List (List ℕ)) (live on up down : List ℕ) → take n on ≡ move_by (rule_masks ws n table) b (take n live)
-    → take n up ≡ rise_words (pass_masks n table) d (take n on) → take n down ≡ fall_words (pass_masks n table) d 0 (take n up) → length down ≡ 8
-    → Stepped n ws b d table live down
-step_made n ws b d table live on up down m r f e = record {
-  made = f ∙ ap (fall_words (pass_masks n table) d 0) r ∙ pass_letters n [] ws 0 n table d (take n on) ∙ ap (pass_words (rule_masks ws n table) d) m;
+pub step_made : (n : ℕ) (ws : List ℕ) (b d : ℕ) (table : List (List ℕ)) (live on first : List ℕ) → take n on ≡ move_by (rule_masks ws n table) b (take n live)
+    → take n first ≡ pass_words (pass_masks n table) d (take n on) → length first ≡ 8 → Stepped n ws b d table live first
+step_made n ws b d table live on first m p e = record {
+  made = p ∙ pass_letters n [] ws 0 n table d (take n on) ∙ ap (pass_words (rule_masks ws n table) d) m;
   eight = e;
 }

@@ -6,6 +6,3 @@ use Rattle.run_edges.proofs.unshift.Given as goal
 
 abbrev pub invariant-loop-i : goal.invariant-loop-i
 invariant-loop-i l = (l.i ≤ 7) × Filled 8 (unshift_words l.a) l.r l.i
-
-abbrev pub decreases-loop-i : goal.decreases-loop-i
-decreases-loop-i l = 7 - l.i

@@ -1,7 +1,7 @@
 -- ON ONE WORD the operations of the run are the machine's; and one turn of the loops over the depths.
 use Rattle.std.proofs.Common.{◌≡◌, ℕ, zero, suc, ◌+◌, ◌-◌, ◌*◌, ◌%◌, ◌^◌, ◌<◌, ◌≤◌, Bool, cond, ◌⊎◌, List, [], ◌∷◌, get_or, sym, refl, ap, ap₂, ◌∙◌, inl, inr, not-suc-le-zero, arith}
 use lib.Bits.{and_zero_l, bit_and, bit_or, bit_xor, or_zero_r}
-use Rattle.model.specs.Models.Run.{fall_words, gather_words, Masks, move_words, propagate_words, rise_words, scatter_words}
+use Rattle.model.specs.Models.Run.{fall_words, gather_words, Masks, propagate_words, rise_words, scatter_words}
 use Rattle.model.specs.Models.Words.{wrap_add, wrap_sub}
 use Rattle.model.proofs.Laws.Bool.{le_or_lt}
 use Rattle.run_word.specs.One.{Fallen, Passed, Risen, table_masks, word_at}
@@ -43,7 +43,7 @@ complement_one below from hb hf =
     (once (from + 2 ^ 64 - source) w (omega arith) refl)
     ∙ ap (λ (y : ℕ). 2 ^ 64 - 1 - y) same
 
--- ---- propagate and the move
+-- ---- propagate
 pub propagate_one : (block below target live : ℕ) → below < 2 ^ 64 → bit_or (bit_and live block) target < 2 ^ 64
     → bit_or live (bit_and block (bit_xor ((below + (2 ^ 64 - bit_or (bit_and live block) target)) % 2 ^ 64) (bit_or (bit_and live block) target))) ∷ []
     ≡ propagate_words (block ∷ []) (wrap_add below 1 ∷ []) (target ∷ []) (live ∷ [])
@@ -57,12 +57,6 @@ propagate_none source target live =
     let from = bit_or (bit_and live 0) target in
     let z = bit_xor (2 ^ 64 - 1 - wrap_sub (wrap_sub from source) 0) from in
     ap (λ (y : ℕ). y ∷ []) (sym (ap (bit_or live) (and_zero_l z) ∙ or_zero_r live))
-
-pub advance_one : (letters repeats live : ℕ)
-    → bit_or (bit_or (bit_and (live * 2 % 2 ^ 64) letters) (bit_and live repeats)) 1 ∷ [] ≡ move_words (letters ∷ []) (repeats ∷ []) (1 ∷ []) (live ∷ [])
-advance_one letters repeats live =
-    let e : live * 2 % 2 ^ 64 ≡ live * 2 % 2 ^ 64 + 0 = omega arith in
-    ap (λ (x : ℕ). bit_or (bit_or (bit_and x letters) (bit_and live repeats)) 1 ∷ []) e
 
 -- ---- one turn of the loops over the depths, with the nine words of depth k
 module _ (ws : List ℕ) (any : Bool) (block below target : ℕ) (table backs : List ℕ) where

@@ -1,42 +1,37 @@
--- `shift`: the words are moved on, the last first, so that none is read after it was written over.
-use mathlib.Core.Path.{◌≡◌, ap, ap₂, ◌∙◌}
-use mathlib.Core.Logic.{inl, inr}
-use Prim.Native.Nat.{ℕ, ◌+◌, ◌-◌, ◌*◌}
+-- `shift`: the words are copied at once, as far as there is room for them; past it nothing is written.
+use mathlib.Core.Path.{◌≡◌, sym, ◌∙◌}
+use mathlib.Core.Logic.{◌⊎◌, inl, inr}
+use mathlib.Core.List.{List}
+use Prim.Native.Nat.{ℕ, ◌+◌, ◌-◌, ◌*◌, ◌≤◌, ◌<◌, min}
 use native.Mathlib.Omega.{arith}
-use lib.ListN.{drop, take}
-use lib.Seq.{sets}
-use Rattle.rule.proofs.Laws.Stores.{moved_all, moved_none, moved_one}
+use lib.ListN.{drop, length, length-drop, take}
+use lib.Seq.{paste}
+use Rattle.model.proofs.Laws.Bool.{le_or_lt}
+use Rattle.rule.specs.Tokens.{copied}
+use Rattle.rule.proofs.Laws.Stores.{pasted, sets_past}
 use Rattle.rule.proofs.rows.shift.Goals as goal
-use Rattle.rule.proofs.rows.shift.Goals.{then-to-by, else-to-by}
 
-pub loop-i-preserved : goal.loop-i-preserved
-loop-i-preserved c =
-    let l = c.loop-i in
-    let a = c.args in (
-      omega arith,
-      omega arith,
-      omega arith,
-      moved_one a.tokens.now (5 * a.by) (5 * a.to + 5 * a.by) l.i l.tokens 0 (omega arith) (omega arith) (omega arith) l.invariant.3,
-    )
+module _ (l : List ℕ) (from to by : ℕ) where
+  abbrev place : ℕ
+  place = 5 * (from + by)
 
-pub returns : goal.returns
-returns c =
-    let l = c.loop-i in
+  moved : {end : ℕ} → length l ≡ 2555 → from ≤ to → to ≤ 512 → place < 2555 → end ≡ min (5 * to) (2555 - 5 * by)
+      → paste l place (drop (5 * from) l) (end - 5 * from) ≡ copied l from (to - from) by
+  moved {end} room h k b e =
+      pasted l place (end - 5 * from) (5 * (to - from)) (drop (5 * from) l) (omega arith) (omega arith) (omega (arith, length-drop (5 * from) l))
+      (go (le_or_lt (5 * to) (2555 - 5 * by)))
+    where
+      go : (5 * to ≤ 2555 - 5 * by) ⊎ (2555 - 5 * by < 5 * to) → (end - 5 * from ≡ 5 * (to - from)) ⊎ (length l ≤ place + (end - 5 * from))
+      go (inl p) = inl (omega arith)
+      go (inr p) = inr (omega arith)
+
+pub returns-then-place-room : goal.returns-then-place-room
+returns-then-place-room c =
     let a = c.args in
-    let t = a.tokens.now in
-    let gap = 5 * a.by in
-    let i : 5 * a.from + gap ≡ 5 * (a.from + a.by) = omega arith in
-    let n : 5 * a.to + gap - (5 * a.from + gap) ≡ 5 * (a.to - a.from) = omega arith in
-    let k : 5 * a.from + gap - gap ≡ 5 * a.from = omega arith in
-    moved_all t gap (5 * a.to + gap) (5 * a.from + gap) l.i l.tokens l.invariant.0 c.loop-i-test.false l.invariant.3
-    ∙ ap₂ (λ (x y : ℕ). sets t (5 * a.from + gap) (take x (drop y t))) n k
-    ∙ ap (λ (j : ℕ). sets t j (take (5 * (a.to - a.from)) (drop (5 * a.from) t))) i
+    c.copy_within.ensures.after ∙ moved a.tokens.now a.from a.to a.by (omega arith) (omega arith) (omega arith) (omega arith) c.min-end.ensures
 
-pub loop-i-init : goal.loop-i-init
-loop-i-init c =
+pub returns-else-place-room : goal.returns-else-place-room
+returns-else-place-room c =
     let a = c.args in
-    let none = moved_none a.tokens.now (5 * a.by) (5 * a.to + 5 * a.by) c.if-to-by.i in
-    elim c.if-to-by.branch [
-      | then-to-by w ↦ (omega arith, omega arith, omega arith, none (inl (omega arith)))
-      | else-to-by w ↦ (omega arith, omega arith, omega arith, none (inr (omega arith)))
-    ]
+    let l = a.tokens.now in
+    sym (sets_past l (5 * (a.from + a.by)) (take (5 * (a.to - a.from)) (drop (5 * a.from) l)) (omega arith))

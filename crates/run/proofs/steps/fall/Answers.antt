@@ -1,5 +1,5 @@
 -- `fall`: what is left of the way down gives what the whole way gives.
-use Rattle.std.proofs.Common.{◌≡◌, ap, ◌∙◌, arith, refl, take, ℕ, ◌+◌, ◌-◌}
+use Rattle.std.proofs.Common.{◌≡◌, ap, ◌∙◌, arith, take, ℕ, ◌+◌, ◌-◌}
 use Rattle.model.specs.Models.Run.{fall_words, propagate_by}
 use Rattle.run.specs.Work.{pass_masks}
 use Rattle.run.proofs.Laws.Passes.{fall_one}

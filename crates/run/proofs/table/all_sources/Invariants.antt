@@ -1,6 +1,6 @@
 -- `all_sources`: the row has those of the depths passed (`sources_more`).
 use mathlib.Core.Path.{◌≡◌}
-use Prim.Native.Nat.{◌-◌, ◌≤◌}
+use Prim.Native.Nat.{◌≤◌}
 use lib.ListN.{length}
 use Rattle.run.specs.Work.{Sources}
 use Rattle.run.proofs.table.all_sources.Given as goal

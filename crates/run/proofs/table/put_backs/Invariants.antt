@@ -1,5 +1,5 @@
 -- `put_backs`: each turn puts one row more (`backs_more`), and the section is whole.
-use Prim.Native.Nat.{◌-◌, ◌*◌, ◌≤◌}
+use Prim.Native.Nat.{◌*◌, ◌≤◌}
 use Rattle.run.specs.Work.{PutBacks}
 use Rattle.run.proofs.table.put_backs.Given as goal
 

@@ -1,6 +1,6 @@
 -- `series_at`: after k turns it has the masks of k depths, and each turn puts one more.
 use mathlib.Core.Path.{◌≡◌}
-use Prim.Native.Nat.{◌-◌, ◌≤◌}
+use Prim.Native.Nat.{◌≤◌}
 use Rattle.run.specs.Work.{series_at}
 use Rattle.run.proofs.table.series_at.Given as goal
 

@@ -1,7 +1,7 @@
 -- `table`: the series put so far are there, and each turn puts one more (`series_entered`); then the back edges' masks (`tabled`).
 use mathlib.Core.Path.{◌≡◌}
 use mathlib.Core.List.{[]}
-use Prim.Native.Nat.{ℕ, ◌+◌, ◌-◌, ◌*◌, ◌<◌}
+use Prim.Native.Nat.{ℕ, ◌+◌, ◌*◌, ◌<◌}
 use lib.ListN.{get_or, length}
 use Rattle.run.specs.Work.{series_row}
 use Rattle.run.proofs.table.table.Given as goal

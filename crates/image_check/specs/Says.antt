@@ -9,5 +9,6 @@ use Rattle.tokens_masks.specs.Tapes.{TapeOf}
 use Rattle.image_check.specs.declared.Checked.{Checked}
 
 pub data CheckSays (words : List ℕ) (r : Option Checked) : Type 0 where
-  is_image : (t : Tree) → ImageOf words t → (c : Checked) → r ≡ Some c → c.sections ≡ sections_of (states t) (depth t) → TapeOf t c.tape → CheckSays words r
+  is_image : (t : Tree) → ImageOf words t → (c : Checked) → r ≡ Some c → c.image.words.now ≡ words
+      → c.image.sections ≡ sections_of (states t) (depth t) → TapeOf t c.tape → CheckSays words r
   is_other : NoImage words → r ≡ None → CheckSays words r

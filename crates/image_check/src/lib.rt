@@ -10,13 +10,13 @@ ghost use Rattle.image_check.specs.Says.{CheckSays};
 
 use crate::compare::agrees;
 use image_apart::take_apart;
-use image_sections::Sections;
+use image_sections::Image;
 use tokens_masks::{Tape, lay_out};
 
-// An image: the places of its sections, and the tape of the tree whose image the words are.
+// An image, and the tape of the tree whose image the words are.
 #[derive(Clone, Copy)]
-pub struct Checked {
-    pub sections: Sections,
+pub struct Checked<'a> {
+    pub image: Image<'a>,
     pub tape: Tape,
 }
 
@@ -35,5 +35,8 @@ pub fn check(words: &[u64]) -> Option<Checked>
     if !agrees(words, sections, parts.letters, &masks) {
         return None;
     }
-    Some(Checked { sections, tape })
+    Some(Checked {
+        image: Image { words, sections },
+        tape,
+    })
 }

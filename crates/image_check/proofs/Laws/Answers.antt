@@ -13,17 +13,18 @@ use Rattle.model.specs.Answers.{NoImage}
 use Rattle.model.specs.Models.Sections.{depth_word, state_word, width_word}
 use Rattle.model.specs.Models.Words.{Fit}
 use Rattle.image_sections.specs.Header.{Headed}
-use Rattle.image_sections.specs.Sections.{sections_for, sections_in, Within}
+use Rattle.image_sections.specs.Sections.{Placed, sections_for, sections_in, Within}
 use Rattle.std.specs.Prelude.{Option, None, Some}
 use Rattle.image_sections.specs.declared.Sections.{Sections}
 use Rattle.image_sections.proofs.Laws.Header.{headed_placed, own_words}
 use Rattle.image_sections.proofs.Laws.OfTree.{image_placed}
 use Rattle.image_sections.proofs.Laws.Within.{within}
-use Rattle.tokens_masks.specs.Tapes.{on_tape, tokens_of}
+use Rattle.tokens_masks.specs.Tapes.{on_tape, TapeOf, tokens_of}
 use Rattle.image_apart.specs.Says.{ApartSays, LettersOf, no_header, ShownTape, taken}
 use Rattle.image_apart.specs.declared.Apart.{Apart}
 use Rattle.image_check.specs.Says.{CheckSays, is_image}
 use Rattle.image_check.specs.Work.{same_all, same_laid}
+use Rattle.image_check.specs.declared.Checked.{Checked}
 use Rattle.tokens_masks.specs.Says.{Laid}
 use Rattle.image_check.proofs.Laws.Laid.{laid_same}
 use Rattle.image_check.proofs.Laws.Verdict.{image_deep, image_headed, image_same, image_tree, on_tape_tree, tree_on_tape, yes}
@@ -54,9 +55,13 @@ module _ {ws : List ℕ} {r : Option Apart} {a : Apart} (words : (i : ℕ) → F
   K : Taken ws a
   K = taken_of says is
 
+  -- the words have the sections that were read
+  pub placed_taken : Placed ws a.sections
+  placed_taken = headed_placed K.headed K.own
+
   -- what is asked of the words where they are compared
   pub room_taken : Within a.sections (length ws)
-  room_taken = within (headed_placed K.headed K.own)
+  room_taken = within placed_taken
 
   depth_is : a.sections.depth ≡ depth_word ws
   depth_is = ap (λ (q : Sections). q.depth) K.own
@@ -79,9 +84,9 @@ module _ {ws : List ℕ} {r : Option Apart} {a : Apart} (words : (i : ℕ) → F
 
   -- ---- YES
   pub image_found : {ms : List ℕ} (k : ℕ) → Some k ≡ on_tape a.tape → k ≡ a.sections.depth → Laid a.tape ms → true ≡ same_laid ws a.sections a.letters ms
-      → CheckSays ws (Some (record { sections = a.sections; tape = a.tape }))
-  image_found {ms} k e n L same =
+      → {c : Checked} → c.image.words.now ≡ ws → c.image.sections ≡ a.sections → c.tape ≡ a.tape → CheckSays ws (Some c)
+  image_found {ms} k e n L same {c} words-are sections-are tape-is =
       let q = on_tape_tree a.tape k (sym e) in
       let y = yes ws fit K.headed K.letters-of K.shown q.0 (q.1 ∙ n ∙ depth_is)
       (subst T (same ∙ laid_same ws a.letters ms room_taken L ∙ ap (λ (p : Sections). same_all ws p a.letters a.tape) own_places) tt) in
-      is_image y.0 y.1 (record { sections = a.sections; tape = a.tape }) refl (K.own ∙ sym (image_placed ws y.0 y.1).own) y.2
+      is_image y.0 y.1 c refl words-are (sections-are ∙ K.own ∙ sym (image_placed ws y.0 y.1).own) (subst (TapeOf y.0) (sym tape-is) y.2)

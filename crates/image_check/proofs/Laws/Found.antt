@@ -21,8 +21,8 @@ pub record Found (ws : List ℕ) (p : Sections) (t : Tape) : Type 0 where
   pub placed : Placed ws p
   pub tape-of : TapeOf tree t
 
-pub found : (ws : List ℕ) {r : Option Checked} {c : Checked} → CheckSays ws r → r ≡ Some c → Found ws c.sections c.tape
-found ws {r} {c} (is_image s I x e q A) g = subst (λ (y : Checked). Found ws y.sections y.tape) (its (sym e ∙ g))
+pub found : (ws : List ℕ) {r : Option Checked} {c : Checked} → CheckSays ws r → r ≡ Some c → Found ws c.image.sections c.tape
+found ws {r} {c} (is_image s I x e w q A) g = subst (λ (y : Checked). Found ws y.image.sections y.tape) (its (sym e ∙ g))
     (record { tree = s; image_of = I; sections_are = q; placed = subst (Placed ws) (sym q) (image_placed ws s I); tape-of = A })
   where
     its : Some x ≡ Some c → x ≡ c
@@ -33,8 +33,19 @@ found ws {r} {c} (is_other n e) g = absurd (no (sym e ∙ g))
     no z = cc
 
 pub not_found : (ws : List ℕ) {r : Option Checked} → CheckSays ws r → r ≡ None → NoImage ws
-not_found ws (is_image s I x e q A) g = absurd (no (sym g ∙ e))
+not_found ws (is_image s I x e w q A) g = absurd (no (sym g ∙ e))
   where
     no : None ≡ Some x → ⊥
     no z = cc
 not_found ws (is_other n e) g = n
+
+-- the words of what was found are those that were checked
+pub words_found : (ws : List ℕ) {r : Option Checked} {c : Checked} → CheckSays ws r → r ≡ Some c → c.image.words.now ≡ ws
+words_found ws {r} {c} (is_image s I x e w q A) g = subst (λ (y : Checked). y.image.words.now ≡ ws) (its (sym e ∙ g)) w
+  where
+    its : Some x ≡ Some c → x ≡ c
+    its z = cc
+words_found ws {r} {c} (is_other n e) g = absurd (no (sym e ∙ g))
+  where
+    no : None ≡ Some c → ⊥
+    no z = cc

@@ -28,4 +28,4 @@ returns-then-not-agrees c =
 pub returns : goal.returns
 returns c =
     image_found c.type_inv.words c.take_apart.ensures c.in_ok-parts.was _ c.in_ok-deepest.ensures.computed c.if-deepest-sections.false
-    c.in_ok-deepest.ensures.laid (sym c.if-not-agrees.false ∙ c.agrees.ensures)
+    c.in_ok-deepest.ensures.laid (sym c.if-not-agrees.false ∙ c.agrees.ensures) refl refl refl

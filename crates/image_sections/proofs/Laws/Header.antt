@@ -183,10 +183,10 @@ pub record Told (b : Bool) (ws : List ℕ) (p : Sections) : Type 0 where
 
 pub told : (b : Bool) (ws : List ℕ) {answer : Option Sections} {p : Sections} → answer ≡ header_if b ws → answer ≡ Some p → Told b ws p
 told true ws e f = record { passed = tt; own = cc }
-told false ws e f = absurd (let z : ◌≡◌ {A = ℕ} 0 1 = cc in omega arith)
+told false ws e f = cc
 
 pub not_told : (b : Bool) (ws : List ℕ) {answer : Option Sections} → answer ≡ header_if b ws → answer ≡ None → T b → ⊥
-not_told true ws e f t = let z : ◌≡◌ {A = ℕ} 0 1 = cc in omega arith
+not_told true ws e f t = cc
 not_told false ws e f t = t
 
 -- words whose shape passed have the places told, once their length is right

@@ -39,6 +39,10 @@ pub record Scanning (t : Tape) (ms : List ℕ) (fs : List Frame) (q : Scan) (dee
   pub reaching : Reaching t (with_frames q fs) i deepest
   pub painting : (w : Plane) → Painting t (with_frames q fs) i w (table_in ms (number w))
 
+-- the frame that is read
+pub top_here : (q : Scan) (fs : List Frame) {k : ℕ} → k ≡ q.depth - 1 → Innermost q (get_or fs k no_frame) fs
+top_here q fs e = λ h. ap (λ (k : ℕ). get_or fs k no_frame) (sym e)
+
 pub scanning_begin : {t : Tape} {ms : List ℕ} {q : Scan} (fs : List Frame) → length t.kinds ≡ 512 → t.length ≤ 511 → Blank ms
     → length fs ≡ 9 → scan_of (with_frames q fs) ≡ begin → Scanning t ms fs q 0 0
 scanning_begin {t} {ms} {q} fs k h B n e = record {
@@ -82,7 +86,7 @@ module _ {t : Tape} {ms : List ℕ} {fs : List Frame} {q : Scan} {deepest i : �
   module _ {y : Token} {k : ℕ} {fitting : Bool} (on : i < length (kinds_on t)) (kind : y ≡ read_kind (get_or (kinds_on t) i 0)) (here : k ≡ q.depth - 1)
       (says : FitSays q (get_or fs k no_frame) (token_of y) fitting) where
     I : Innermost q (get_or fs k no_frame) fs
-    I = λ h. ap (λ (n : ℕ). get_or fs n no_frame) (sym here)
+    I = top_here q fs here
 
     h : i < t.length
     h = omega (arith, all_on)

@@ -185,10 +185,6 @@ pub told : (b : Bool) (ws : List ℕ) {answer : Option Sections} {p : Sections} 
 told true ws e f = record { passed = tt; own = cc }
 told false ws e f = cc
 
-pub not_told : (b : Bool) (ws : List ℕ) {answer : Option Sections} → answer ≡ header_if b ws → answer ≡ None → T b → ⊥
-not_told true ws e f t = cc
-not_told false ws e f t = t
-
 -- words whose shape passed have the places told, once their length is right
 pub placed_shape : {ws : List ℕ} {p : Sections} → Told (shape_fits ws) ws p → length ws ≡ p.length → Placed ws p
 placed_shape {ws} D long =

@@ -30,10 +30,8 @@ fn some_word(words: &[u64], at: usize, stride: usize, count: usize) -> u64
     ensures { result ≡ some_word words.now at stride count }
 {
     let mut some = 0u64;
-    let mut k: usize = 0;
-    while k < count {
-        some = some | words[at + stride * k];
-        k += 1;
+    for k in 0..count {
+        some |= words[at + stride * k];
     }
     some
 }
@@ -44,26 +42,20 @@ fn some_row(words: &[u64], at: usize, stride: usize, width: usize, count: usize)
     ensures { result ≡ some_row words.now at stride width count }
 {
     let mut row = [0u64; 8];
-    let mut j: usize = 0;
-    while j < width {
+    for j in 0..width {
         row[j] = some_word(words, at + j, stride, count);
-        j += 1;
     }
     row
 }
 
-// A row with the states of the block at a place that are not in the source after it: those that an edge enters.
-fn or_entered(row: [u64; 8], words: &[u64], at: usize, width: usize) -> [u64; 8]
+// The states of the block at a place that are not in the source after it, those that an edge enters, put into a row.
+fn or_entered(row: &mut [u64; 8], words: &[u64], at: usize, width: usize)
     requires { (width ≤ 8) × (at + 2 * width ≤ length_of words.now) }
-    ensures { result ≡ or_first row (entered_words words.now at width) }
+    ensures { row.new ≡ or_first row.old (entered_words words.now at width) }
 {
-    let mut either = row;
-    let mut j: usize = 0;
-    while j < width {
-        either[j] = either[j] | (words[at + j] & !words[at + width + j]);
-        j += 1;
+    for j in 0..width {
+        row[j] |= words[at + j] & !words[at + width + j];
     }
-    either
 }
 
 fn entered_row(words: &[u64], at: usize, width: usize, count: usize) -> [u64; 8]
@@ -71,11 +63,8 @@ fn entered_row(words: &[u64], at: usize, width: usize, count: usize) -> [u64; 8]
     ensures { result ≡ entered_row words.now at width count }
 {
     let mut row = [0u64; 8];
-    let mut k: usize = 0;
-    while k < count {
-        let next = or_entered(row, words, at + 3 * width * k, width);
-        row = next;
-        k += 1;
+    for k in 0..count {
+        or_entered(&mut row, words, at + 3 * width * k, width);
     }
     row
 }
@@ -87,19 +76,13 @@ pub fn marks_of(words: &[u64], sections: Sections) -> Marks
 {
     let width = sections.width;
     let depth = sections.depth;
-    let letters = some_row(words, sections.letters, width, width, 256);
-    let loops = some_row(words, sections.repeats, width, width, 256);
-    let entered = entered_row(words, sections.propagate, width, depth + 1);
-    let closes = some_row(words, sections.gather + 2 * width, 3 * width, width, depth);
-    let opens = some_row(words, sections.scatter + width, 3 * width, width, depth);
-    let returns = some_row(words, sections.back, 2 * width, width, depth);
     Marks {
-        letters,
-        loops,
-        entered,
-        closes,
-        opens,
-        returns,
+        letters: some_row(words, sections.letters, width, width, 256),
+        loops: some_row(words, sections.repeats, width, width, 256),
+        entered: entered_row(words, sections.propagate, width, depth + 1),
+        closes: some_row(words, sections.gather + 2 * width, 3 * width, width, depth),
+        opens: some_row(words, sections.scatter + width, 3 * width, width, depth),
+        returns: some_row(words, sections.back, 2 * width, width, depth),
     }
 }
 
@@ -107,10 +90,11 @@ pub fn marks_of(words: &[u64], sections: Sections) -> Marks
 fn letter_kind(skips: bool, loops: bool) -> u8
     ensures { result ≡ repeat_kind (repeat_of «skips» «loops») }
 {
-    if skips {
-        if loops { STAR } else { OPTION }
-    } else {
-        if loops { PLUS } else { ONCE }
+    match (skips, loops) {
+        (true, true) => STAR,
+        (true, false) => OPTION,
+        (false, true) => PLUS,
+        (false, false) => ONCE,
     }
 }
 
@@ -119,9 +103,12 @@ fn close_kind(over: bool, returns: bool) -> u8
     ensures { result ≡ mark_kind (mark_of over returns) }
 {
     if returns {
-        return CLOSE_STARRED;
+        CLOSE_STARRED
+    } else if over {
+        CLOSE_OPTIONAL
+    } else {
+        CLOSE_UNMARKED
     }
-    if over { CLOSE_OPTIONAL } else { CLOSE_UNMARKED }
 }
 
 // The token from state i to the next.
@@ -129,19 +116,23 @@ fn kind_at(marks: Marks, i: usize) -> u8
     requires { i < 511 }
     ensures { result ≡ kind_at marks i }
 {
-    let letters = marks.letters;
-    let entered = marks.entered;
-    let loops = marks.loops;
-    let closes = marks.closes;
-    let opens = marks.opens;
-    let returns = marks.returns;
-    if row_has_bit(letters, i + 1) {
-        return letter_kind(row_has_bit(entered, i + 1), row_has_bit(loops, i + 1));
+    if row_has_bit(marks.letters, i + 1) {
+        return letter_kind(
+            row_has_bit(marks.entered, i + 1),
+            row_has_bit(marks.loops, i + 1),
+        );
     }
-    if row_has_bit(closes, i + 1) {
-        return close_kind(row_has_bit(entered, i + 1), row_has_bit(returns, i));
+    if row_has_bit(marks.closes, i + 1) {
+        return close_kind(
+            row_has_bit(marks.entered, i + 1),
+            row_has_bit(marks.returns, i),
+        );
     }
-    if row_has_bit(opens, i) { OPEN } else { BAR }
+    if row_has_bit(marks.opens, i) {
+        OPEN
+    } else {
+        BAR
+    }
 }
 
 pub fn shown_tape(marks: Marks, length: usize) -> Tape
@@ -149,10 +140,8 @@ pub fn shown_tape(marks: Marks, length: usize) -> Tape
     ensures { ShownBy marks length result }
 {
     let mut kinds = [0u8; 512];
-    let mut i: usize = 0;
-    while i < length {
+    for i in 0..length {
         kinds[i] = kind_at(marks, i);
-        i += 1;
     }
     Tape { kinds, length }
 }

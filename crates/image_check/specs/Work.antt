@@ -1,28 +1,35 @@
 -- WHAT THE COMPARISON COMPUTES: any words, with what is laid out for a tape, section by section.
-use Rattle.std.specs.Prelude.{Bool, ◌&&◌, List, [], ℕ, suc, ◌+◌, ◌*◌, get_or, take}
+use Rattle.std.specs.Prelude.{Bool, ◌&&◌, List, [], ℕ, suc, ◌+◌, ◌*◌, get_or}
 use Rattle.model.specs.Image.{join}
-use Rattle.model.specs.Models.LayOut.{back-source, back-target, gather-block, gather-source, gather-target, letter-place, loop_place, scatter-block, scatter-source, scatter-target}
+use Rattle.model.specs.Models.LayOut.{back-source, back-target, gather-block, gather-source, gather-target, letter-place, loop_place, number, scatter-block, scatter-source, scatter-target}
 use Rattle.model.specs.Models.Verdict.{same_words}
 use Rattle.model.specs.Models.Words.{and_words}
-use Rattle.tokens_masks.specs.Masks.{row_in, row_number}
+use Rattle.tokens_masks.specs.Masks.{block_plane, row_in, row_number}
 use Rattle.tokens_masks.specs.Tables.{Table}
 use Rattle.tokens_masks.specs.Tapes.{propagate_block_table, propagate_source_table, propagate_target_table, table_of}
 use Rattle.tokens_masks.specs.declared.Tape.{Tape}
 use Rattle.image_sections.specs.declared.Sections.{Sections}
-use Rattle.image.specs.Work.{three_rows, two_rows}
+use Rattle.image.specs.Work.{depth_masks, three_rows, two_rows}
 use Rattle.image_apart.specs.Work.{words_at}
 
 -- the repeats, beside the letters at the loops' places
 abbrev pub same_repeats : List ℕ → (letters repeats W : ℕ) → List ℕ → Bool
 same_repeats ws letters repeats W loops = same_words (words_at ws repeats (W * 256)) (join 256 0 (λ b. and_words (words_at ws (letters + W * b) W) loops))
 
--- the masks of one depth k, of `count` planes from `first` on; and those of all depths, from a place on
-abbrev pub depth_masks : (W first count : ℕ) (masks : List ℕ) → ℕ → List ℕ
-depth_masks W first count masks k = join count 0 (λ i. take W (row_in masks (row_number k (first + i))))
-
+-- the masks of `count` planes from `first` on, for each depth, from a place on
 abbrev pub same_masks : List ℕ → (at W depths first count : ℕ) → List ℕ → Bool
 same_masks ws at W depths first count masks = same_words (words_at ws at (count * W * depths)) (join depths 0 (depth_masks W first count masks))
 
+-- the words, with the masks lent
+abbrev pub same_laid : List ℕ → Sections → (letters masks : List ℕ) → Bool
+same_laid ws s letters masks =
+    same_words letters (row_in masks (row_number 0 (number letter-place)))
+    && (same_repeats ws s.letters s.repeats s.width (row_in masks (row_number 0 (number loop_place)))
+    && (same_masks ws s.scatter s.width s.depth (number scatter-block) 3 masks
+    && (same_masks ws s.gather s.width s.depth (number gather-block) 3 masks
+    && (same_masks ws s.propagate s.width (s.depth + 1) block_plane 3 masks && same_masks ws s.back s.width s.depth (number back-source) 2 masks))))
+
+-- the same by the tables of the tape for which they are laid out
 abbrev pub same_tables : List ℕ → (at W depths : ℕ) → Table → Table → Table → Bool
 same_tables ws at W depths block source target =
     same_words (words_at ws at (3 * W * depths)) (join depths 0 (λ k. three_rows W (get_or block k []) (get_or source k []) (get_or target k [])))

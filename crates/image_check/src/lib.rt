@@ -32,7 +32,7 @@ pub fn check(words: &[u64]) -> Option<Checked>
     if deepest != sections.depth {
         return None;
     }
-    if !agrees(words, sections, parts.letters, tape, &masks) {
+    if !agrees(words, sections, parts.letters, &masks) {
         return None;
     }
     Some(Checked { sections, tape })

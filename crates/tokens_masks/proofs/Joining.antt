@@ -1,9 +1,8 @@
 -- PROPAGATE'S MASKS JOINED WORD BY WORD: the words before word n of the nine depths' masks are joined, those from n on are as they were, and so are all
 -- words of other masks.
-use mathlib.Core.Path.{◌≡◌, refl, sym, ap, ap₂, ◌∙◌, subst}
+use mathlib.Core.Path.{◌≡◌, sym, ap, ap₂, ◌∙◌, subst}
 use mathlib.Core.List.{List, []}
 use Prim.Native.Nat.{ℕ, ◌+◌, ◌*◌, ◌/◌, ◌%◌, ◌≤◌, ◌<◌}
-use native.Mathlib.Nat.{not-suc-le-zero}
 use native.Mathlib.Omega.{arith}
 use borrow.Author.Count.{below_more}
 use lib.ListN.{get_or, length, length-set, set}
@@ -38,9 +37,6 @@ pub record Joining (r : List ℕ) (n : ℕ) (ms : List ℕ) : Type 0 where
   pub others : (x : ℕ) → Elsewhere x → get_or ms x 0 ≡ get_or r x 0
   pub done : (m : ℕ) → m < n → Now r ms m
   pub todo : (m : ℕ) → n ≤ m → m < 72 → Still r ms m
-
-pub joining_begin : (r : List ℕ) → length r ≡ 936 → Joining r 0 r
-joining_begin r l = record { long = l; others = λ x E. refl; done = λ m h. absurd (not-suc-le-zero h); todo = λ m h k. record { source = refl; target = refl } }
 
 -- ---- three words stored
 module _ (ms : List ℕ) (a u v w : ℕ) (fits : a + 16 < length ms) where

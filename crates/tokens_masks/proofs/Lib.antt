@@ -15,8 +15,7 @@ pub mod Along
 pub mod Reaching
 pub mod Painting
 pub mod Scanning
--- A list filled from the front; two tables made one, and propagate's masks joined word by word.
-pub mod Filling
+-- Two tables made one, and propagate's masks joined word by word.
 pub mod Joins
 pub mod Joining
 -- The bits of a table after strokes.

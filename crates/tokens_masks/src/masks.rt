@@ -1,5 +1,5 @@
 // Masks in a row of words, eight for each: state i is bit i mod 64 of word i/64. For each of nine depths there is one of each plane (`plane`).
-ghost use Rattle.std.specs.Prelude.{◌≡◌, cond, suc, ◌+◌, ◌≤◌, ◌<◌, length};
+ghost use Rattle.std.specs.Prelude.{◌≡◌, suc, ◌+◌, ◌≤◌, ◌<◌, length};
 ghost use Rattle.tokens_masks.specs.Masks.{edge_in, Joined, planes, run_in};
 
 use crate::plane::{PROPAGATE_BLOCK, place_of};
@@ -13,16 +13,6 @@ pub fn mark(masks: &mut [u64], plane: usize, depth: usize, state: usize)
     masks[at] = masks[at] | (1u64 << (state % 64));
 }
 
-// The one state if the test passes, else none.
-pub fn mark_if(masks: &mut [u64], plane: usize, test: bool, depth: usize, state: usize)
-    requires { (state < 512) × (plane < planes) × (depth < 9) × (length masks.old ≡ 936) }
-    ensures { masks.new ≡ cond test (run_in masks.old plane depth state (suc state)) masks.old }
-{
-    if test {
-        mark(masks, plane, depth, state);
-    }
-}
-
 // The states from `from` up to `to` less 1.
 pub fn mark_run(masks: &mut [u64], plane: usize, depth: usize, from: usize, to: usize)
     requires { (to ≤ 512) × (plane < planes) × (depth < 9) × (length masks.old ≡ 936) }
@@ -33,15 +23,13 @@ pub fn mark_run(masks: &mut [u64], plane: usize, depth: usize, from: usize, to: 
     }
 }
 
-// If the test passes, an edge: the state that it leaves, and in the next plane the one that it enters.
-pub fn mark_edge(masks: &mut [u64], plane: usize, test: bool, depth: usize, from: usize, to: usize)
+// An edge: the state that it leaves, and in the next plane the one that it enters.
+pub fn mark_edge(masks: &mut [u64], plane: usize, depth: usize, from: usize, to: usize)
     requires { (from < 512) × (to < 512) × (depth < 9) × (plane + 1 < planes) × (length masks.old ≡ 936) }
-    ensures { masks.new ≡ cond test (edge_in masks.old plane depth from to) masks.old }
+    ensures { masks.new ≡ edge_in masks.old plane depth from to }
 {
-    if test {
-        mark(masks, plane, depth, from);
-        mark(masks, plane + 1, depth, to);
-    }
+    mark(masks, plane, depth, from);
+    mark(masks, plane + 1, depth, to);
 }
 
 // Propagate: block, the states that an edge leaves or enters; source, the smallest of each chain, which no edge enters; target, the largest, which

@@ -5,7 +5,7 @@ ghost use Rattle.tokens_masks.specs.Masks.{MarkSays, paint};
 ghost use Rattle.tokens.specs.Scans.{frame_of, ReadyAt};
 ghost use Rattle.tokens.specs.Tokens.{mark_of, repeat_of};
 
-use crate::masks::{mark, mark_edge, mark_if, mark_run};
+use crate::masks::{mark, mark_edge, mark_run};
 use crate::plane::{
     BACK_SOURCE, GATHER_BLOCK, GATHER_SOURCE, GATHER_TARGET, LEAVING, LETTER_PLACE, LOOP_PLACE,
     SCATTER_BLOCK, SCATTER_SOURCE, SCATTER_TARGET,
@@ -19,15 +19,12 @@ fn mark_letter(masks: &mut [u64], repeat: Repeat, position: usize, depth: usize)
     ensures { masks.new ≡ paint (letter_strokes (repeat_of repeat) position depth) masks.old }
 {
     mark(masks, LETTER_PLACE, 0, position + 1);
-    mark_if(masks, LOOP_PLACE, can_loop(repeat), 0, position + 1);
-    mark_edge(
-        masks,
-        LEAVING,
-        can_skip(repeat),
-        depth,
-        position,
-        position + 1,
-    );
+    if can_loop(repeat) {
+        mark(masks, LOOP_PLACE, 0, position + 1);
+    }
+    if can_skip(repeat) {
+        mark_edge(masks, LEAVING, depth, position, position + 1);
+    }
 }
 
 // The open of a union that starts in `position` at `depth`: its first alternative starts in the next state.
@@ -59,22 +56,12 @@ fn mark_close(masks: &mut [u64], frame: Frame, position: usize, depth: usize, sh
     mark_run(masks, GATHER_BLOCK, depth, first_end, position + 1);
     mark(masks, GATHER_SOURCE, depth, position);
     mark(masks, GATHER_TARGET, depth, position + 1);
-    mark_edge(
-        masks,
-        LEAVING,
-        can_omit(shown),
-        depth,
-        frame.start,
-        position + 1,
-    );
-    mark_edge(
-        masks,
-        BACK_SOURCE,
-        can_return(shown),
-        depth,
-        position,
-        frame.start + 1,
-    );
+    if can_omit(shown) {
+        mark_edge(masks, LEAVING, depth, frame.start, position + 1);
+    }
+    if can_return(shown) {
+        mark_edge(masks, BACK_SOURCE, depth, position, frame.start + 1);
+    }
 }
 
 // What a token that fits marks.

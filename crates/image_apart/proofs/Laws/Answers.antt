@@ -1,5 +1,4 @@
--- WHAT TAKE APART ANSWERS, at each of its ways out: a header that fails is none of an image, and of words whose header passes the parts have found what
--- the model finds.
+-- WHAT TAKE APART ANSWERS of words whose header passes: the parts have found what the model finds.
 use mathlib.Core.Path.{◌≡◌, refl, sym, ap, ◌∙◌, subst}
 use mathlib.Core.List.{List}
 use Prim.Native.Nat.{ℕ, ◌-◌, ◌≤◌}
@@ -9,20 +8,15 @@ use Rattle.model.specs.Models.Sections.{depth_word, state_word, width_word}
 use Rattle.model.specs.Models.Words.{Fit}
 use Rattle.image_sections.specs.Header.{Headed, header_fits, header_if}
 use Rattle.image_sections.specs.Sections.{Within}
-use Rattle.std.specs.Prelude.{Option, None, Some}
+use Rattle.std.specs.Prelude.{Option, Some}
 use Rattle.image_sections.specs.declared.Sections.{Sections}
-use Rattle.image_sections.proofs.Laws.Header.{header_is, not_told, own_words, placed, Told, told}
+use Rattle.image_sections.proofs.Laws.Header.{header_is, own_words, placed, Told, told}
 use Rattle.image_sections.proofs.Laws.Within.{within}
 use Rattle.tokens_masks.specs.declared.Tape.{Tape}
-use Rattle.image_apart.specs.Says.{ApartSays, LettersOf, no_header, ShownTape, taken}
+use Rattle.image_apart.specs.Says.{ApartSays, LettersOf, ShownTape, taken}
 use Rattle.image_apart.specs.Work.{marks_of, ShownBy}
-use Rattle.image_apart.specs.declared.Apart.{Apart}
 use Rattle.image_apart.specs.declared.marks.Marks.{Marks}
 use Rattle.image_apart.proofs.Laws.Apart.{apart_is, letters_fit, letters_long, letters_row, shows}
-
--- a header that fails
-pub refused_says : (ws : List ℕ) {header : Option Sections} {r : Option Apart} → header ≡ header_if (header_fits ws) ws → header ≡ None → r ≡ None → ApartSays ws r
-refused_says ws e f g = no_header (λ H. not_told (header_fits ws) ws e f ((header_is ws).1 H)) g
 
 -- a header that passes: what is asked of the words where they are read
 module _ {ws : List ℕ} {p : Sections} (D : Told (header_fits ws) ws p) where

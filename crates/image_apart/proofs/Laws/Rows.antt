@@ -7,11 +7,10 @@ use Prim.Native.Nat.{ℕ, zero, suc, ◌+◌, ◌-◌, ◌*◌, ◌/◌, ◌%◌
 use native.Mathlib.Nat.{le_of_suc-le-suc, le_refl, not-suc-le-zero}
 use native.Mathlib.Numerals.{add-one}
 use native.Mathlib.Omega.{arith}
-use borrow.Author.Count.{below_more}
 use lib.Bits.{and_lt, bit_or, or_lt, or_zero_l, or_zero_r}
-use lib.ListN.{drop, get_or, get_or-replicate, length, length-drop, length-set, get_or-eq_default, replicate, set, take}
+use lib.ListN.{drop, get_or, get_or-replicate, length, length-drop, get_or-eq_default, set, take}
 use lib.Pow.{ones_sub-lt}
-use lib.Seq.{ext_get_or, get_or-drop, get_or-set_other, get_or-set_same, get_or-take, length-take-le}
+use lib.Seq.{ext_get_or, get_or-drop, get_or-take, length-take-le}
 use Rattle.model.specs.Bits.{bit}
 use Rattle.model.specs.Models.Apart.{any_below}
 use Rattle.model.specs.Models.Words.{each_word, Fit, value}
@@ -172,18 +171,6 @@ module _ (ws : List ℕ) (at stride W : ℕ) (narrow : W ≤ 8) where
       ∙ ap₂ bit_or (some_past n j h l (fewer n I))
       (get_or-eq_default (words_at ws (at + stride * n) W) 0 (omega (arith, words_long ws (at + stride * n) W (I n (le_refl (suc n))))))
       ∙ or_zero_l 0
-
-  pub row_none : (n : ℕ) → RowTo ws at stride n 0 (replicate 8 0)
-  row_none n = record { long = refl; done = λ k h. absurd (not-suc-le-zero h); rest = λ k h l. get_or-replicate 8 k 0 0 l }
-
-  pub row_more : {n j : ℕ} {row : List ℕ} {v : ℕ} → RowTo ws at stride n j row → j < W → v ≡ some_word ws (at + j) stride n → RowTo ws at stride n (j + 1) (set row j v)
-  row_more {n} {j} {row} {v} R h e = record {
-    long = length-set row j v ∙ R.long;
-    done =
-        below_more (λ (k : ℕ). get_or (set row j v) k 0 ≡ some_word ws (at + k) stride n) j
-        (λ k l. get_or-set_other row j k v 0 (λ q. omega arith) ∙ R.done k l) (get_or-set_same row j v 0 (omega (arith, R.long)) ∙ e);
-    rest = λ k l m. get_or-set_other row j k v 0 (λ q. omega arith) ∙ R.rest k (omega arith) m;
-  }
 
   pub row_all : {n j : ℕ} {row : List ℕ} → RowTo ws at stride n j row → j ≡ W → Inside n → row ≡ some_row ws at stride W n
   row_all {n} {j} {row} R e I =

@@ -23,7 +23,9 @@ use Rattle.tokens_masks.specs.Tapes.{on_tape, tokens_of}
 use Rattle.image_apart.specs.Says.{ApartSays, LettersOf, no_header, ShownTape, taken}
 use Rattle.image_apart.specs.declared.Apart.{Apart}
 use Rattle.image_check.specs.Says.{CheckSays, is_image}
-use Rattle.image_check.specs.Work.{same_all}
+use Rattle.image_check.specs.Work.{same_all, same_laid}
+use Rattle.tokens_masks.specs.Says.{Laid}
+use Rattle.image_check.proofs.Laws.Laid.{laid_same}
 use Rattle.image_check.proofs.Laws.Verdict.{image_deep, image_headed, image_same, image_tree, on_tape_tree, tree_on_tape, yes}
 
 -- no header
@@ -71,15 +73,15 @@ module _ {ws : List ℕ} {r : Option Apart} {a : Apart} (words : (i : ℕ) → F
   own_places : a.sections ≡ sections_for (state_word ws) (width_word ws) (depth_word ws)
   own_places = K.own ∙ own_words K.headed
 
-  pub words_differ : false ≡ same_all ws a.sections a.letters a.tape → NoImage ws
-  words_differ e s I =
-      subst T (sym (e ∙ ap (λ (q : Sections). same_all ws q a.letters a.tape) own_places)) (image_same ws fit s I K.letters-of K.shown)
+  pub words_differ : {ms : List ℕ} → Laid a.tape ms → false ≡ same_laid ws a.sections a.letters ms → NoImage ws
+  words_differ {ms} L e s I =
+      subst T (sym (e ∙ laid_same ws a.letters ms room_taken L ∙ ap (λ (q : Sections). same_all ws q a.letters a.tape) own_places)) (image_same ws fit s I K.letters-of K.shown)
 
   -- ---- YES
-  pub image_found : (k : ℕ) → Some k ≡ on_tape a.tape → k ≡ a.sections.depth → true ≡ same_all ws a.sections a.letters a.tape
+  pub image_found : {ms : List ℕ} (k : ℕ) → Some k ≡ on_tape a.tape → k ≡ a.sections.depth → Laid a.tape ms → true ≡ same_laid ws a.sections a.letters ms
       → CheckSays ws (Some (record { sections = a.sections; tape = a.tape }))
-  image_found k e n same =
+  image_found {ms} k e n L same =
       let q = on_tape_tree a.tape k (sym e) in
       let y = yes ws fit K.headed K.letters-of K.shown q.0 (q.1 ∙ n ∙ depth_is)
-      (subst T (same ∙ ap (λ (p : Sections). same_all ws p a.letters a.tape) own_places) tt) in
+      (subst T (same ∙ laid_same ws a.letters ms room_taken L ∙ ap (λ (p : Sections). same_all ws p a.letters a.tape) own_places) tt) in
       is_image y.0 y.1 (record { sections = a.sections; tape = a.tape }) refl (K.own ∙ sym (image_placed ws y.0 y.1).own) y.2

@@ -1,23 +1,26 @@
--- A SECTION COMPARED WORD BY WORD WITH PARTS OF w WORDS EACH: word j of part k stands w * k + j words after the first, so where it differs the section
--- is not the parts joined, and where none does it is.
-use mathlib.Core.Path.{◌≡◌, sym, ap, ◌∙◌}
-use mathlib.Core.Bool.{true, false}
+-- A SECTION COMPARED PART BY PART WITH PARTS OF w WORDS EACH: part k stands w * k words after the first, so where it differs the section is not the parts
+-- joined, and where none does it is.
+use mathlib.Core.Path.{◌≡◌, sym, ap, ◌∙◌, subst}
+use mathlib.Core.Logic.{◌⊎◌, inl, inr}
+use mathlib.Core.Bool.{Bool, true, false, not, not-not}
 use mathlib.Core.List.{List, ◌++◌}
-use Prim.Native.Nat.{ℕ, zero, suc, ◌+◌, ◌*◌, ◌≤◌, ◌<◌}
-use native.Mathlib.Nat.{le_of_suc-le-suc, mul-suc, not-suc-le-zero, zero-add}
+use Prim.Native.Nat.{ℕ, zero, suc, ◌+◌, ◌-◌, ◌*◌, ◌≤◌, ◌<◌}
+use native.Mathlib.Nat.{le_of_suc-le-suc, mul-add, mul-le-mul_left, mul-suc, mul-zero, not-suc-le-zero, zero-add}
 use native.Mathlib.Omega.{arith}
-use lib.ListN.{drop, get_or, length, length-drop, get_or-append}
-use lib.Seq.{get_or-append-add, get_or-drop, get_or-take, length-take-le}
+use lib.Dec.{T, eqb}
+use lib.Pointwise.{pointwise}
+use Rattle.std.specs.Cmp.Lexicographic.{other_text, same_text}
+use lib.ListN.{drop, get_or, take, length, length-drop, get_or-append}
+use lib.Seq.{ext_get_or, get_or-append-add, get_or-drop, get_or-take, length-take-le}
 use Rattle.model.specs.Image.{join}
 use Rattle.model.specs.Models.Verdict.{same_words}
-use Rattle.mask.proofs.Laws.Filled.{Filled, filled_all, filled_next, filled_none}
-use Rattle.mask.proofs.Laws.Same.{same_false, same_true}
+use Rattle.mask.proofs.Laws.Same.{same_exactly, same_false, same_true}
 use Rattle.model.proofs.Image.Address.{part_fits}
-use Rattle.image.proofs.Laws.Parts.{AllLong, length_section}
+use Rattle.image.proofs.Laws.Parts.{AllLong, length_joined}
+use Rattle.model.proofs.Laws.Bool.{le_or_lt}
 use Rattle.image_apart.specs.Work.{words_at}
--- Repeats: the section of the repeats beside the letters at the loops' places. Tables: some masks for each depth.
+-- Repeats: the section of the repeats beside the letters at the loops' places.
 pub mod Repeats
-pub mod Tables
 
 -- ---- word i of a section
 module _ (ws : List ℕ) (at m : ℕ) where
@@ -49,35 +52,75 @@ module _ (w : ℕ) (f : ℕ → List ℕ) where
       ∙ word_from n (suc a) k j (λ i p. ap (λ (x : ℕ). length (f x)) (next i) ∙ long (suc i) (omega arith)) (le_of_suc-le-suc h) l
       ∙ ap (λ (i : ℕ). get_or (f i) j 0) (next k)
 
--- of a section of m words from a place on, beside n parts of w words, the first q words are the same
-pub record SameTo (ws : List ℕ) (at m w n : ℕ) (f : ℕ → List ℕ) (q : ℕ) : Type 0 where
+-- of a section of m words from a place on, beside n parts of w words, the first k parts are the same
+pub record SameTo (ws : List ℕ) (at m w n : ℕ) (f : ℕ → List ℕ) (k : ℕ) : Type 0 where
   pub count : m ≡ w * n
   pub long : AllLong w n f
-  pub first : Filled m (join n 0 f) (words_at ws at m) q
+  pub fits : at + m ≤ length ws
+  pub first : (i : ℕ) → i < w * k → get_or ws (at + i) 0 ≡ get_or (join n 0 f) i 0
 
 pub same_none : {ws : List ℕ} {at m w n : ℕ} {f : ℕ → List ℕ} → m ≡ w * n → AllLong w n f → at + m ≤ length ws → SameTo ws at m w n f 0
-same_none {ws} {at} {m} count long fits = record { count = count; long = long; first = filled_none (length_there ws at m fits) }
+same_none {w = w} count long fits = record { count = count; long = long; fits = fits; first = λ i h. absurd (omega (arith, mul-zero w, h)) }
 
-module _ {ws : List ℕ} {at m w n : ℕ} {f : ℕ → List ℕ} {q : ℕ} (S : SameTo ws at m w n f q) where
-  pub same-all : m ≤ q → same_words (words_at ws at m) (join n 0 f) ≡ true
-  same-all h = same_true (words_at ws at m) (join n 0 f) (filled_all S.first h (omega (arith, length_section w n f S.long, S.count)))
+module _ {ws : List ℕ} {at m w n : ℕ} {f : ℕ → List ℕ} {k : ℕ} (S : SameTo ws at m w n f k) where
+  pub same-all : n ≤ k → same_words (words_at ws at m) (join n 0 f) ≡ true
+  same-all h =
+      same_true (words_at ws at m) (join n 0 f)
+      (ext_get_or 0 (words_at ws at m) (join n 0 f) (length_there ws at m S.fits ∙ S.count ∙ sym (length_joined w n f S.long))
+      (λ i l. let inside : i < m = omega (arith, length_there ws at m S.fits, l) in
+      word_there ws at m i inside ∙ S.first i (omega (arith, S.count, inside, mul-le-mul_left w h))))
 
-  module _ {k j : ℕ} (there : q ≡ w * k + j) (part : k < n) (word : j < w) where
-    pub place_in : q < m
-    place_in = omega (arith, part_fits w part, S.count)
-
-    word_here : get_or (words_at ws at m) q 0 ≡ get_or ws (at + q) 0
-    word_here = word_there ws at m q place_in
-
-    word_of : get_or (join n 0 f) q 0 ≡ get_or (f k) j 0
-    word_of =
-        ap (λ (i : ℕ). get_or (join n 0 f) i 0) there
-        ∙ word_from w f n 0 k j (λ i p. ap (λ (x : ℕ). length (f x)) (zero-add i) ∙ S.long i p) part word
+  module _ (part : k < n) where
+    -- the part's words, and where they stand
+    part_word : (j : ℕ) → j < w → get_or (join n 0 f) (w * k + j) 0 ≡ get_or (f k) j 0
+    part_word j h =
+        word_from w f n 0 k j (λ i p. ap (λ (x : ℕ). length (f x)) (zero-add i) ∙ S.long i p) part h
         ∙ ap (λ (i : ℕ). get_or (f i) j 0) (zero-add k)
 
-    pub same_more : get_or ws (at + q) 0 ≡ get_or (f k) j 0 → SameTo ws at m w n f (q + 1)
-    same_more e = record { count = S.count; long = S.long; first = filled_next S.first place_in (word_here ∙ e ∙ sym word_of) }
+    pub part_in : at + w * k + w ≤ length ws
+    part_in = omega (arith, part_fits w part, S.count, S.fits)
 
-    pub differ_here : (get_or ws (at + q) 0 ≡ get_or (f k) j 0 → ⊥) → same_words (words_at ws at m) (join n 0 f) ≡ false
+    here_word : (j : ℕ) → j < w → get_or (words_at ws (at + w * k) w) j 0 ≡ get_or ws (at + (w * k + j)) 0
+    here_word j h = word_there ws (at + w * k) w j h ∙ (let e : at + w * k + j ≡ at + (w * k + j) = omega arith in ap (λ (i : ℕ). get_or ws i 0) e)
+
+    pub same_more : words_at ws (at + w * k) w ≡ f k → SameTo ws at m w n f (k + 1)
+    same_more e = record { count = S.count; long = S.long; fits = S.fits; first = λ i h. go i h (le_or_lt (w * k) i) }
+      where
+        go : (i : ℕ) → i < w * (k + 1) → (w * k ≤ i) ⊎ (i < w * k) → get_or ws (at + i) 0 ≡ get_or (join n 0 f) i 0
+        go i h (inr l) = S.first i l
+        go i h (inl l) =
+            let inside : i - w * k < w = omega (arith, h, l, mul-add w k 1) in
+            let place : w * k + (i - w * k) ≡ i = omega (arith, l) in
+            subst (λ (x : ℕ). get_or ws (at + x) 0 ≡ get_or (join n 0 f) x 0) place
+            (sym (here_word (i - w * k) inside) ∙ ap (λ (us : List ℕ). get_or us (i - w * k) 0) e ∙ sym (part_word (i - w * k) inside))
+
+    pub differ_here : (words_at ws (at + w * k) w ≡ f k → ⊥) → same_words (words_at ws at m) (join n 0 f) ≡ false
     differ_here d =
-        same_false (words_at ws at m) (join n 0 f) (λ e. d (sym word_here ∙ ap (λ (us : List ℕ). get_or us q 0) e ∙ word_of))
+        same_false (words_at ws at m) (join n 0 f)
+        (λ e. d (ext_get_or 0 (words_at ws (at + w * k) w) (f k) (length_there ws (at + w * k) w part_in ∙ sym (S.long k part))
+        (λ j l. let word : j < w = omega (arith, length_there ws (at + w * k) w part_in, l) in
+        here_word j word
+        ∙ sym (word_there ws at m (w * k + j) (omega (arith, part_fits w part, S.count, word)))
+        ∙ ap (λ (us : List ℕ). get_or us (w * k + j) 0) e
+        ∙ part_word j word)))
+
+    -- the same, by the test of the part
+    pub passes : {same : Bool} → same ≡ same_words (words_at ws (at + w * k) w) (f k) → same ≡ true → SameTo ws at m w n f (k + 1)
+    passes e t = same_more ((same_exactly (words_at ws (at + w * k) w) (f k)).0 (subst T (sym t ∙ e) tt))
+
+    pub fails : {same : Bool} → same ≡ same_words (words_at ws (at + w * k) w) (f k) → same ≡ false → false ≡ same_words (words_at ws at m) (join n 0 f)
+    fails e t = sym (differ_here (λ q. subst T (sym (same_true (words_at ws (at + w * k) w) (f k) q) ∙ sym e ∙ t) tt))
+
+-- ---- two slices compared: the words from a place on, and the first of a row
+module _ (ws row : List ℕ) (from W : ℕ) where
+  sliced : take (from + W - from) (drop from ws) ≡ words_at ws from W
+  sliced = let e : from + W - from ≡ W = omega arith in ap (λ (n : ℕ). take n (drop from ws)) e
+
+  abbrev alike : Bool
+  alike = pointwise eqb (take (from + W - from) (drop from ws)) (take W row)
+
+  pub slices_same : {differ : Bool} → differ ≡ not alike → differ ≡ false → words_at ws from W ≡ take W row
+  slices_same e f = sym sliced ∙ same_text _ _ (ap not (sym f ∙ e) ∙ not-not alike)
+
+  pub slices_differ : {differ : Bool} → differ ≡ not alike → differ ≡ true → words_at ws from W ≡ take W row → ⊥
+  slices_differ e f q = other_text _ _ (ap not (sym f ∙ e) ∙ not-not alike) (sliced ∙ q)

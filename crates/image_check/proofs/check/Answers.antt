@@ -17,15 +17,15 @@ returns-then-deepest-sections c =
     is_other
     (other_depth c.type_inv.words c.take_apart.ensures c.in_ok-parts.was _ c.in_ok-deepest.ensures.computed c.if-deepest-sections.true) refl
 
-pub agrees-requires-clause-shape : goal.agrees-requires-clause-shape
-agrees-requires-clause-shape c = room_taken c.type_inv.words c.take_apart.ensures c.in_ok-parts.was
+pub agrees-requires : goal.agrees-requires
+agrees-requires c = room_taken c.type_inv.words c.take_apart.ensures c.in_ok-parts.was
 
 pub returns-then-not-agrees : goal.returns-then-not-agrees
 returns-then-not-agrees c =
     is_other
-    (words_differ c.type_inv.words c.take_apart.ensures c.in_ok-parts.was (sym c.if-not-agrees.true ∙ c.agrees.ensures)) refl
+    (words_differ c.type_inv.words c.take_apart.ensures c.in_ok-parts.was c.in_ok-deepest.ensures.laid (sym c.if-not-agrees.true ∙ c.agrees.ensures)) refl
 
 pub returns : goal.returns
 returns c =
     image_found c.type_inv.words c.take_apart.ensures c.in_ok-parts.was _ c.in_ok-deepest.ensures.computed c.if-deepest-sections.false
-    (sym c.if-not-agrees.false ∙ c.agrees.ensures)
+    c.in_ok-deepest.ensures.laid (sym c.if-not-agrees.false ∙ c.agrees.ensures)

@@ -1,16 +1,15 @@
 -- WORDS WITH A HEADER: what its tests say. Each refusal is a test that fails, and where none fails the numbers are the words' own.
 use mathlib.Core.Path.{◌≡◌, sym, ap, ◌∙◌, subst}
-use mathlib.Core.Logic.{◌⊎◌, inl, inr, ◌↔◌}
-use mathlib.Core.Bool.{Bool, true, false, ◌&&◌, and_assoc}
+use mathlib.Core.Logic.{◌↔◌}
+use mathlib.Core.Bool.{Bool, true, false, ◌&&◌}
 use mathlib.Core.List.{List}
-use Prim.Native.Nat.{ℕ, suc, ◌+◌, ◌-◌, ◌*◌, ◌≤◌}
-use native.Mathlib.Nat.{mul-suc}
+use Prim.Native.Nat.{ℕ, suc, ◌-◌, ◌*◌, ◌≤◌}
 use native.Mathlib.Omega.{arith}
 use lib.Dec.{T, eqb, eqb_refl, eqb→eq, leb, leb→le, le→leb}
 use lib.ListN.{get_or, length}
 use Rattle.model.specs.Image.{width}
 use Rattle.model.specs.Models.Sections.{back_count, Counted, depth_word, gather_count, image_length, letters_count, propagate_count, repeats_count, scatter_count, state_word, width_word}
-use Rattle.model.proofs.Laws.Bool.{and_both, and_split, is_not, is_true}
+use Rattle.model.proofs.Laws.Bool.{and_both, and_split}
 use Rattle.image_sections.specs.Header.{counts_fit, Headed, header_fits, header_if, holds, shape_fits}
 use Rattle.image_sections.specs.Sections.{Placed, sections_for, sections_in, sections_of}
 use Rattle.std.specs.Prelude.{Option, None, Some}
@@ -19,39 +18,8 @@ use Rattle.image_sections.specs.declared.Sections.{Sections}
 equal : (m n : ℕ) → m ≡ n → T (eqb m n)
 equal m n e = subst (λ (k : ℕ). T (eqb m k)) e (eqb_refl m)
 
--- ---- tests joined by the code's `&&`
-pub here : {a b r : Bool} → a ≡ true → r ≡ b → r ≡ (a && b)
-here {b = b} p q = q ∙ ap (λ (t : Bool). t && b) (sym p)
-
-pub stops : {a r : Bool} (b : Bool) → a ≡ false → r ≡ a → r ≡ (a && b)
-stops b p q = q ∙ p ∙ ap (λ (t : Bool). t && b) (sym p)
-
-pub both : {A B : Type 0} {a b r : Bool} → (A → (a ≡ true) × (r ≡ b)) → (B → (a ≡ false) × (r ≡ a)) → A ⊎ B → r ≡ (a && b)
-both f g (inl w) = here (f w).0 (f w).1
-both {b = b} f g (inr w) = stops b (g w).0 (g w).1
-
-in_turn : (a b c d e f : Bool) {first second third fourth : Bool} → first ≡ (a && b) → second ≡ (first && c) → third ≡ (second && d)
-    → fourth ≡ (third && e) → (fourth && f) ≡ (a && (b && (c && (d && (e && f)))))
-in_turn a b c d e f p q r s =
-    ap (λ (t : Bool). t && f) (s ∙ ap (λ (t : Bool). t && e) (r ∙ ap (λ (t : Bool). t && d) (q ∙ ap (λ (t : Bool). t && c) p)))
-    ∙ and_assoc (((a && b) && c) && d) e f ∙ and_assoc ((a && b) && c) d (e && f) ∙ and_assoc (a && b) c (d && (e && f))
-    ∙ and_assoc a b (c && (d && (e && f)))
-
 -- ---- the counts
 module _ (ws : List ℕ) where
-  -- the tests, in the order in which the code makes them
-  pub counts_are : (p : Sections) {first second third fourth : Bool}
-      → first ≡ (holds ws (p.letters - 1) (256 * p.width) && holds ws (p.repeats - 1) (256 * p.width))
-      → second ≡ (first && holds ws (p.scatter - 1) (3 * p.width * p.depth))
-      → third ≡ (second && holds ws (p.gather - 1) (3 * p.width * p.depth))
-      → fourth ≡ (third && holds ws (p.propagate - 1) (3 * p.width * p.depth + 3 * p.width))
-      → (fourth && holds ws (p.back - 1) (2 * p.width * p.depth)) ≡ counts_fit ws p
-  counts_are p {third = third} e f g h =
-      in_turn (holds ws (p.letters - 1) (256 * p.width)) (holds ws (p.repeats - 1) (256 * p.width)) (holds ws (p.scatter - 1) (3 * p.width * p.depth))
-      (holds ws (p.gather - 1) (3 * p.width * p.depth)) (holds ws (p.propagate - 1) (3 * p.width * suc p.depth))
-      (holds ws (p.back - 1) (2 * p.width * p.depth)) e f g
-      (h ∙ ap (λ (n : ℕ). third && holds ws (p.propagate - 1) n) (sym (mul-suc (3 * p.width) p.depth)))
-
   -- a count stands one word before the first mask
   one_before : (n : ℕ) → suc n - 1 ≡ n
   one_before n = omega arith
@@ -208,12 +176,6 @@ headed_placed {ws} H e = record {
 }
 
 -- ---- the answer, by a test
-pub refused : (b : Bool) (ws : List ℕ) → (T b → ⊥) → None ≡ header_if b ws
-refused b ws n = ap (λ (t : Bool). header_if t ws) (sym (is_not b n))
-
-pub taken : (b : Bool) (ws : List ℕ) → T b → Some (sections_in ws) ≡ header_if b ws
-taken b ws t = ap (λ (t : Bool). header_if t ws) (sym (is_true b t))
-
 -- an answer that is a header passed the test, and says what the words say
 pub record Told (b : Bool) (ws : List ℕ) (p : Sections) : Type 0 where
   pub passed : T b
@@ -221,10 +183,10 @@ pub record Told (b : Bool) (ws : List ℕ) (p : Sections) : Type 0 where
 
 pub told : (b : Bool) (ws : List ℕ) {answer : Option Sections} {p : Sections} → answer ≡ header_if b ws → answer ≡ Some p → Told b ws p
 told true ws e f = record { passed = tt; own = cc }
-told false ws e f = absurd (let z : ◌≡◌ {A = ℕ} 0 1 = cc in omega arith)
+told false ws e f = cc
 
 pub not_told : (b : Bool) (ws : List ℕ) {answer : Option Sections} → answer ≡ header_if b ws → answer ≡ None → T b → ⊥
-not_told true ws e f t = let z : ◌≡◌ {A = ℕ} 0 1 = cc in omega arith
+not_told true ws e f t = cc
 not_told false ws e f t = t
 
 -- words whose shape passed have the places told, once their length is right
@@ -236,23 +198,3 @@ placed_shape {ws} D long =
 -- and so have words with a header
 pub placed : {ws : List ℕ} {p : Sections} → Told (header_fits ws) ws p → Placed ws p
 placed {ws} D = headed_placed ((header_is ws).0 D.passed) D.own
-
--- ---- after the shape the length decides, and then the counts
-pub shape_fails : (ws : List ℕ) → (T (shape_fits ws) → ⊥) → None ≡ header_if (header_fits ws) ws
-shape_fails ws n = refused (header_fits ws) ws (λ t. n (and_split (shape_fits ws) _ t).0)
-
-module _ {ws : List ℕ} {p : Sections} (K : Told (shape_fits ws) ws p) where
-  pub length_fails : (length ws ≡ p.length → ⊥) → None ≡ header_if (header_fits ws) ws
-  length_fails n = refused (header_fits ws) ws (λ t. n ((fits_of ws t).long ∙ ap (λ (q : Sections). q.length) (sym K.own)))
-
-  pub counts_fail : counts_fit ws p ≡ false → None ≡ header_if (header_fits ws) ws
-  counts_fail e = refused (header_fits ws) ws (λ t. subst T (sym (ap (counts_fit ws) K.own) ∙ e) (fits_of ws t).counts)
-
-  pub header_passes : length ws ≡ p.length → counts_fit ws p ≡ true → Some p ≡ header_if (header_fits ws) ws
-  header_passes l e =
-      ap Some K.own
-      ∙ taken (header_fits ws) ws (header-fits ws (record {
-        shape = shape_of ws K.passed;
-        long = l ∙ ap (λ (q : Sections). q.length) K.own;
-        counts = subst T (sym e ∙ ap (counts_fit ws) K.own) tt;
-      }))

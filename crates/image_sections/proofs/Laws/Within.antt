@@ -5,8 +5,6 @@ use Prim.Native.Nat.{ℕ, suc, ◌+◌, ◌*◌, ◌≤◌}
 use native.Mathlib.Nat.{mul-add, mul_assoc, mul_comm, mul-le-mul, mul_left_comm, mul-suc}
 use native.Mathlib.Omega.{arith}
 use lib.ListN.{length}
-use mir.Syntax.{w64}
-use mir.Val.{Fits}
 use Rattle.model.specs.Image.{width}
 use Rattle.model.specs.Models.Sections.{back_at, depth_word, gather_at, image_length, propagate_at, repeat_place, scatter_at, state_word}
 use Rattle.image_sections.specs.Sections.{Placed, sections_in, sections_of, Single, width_of, Within}
@@ -140,16 +138,3 @@ module _ {p : Sections} {n : ℕ} (I : Within p n) where
 
   pub past_scatter : p.scatter + p.width + 3 * p.width * p.depth ≤ n
   past_scatter = omega (arith, I.scatters, past_gather, spread 3 p.depth)
-
-  -- the masks of all depths are few
-  fits_small : {x : ℕ} → x ≤ 4834 → Fits w64 x
-  fits_small h = record { fits = omega (arith, h) }
-
-  pub unions_fit : Fits w64 (3 * p.width * p.depth)
-  unions_fit = fits_small (omega (arith, I.area, mul_assoc 3 p.width p.depth))
-
-  pub chains_fit : Fits w64 (3 * p.width * p.depth + 3 * p.width)
-  chains_fit = fits_small (omega (arith, I.area, I.narrow, mul_assoc 3 p.width p.depth))
-
-  pub backs_fit : Fits w64 (2 * p.width * p.depth)
-  backs_fit = fits_small (omega (arith, I.area, mul_assoc 2 p.width p.depth))

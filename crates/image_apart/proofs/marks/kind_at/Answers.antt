@@ -43,9 +43,6 @@ module _ (marks : Marks) (i : ℕ) where
   is-close : letter (i + 1) ≡ false → close (i + 1) ≡ true → if_close (i + 1) ≡ kind_at marks i
   is-close e f = ap (λ (b : Bool). cond b (if_close (i + 1)) if_neither) (sym f) ∙ no_letter e
 
-  is_neither : letter (i + 1) ≡ false → close (i + 1) ≡ false → if_neither ≡ kind_at marks i
-  is_neither e f = ap (λ (b : Bool). cond b (if_close (i + 1)) if_neither) (sym f) ∙ no_letter e
-
 pub returns-then-row_has_bit : goal.returns-then-row_has_bit
 returns-then-row_has_bit c =
     let a = c.args in
@@ -59,15 +56,3 @@ returns-then-row_has_bit-2 c =
     c.close_kind.ensures
     ∙ ap₂ (λ (s b : Bool). mark_kind (mark_of s b)) c.row_has_bit-then-row_has_bit-2-2.ensures c.row_has_bit-then-row_has_bit-2-3.ensures
     ∙ is-close a.marks a.i (sym c.row_has_bit.ensures ∙ c.if-row_has_bit.false) (sym c.row_has_bit-2.ensures ∙ c.if-row_has_bit-2.true)
-
-pub returns-then-row_has_bit-3 : goal.returns-then-row_has_bit-3
-returns-then-row_has_bit-3 c =
-    let a = c.args in
-    ap (λ (b : Bool). cond b open_kind bar_kind) (sym c.if-row_has_bit-3.true ∙ c.row_has_bit-3.ensures)
-    ∙ is_neither a.marks a.i (sym c.row_has_bit.ensures ∙ c.if-row_has_bit.false) (sym c.row_has_bit-2.ensures ∙ c.if-row_has_bit-2.false)
-
-pub returns-else-row_has_bit-3 : goal.returns-else-row_has_bit-3
-returns-else-row_has_bit-3 c =
-    let a = c.args in
-    ap (λ (b : Bool). cond b open_kind bar_kind) (sym c.if-row_has_bit-3.false ∙ c.row_has_bit-3.ensures)
-    ∙ is_neither a.marks a.i (sym c.row_has_bit.ensures ∙ c.if-row_has_bit.false) (sym c.row_has_bit-2.ensures ∙ c.if-row_has_bit-2.false)

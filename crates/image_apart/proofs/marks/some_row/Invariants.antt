@@ -1,11 +1,6 @@
 -- `marks::some_row`: word j of the row has the bits that word j of some mask has.
-use Prim.Native.Nat.{◌-◌, ◌≤◌}
 use Rattle.image_apart.proofs.Laws.Rows.{RowTo}
 use Rattle.image_apart.proofs.marks.some_row.Given as goal
 
 abbrev pub invariant-loop-j : goal.invariant-loop-j
-invariant-loop-j l =
-    (l.j ≤ l.width) × RowTo l.words l.at l.stride l.count l.j l.row
-
-abbrev pub decreases-loop-j : goal.decreases-loop-j
-decreases-loop-j l = l.width - l.j
+invariant-loop-j l = RowTo l.words l.at l.stride l.count l.j l.row

@@ -1,11 +1,7 @@
--- `marks::some_word`: after k turns the bits are those of the first k words, and each turn adds one more.
+-- `marks::some_word`: after k turns the word has the bits of the first k words, and each turn adds one more.
 use mathlib.Core.Path.{◌≡◌}
-use Prim.Native.Nat.{◌-◌, ◌≤◌}
 use Rattle.image_apart.specs.Work.{some_word}
 use Rattle.image_apart.proofs.marks.some_word.Given as goal
 
 abbrev pub invariant-loop-k : goal.invariant-loop-k
-invariant-loop-k l = (l.k ≤ l.count) × (l.some ≡ some_word l.words l.at l.stride l.k)
-
-abbrev pub decreases-loop-k : goal.decreases-loop-k
-decreases-loop-k l = l.count - l.k
+invariant-loop-k l = l.some ≡ some_word l.words l.at l.stride l.k

@@ -1,14 +1,13 @@
 -- WHAT A READING FITS: a number is at most a million, and there are no more states than there was room for.
-use Rattle.std.specs.Prelude.{ℕ, ◌+◌, ◌≤◌}
+use Rattle.std.specs.Prelude.{Err, None, Ok, Option, Result, Some, ℕ, ◌+◌, ◌≤◌}
+use Rattle.explain.specs.declared.reading.Claim.{Claim}
 use Rattle.explain.specs.declared.reading.Numbered.{Numbered}
-use Rattle.explain.specs.declared.reading.Numbered.TheVariants.{Not, Of}
-use Rattle.explain.specs.declared.reading.Reading.{Reading}
-use Rattle.explain.specs.declared.reading.Reading.TheVariants.{Proposal, Unreadable}
+use Rattle.explain.specs.declared.reading.Unreadable.{Unreadable}
 
-abbrev pub Small : Numbered → Type 0
-Small (Of n after) = n ≤ 1000000
-Small Not = Unit {0}
+abbrev pub Small : Option Numbered → Type 0
+Small (Some n) = n.number ≤ 1000000
+Small None = Unit {0}
 
-abbrev pub Fits : (room : ℕ) → Reading → Type 0
-Fits room (Unreadable line) = line ≤ room + 3
-Fits room (Proposal start end count) = count ≤ room
+abbrev pub Fits : (room : ℕ) → Result Claim Unreadable → Type 0
+Fits room (Err u) = u.line ≤ room + 3
+Fits room (Ok claim) = claim.count ≤ room

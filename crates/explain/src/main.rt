@@ -8,10 +8,9 @@ mod record;
 
 ghost use Rattle.std.specs.Prelude.{◌≡◌, ◌+◌, ◌≤◌, length};
 
-use crate::reading::{Numbered, Reading, read_line, read_record};
+use crate::reading::{Claim, Unreadable, read_line, read_record};
 use crate::record::{put_record, put_unreadable};
-use answers::{Answer, Judged, Proposed};
-use check::same;
+use answers::Proposed;
 use program_files::{read_file, read_full};
 use program_lines::{put_line, put_refusal};
 use std::io;
@@ -23,10 +22,9 @@ fn explain(image: &[u64], journal: &[u8], end: usize, text: &mut [u8]) -> usize
     ensures { result ≤ 2162687 }
 {
     let mut states = [0u32; 65535];
-    let proposed = propose_spelling(image, journal, end, &mut states);
-    match proposed {
-        Proposed::Refused(refusal) => put_refusal(text, refusal),
-        Proposed::Done(start, count) => put_record(
+    match propose_spelling(image, journal, end, &mut states) {
+        Err(refusal) => put_refusal(text, refusal),
+        Ok(Proposed { start, count }) => put_record(
             text,
             &journal[start..end],
             start,
@@ -50,7 +48,7 @@ fn confirm(
     ensures { result ≤ 2162687 }
 {
     let length = put_record(text, stretch, start, end, states);
-    if same(record, &text[..length]) {
+    if *record == text[..length] {
         put_line(text, 0, b"yes")
     } else {
         put_line(text, 0, b"no")
@@ -70,11 +68,10 @@ fn judge_proposal(
     requires { 2162687 ≤ length text.old }
     ensures { result ≤ 2162687 }
 {
-    let judged = check_spelling(image, journal, start, end, states);
-    match judged {
-        Judged::Refused(refusal) => put_refusal(text, refusal),
-        Judged::No => put_line(text, 0, b"no"),
-        Judged::Yes => confirm(record, &journal[start..end], start, end, states, text),
+    match check_spelling(image, journal, start, end, states) {
+        Err(refusal) => put_refusal(text, refusal),
+        Ok(false) => put_line(text, 0, b"no"),
+        Ok(true) => confirm(record, &journal[start..end], start, end, states, text),
     }
 }
 
@@ -84,10 +81,9 @@ fn judge(image: &[u64], journal: &[u8], record: &[u8], text: &mut [u8]) -> usize
     ensures { result ≤ 2162687 }
 {
     let mut states = [0u32; 65535];
-    let reading = read_record(record, &mut states);
-    match reading {
-        Reading::Unreadable(line) => put_unreadable(text, line),
-        Reading::Proposal(start, end, count) => {
+    match read_record(record, &mut states) {
+        Err(Unreadable { line }) => put_unreadable(text, line),
+        Ok(Claim { start, end, count }) => {
             judge_proposal(image, journal, record, start, end, &states[..count], text)
         }
     }
@@ -98,10 +94,9 @@ fn respond(image: &[u64], journal: &[u8], request: &[u8], text: &mut [u8]) -> us
     requires { 2162687 ≤ length text.old }
     ensures { result ≤ 2162687 }
 {
-    let asked = read_line(request, 0, b"place ");
-    match asked {
-        Numbered::Of(end, _) => explain(image, journal, end, text),
-        Numbered::Not => judge(image, journal, request, text),
+    match read_line(request, b"place ") {
+        Some(asked) => explain(image, journal, asked.number, text),
+        None => judge(image, journal, request, text),
     }
 }
 
@@ -111,10 +106,9 @@ fn answer(rule: &[u8], journal: &[u8], request: &[u8], text: &mut [u8]) -> usize
     ensures { result ≤ 2162687 }
 {
     let mut image = [0u64; 4834];
-    let built = build(rule, &mut image);
-    match built {
-        Answer::Refused(refusal) => put_refusal(text, refusal),
-        Answer::Done(length) => respond(&image[..length], journal, request, text),
+    match build(rule, &mut image) {
+        Err(refusal) => put_refusal(text, refusal),
+        Ok(length) => respond(&image[..length], journal, request, text),
     }
 }
 

@@ -41,11 +41,8 @@ fn put_steps(text: &mut [u8], at: usize, start: usize, stretch: &[u8], states: &
     ensures { result ≤ at + 33 * length stretch.now }
 {
     let mut next = at;
-    let mut i = 0;
-    while i < stretch.len() {
-        let after = put_step(text, next, start + i + 1, stretch[i], states[i]);
-        next = after;
-        i += 1;
+    for (i, (byte, state)) in stretch.iter().zip(states).enumerate() {
+        next = put_step(text, next, start + i + 1, *byte, *state);
     }
     next
 }

@@ -16,11 +16,12 @@ fn put_word(classes: &mut [u64; 256], byte: usize, word: u64)
     ensures { With classes.old byte word classes.new }
 {
     let mut rest = word;
+    // No for: only the bits that are set are gone over.
     while rest != 0 {
-        let k = u64::trailing_zeros(rest);
+        let k = rest.trailing_zeros();
         let place = 4 * k as usize + byte / 64;
-        classes[place] = classes[place] | (1 << (byte % 64));
-        rest = rest & !(1 << k);
+        classes[place] |= 1 << (byte % 64);
+        rest &= !(1 << k);
     }
 }
 
@@ -32,10 +33,8 @@ pub fn put_column(words: &[u64], sections: Sections, column: usize, classes: &mu
     *classes = [0u64; 256];
     let width = sections.width;
     let first = sections.letters + column;
-    let mut byte: usize = 0;
-    while byte < 256 {
+    for byte in 0..256 {
         put_word(classes, byte, words[first + width * byte]);
-        byte += 1;
     }
 }
 
@@ -54,10 +53,7 @@ pub fn class_of(classes: &[u64; 256], state: usize) -> [u64; 4]
     ensures { result ≡ four_of classes.now (state % 64) }
 {
     let first = 4 * (state % 64);
-    [
-        classes[first],
-        classes[first + 1],
-        classes[first + 2],
-        classes[first + 3],
-    ]
+    let mut class = [0u64; 4];
+    class.copy_from_slice(&classes[first..first + 4]);
+    class
 }

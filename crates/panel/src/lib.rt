@@ -7,20 +7,20 @@ ghost use Rattle.std.specs.Prelude.{◌≡◌, ◌+◌, ◌*◌, ◌^◌, ◌<�
 ghost use Rattle.model.specs.Answers.{BuildSays, MatchSays, ReadBackSays};
 ghost use Rattle.model.specs.Spelling.{CheckSays, ProposeSays};
 ghost use Rattle.model.specs.Watch.{BeginSays, StepSays, watch};
-ghost use Rattle.answers.specs.Answers.{count_in, judgement, number_in, place_in, proposed_number, proposed_place, proposed_stretch};
+ghost use Rattle.answers.specs.Answers.{count_in, number_in, place_in};
 ghost use Rattle.panel.specs.Says.{Gives, its_count, itself, one_if_yes, StartsBefore};
 
-use answers::{Answer, Judged, Proposed, number, place};
+use answers::Refusal;
 use watcher::{begin, build, check_spelling, match_ends, propose_spelling, read_back, step};
 
 // An answer's number, and its place or its count, in one.
-fn pack(answer: Answer) -> u64
+fn pack(answer: Result<usize, Refusal>) -> u64
     requires { place_in answer + count_in answer < 2 ^ 32 }
     ensures { result ≡ number_in answer * 2 ^ 32 + (place_in answer + count_in answer) }
 {
     match answer {
-        Answer::Refused(refusal) => number(refusal) * 0x1_0000_0000 + place(refusal) as u64,
-        Answer::Done(count) => count as u64,
+        Ok(count) => count as u64,
+        Err(refusal) => refusal.number() * 0x1_0000_0000 + refusal.place() as u64,
     }
 }
 
@@ -82,18 +82,6 @@ pub extern "C" fn lavumbishe_step(
     pack(answer)
 }
 
-// The same of the check of a spelling, with 1 for yes.
-fn pack_judged(judged: Judged) -> u64
-    requires { (judgement judged).place < 2 ^ 32 }
-    ensures { result ≡ (judgement judged).number * 2 ^ 32 + ((judgement judged).place + one_if_yes (judgement judged).given) }
-{
-    match judged {
-        Judged::Refused(refusal) => pack(Answer::Refused(refusal)),
-        Judged::No => pack(Answer::Done(0)),
-        Judged::Yes => pack(Answer::Done(1)),
-    }
-}
-
 // Whether a proposal is right: a start place, an end place, and for each byte between them the state that it enters.
 #[unsafe(no_mangle)]
 pub extern "C" fn lavumbishe_check_spelling(
@@ -106,18 +94,7 @@ pub extern "C" fn lavumbishe_check_spelling(
     ensures { Gives one_if_yes (CheckSays image.now text.now start end states.now) result tt }
 {
     let judged = check_spelling(image, text, start as usize, end as usize, states);
-    pack_judged(judged)
-}
-
-// The same of the proposer, with the number of states.
-fn pack_proposed(proposed: Proposed) -> u64
-    requires { proposed_place proposed + (proposed_stretch proposed).count < 2 ^ 32 }
-    ensures { result ≡ proposed_number proposed * 2 ^ 32 + (proposed_place proposed + (proposed_stretch proposed).count) }
-{
-    match proposed {
-        Proposed::Refused(refusal) => pack(Answer::Refused(refusal)),
-        Proposed::Done(_, count) => pack(Answer::Done(count)),
-    }
+    pack(judged.map(|yes| yes as usize))
 }
 
 // A spelling for an end of a text: its states in lent 32-bit numbers; its start is the end less their number.
@@ -131,5 +108,5 @@ pub extern "C" fn lavumbishe_propose_spelling(
     ensures { Gives its_count (StartsBefore end (ProposeSays image.now text.now end states.old)) result states.new }
 {
     let proposed = propose_spelling(image, text, end as usize, states);
-    pack_proposed(proposed)
+    pack(proposed.map(|stretch| stretch.count))
 }

@@ -8,20 +8,18 @@ ghost use Rattle.answers.specs.Answers.{number_of, place_of};
 ghost use Rattle.program_lines.specs.Lines.{decimal, end_lines, line, refused_text, total_text};
 ghost use Rattle.program_lines.specs.Work.{PutAt};
 
-use answers::{Refusal, number, place};
+use answers::Refusal;
 
 // Bytes one after another from a place on, and the place after them.
 pub fn put(text: &mut [u8], at: usize, bytes: &[u8]) -> usize
     requires { at + length bytes.now < 2 ^ 64 }
     ensures { PutAt bytes.now text.old at result text.new }
 {
-    let mut i: usize = 0;
-    while i < bytes.len() {
+    for (i, byte) in bytes.iter().enumerate() {
         let place = at + i;
         if place < text.len() {
-            text[place] = bytes[i];
+            text[place] = *byte;
         }
-        i += 1;
     }
     at + bytes.len()
 }
@@ -57,19 +55,13 @@ pub fn put_refusal(text: &mut [u8], refusal: Refusal) -> usize
     ensures line { PutAt (refused_text (number_of refusal) (place_of refusal)) text.old 0 result text.new }
     ensures short { result ≤ 34 }
 {
-    let n = number(refusal);
+    let n = refusal.number();
     if n == 2 {
         let place_at = put(text, 0, b"refused 2 at ");
-        return put_number(text, place_at, place(refusal) as u64);
+        return put_number(text, place_at, refusal.place() as u64);
     }
     let number_at = put(text, 0, b"refused ");
     put_number(text, number_at, n)
-}
-
-fn least(a: usize, b: usize) -> usize
-    ensures { result ≡ min a b }
-{
-    if a < b { a } else { b }
 }
 
 // A line for each of the first ends, as many as are counted and were lent.
@@ -77,12 +69,10 @@ pub fn put_ends(text: &mut [u8], at: usize, ends: &[u32], count: usize) -> usize
     requires { at + 21 * length ends.now < 2 ^ 64 }
     ensures { PutAt (end_lines (take count ends.now)) text.old at result text.new }
 {
-    let shown = least(count, ends.len());
+    let shown = count.min(ends.len());
     let mut next = at;
-    let mut i = 0;
-    while i < shown {
-        next = put_number(text, next, ends[i] as u64);
-        i += 1;
+    for end in &ends[..shown] {
+        next = put_number(text, next, u64::from(*end));
     }
     next
 }

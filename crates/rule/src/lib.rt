@@ -4,8 +4,7 @@
 #![tactic(auto)]
 
 ghost use Rattle.std.specs.Prelude.{◌≡◌};
-ghost use Rattle.rule.specs.Says.{outcome_of, reading, ReadSays};
-ghost use Rattle.rule.specs.Tokens.{no_tokens};
+ghost use Rattle.rule.specs.Says.{ReadSays, states_of};
 
 mod groups;
 mod parts;
@@ -17,59 +16,42 @@ use crate::parts::Part;
 use crate::readers::read_alternatives;
 use answers::Refusal;
 
-// What a rule is: refused with 1, 2 and its place, or 3 (document 01, "Numbers given back"), or the rule of a tree of so many states.
+// The tree of a rule: how many states it has, and its tokens, five words for each, with 0 after them.
 #[derive(Clone, Copy)]
-pub enum Outcome {
-    Refused(Refusal),
-    Tree(usize),
-}
-
-// What was read, and the tokens of its tree, five words for each; 0 after them, and everywhere after a refusal.
-#[derive(Clone, Copy)]
-pub struct Reading {
-    pub outcome: Outcome,
+pub struct Tree {
+    pub states: usize,
     pub tokens: [u64; 2555],
 }
 
-// Of what a rule's alternatives are, as one item, and the whole rule's length. Bytes after them are refused where the alternatives end: no rule goes on there.
-fn outcome_of(whole: Part, length: usize) -> Outcome
-    ensures { result ≡ outcome_of whole length }
+// How many states a rule's tree has, by its alternatives, read as one item, and the rule's length: refused with 2 and its place, or 3 (document 01,
+// "Numbers given back"). Bytes after the alternatives are refused where these end: no rule goes on there.
+fn count_states(whole: Part, length: usize) -> Result<usize, Refusal>
+    ensures { result ≡ states_of whole length }
 {
     match whole {
         Part::Got(p, next, _) => {
             if p < length {
-                return Outcome::Refused(Refusal::NotARule(p));
+                return Err(Refusal::NotARule(p));
             }
             if next > 511 {
-                return Outcome::Refused(Refusal::TooManyStates);
+                return Err(Refusal::TooManyStates);
             }
-            Outcome::Tree(next + 1)
+            Ok(next + 1)
         }
-        Part::Bad(p) => Outcome::Refused(Refusal::NotARule(p)),
+        Part::Bad(p) => Err(Refusal::NotARule(p)),
     }
 }
 
-// A reading that gives no tokens.
-fn refuse(outcome: Outcome) -> Reading
-    ensures { result ≡ reading outcome no_tokens }
-{
-    let tokens = [0; 2555];
-    Reading { outcome, tokens }
-}
-
 // A rule, from its first byte to its last.
-pub fn read_rule(rule: &[u8]) -> Reading
+pub fn read_rule(rule: &[u8]) -> Result<Tree, Refusal>
     ensures { ReadSays rule.now result }
 {
     if rule.len() > 1024 {
-        return refuse(Outcome::Refused(Refusal::RuleTooLong));
+        return Err(Refusal::RuleTooLong);
     }
     let mut tokens = [0; 2555];
     let alternatives = read_alternatives(rule, 0, &mut tokens, 0);
     let whole = bracket(&mut tokens, alternatives);
-    let outcome = outcome_of(whole, rule.len());
-    let Outcome::Tree(_) = outcome else {
-        return refuse(outcome);
-    };
-    Reading { outcome, tokens }
+    let states = count_states(whole, rule.len())?;
+    Ok(Tree { states, tokens })
 }

@@ -7,14 +7,14 @@ ghost use Rattle.model.specs.Models.Words.{wrap_add};
 pub fn scatter(live: u64, block: u64, source: u64, target: u64) -> u64
     ensures { result ∷ [] ≡ scatter_words (block ∷ []) (source ∷ []) (target ∷ []) (live ∷ []) }
 {
-    live | (std::num::wrapping_sub_u64(block, live & source) & target)
+    live | (block.wrapping_sub(live & source) & target)
 }
 
 // From each live end of an alternative to its union's end.
 pub fn gather(live: u64, block: u64, source: u64, target: u64) -> u64
     ensures { result ∷ [] ≡ gather_words (block ∷ []) (source ∷ []) (target ∷ []) (live ∷ []) }
 {
-    live | (std::num::wrapping_add_u64(block, live & source) & target)
+    live | (block.wrapping_add(live & source) & target)
 }
 
 // Along each chain of propagate edges, with the source less one: the complement of from - source is (source - 1) - from.
@@ -22,7 +22,7 @@ pub fn propagate(live: u64, block: u64, below: u64, target: u64) -> u64
     ensures { result ∷ [] ≡ propagate_words (block ∷ []) (wrap_add below 1 ∷ []) (target ∷ []) (live ∷ []) }
 {
     let from = (live & block) | target;
-    live | (block & (std::num::wrapping_sub_u64(below, from) ^ from))
+    live | (block & (below.wrapping_sub(from) ^ from))
 }
 
 // The same for a rule of which it is known whether it has any chain: without one nothing is reached.

@@ -19,7 +19,7 @@ pub fn note(places: &mut [u32], total: usize, place: u32, hit: bool) -> usize
 {
     if hit {
         put(places, total, place);
-        return std::num::wrapping_add_usize(total, 1);
+        return total.wrapping_add(1);
     }
     total
 }

@@ -4,7 +4,7 @@ ghost use Rattle.model.specs.Models.Run.{return_words};
 ghost use Rattle.model.specs.Models.Words.{or_words};
 ghost use Rattle.run_word.specs.One.{Closed, Returned, word_at};
 
-use crate::steps::reach;
+use crate::steps::pass;
 use run_back::lead_back;
 
 // The targets of depth k added, where `first` is what the passes gave: none without a live source, and no new one where all are live.
@@ -29,9 +29,7 @@ fn returns(first: u64, depth: usize, backs: &[u64; 16]) -> u64
     ensures { Returned backs.now depth first result }
 {
     let mut r = first;
-    let mut k = depth;
-    while k > 0 {
-        k -= 1;
+    for k in (0..depth).rev() {
         r = return_at(first, r, k, backs);
     }
     r
@@ -42,10 +40,10 @@ pub fn close(live: u64, depth: usize, any: bool, table: &[u64; 81], backs: &[u64
     requires { depth ≤ 8 }
     ensures { Closed any table.now backs.now depth live result }
 {
-    let first = reach(live, depth, any, table);
+    let first = pass(live, depth, any, table);
     let more = returns(first, depth, backs);
     if more == first {
         return first;
     }
-    reach(more, depth, any, table)
+    pass(more, depth, any, table)
 }

@@ -43,11 +43,9 @@ fn rise(live: u64, depth: usize, any: bool, table: &[u64; 81]) -> u64
     ensures { Risen any table.now depth live result }
 {
     let mut r = live;
-    let mut k = depth;
-    while k > 0 {
-        let moved = along_at(r, k, any, table);
-        r = gather_at(moved, k, table);
-        k -= 1;
+    for k in (0..depth).rev() {
+        let moved = along_at(r, k + 1, any, table);
+        r = gather_at(moved, k + 1, table);
     }
     r
 }
@@ -58,35 +56,17 @@ fn fall(live: u64, depth: usize, any: bool, table: &[u64; 81]) -> u64
     ensures { Fallen any table.now depth live result }
 {
     let mut r = live;
-    let mut k = 0;
-    while k < depth {
+    for k in 0..depth {
         let started = scatter_at(r, k + 1, table);
         r = along_at(started, k + 1, any, table);
-        k += 1;
     }
     r
 }
 
-// Up and down: all that the live states reach by edges without a letter.
-pub fn pass(
-    live: u64,
-    depth: usize,
-    any: bool,
-    block: u64,
-    below: u64,
-    target: u64,
-    table: &[u64; 81],
-) -> u64
-    requires { depth ≤ 8 }
-    ensures { Passed any block below target table.now depth live result }
-{
-    let up = rise(live, depth, any, table);
-    let level = along(up, any, block, below, target);
-    fall(level, depth, any, table)
-}
-
-// The same for all but the loops without back edges: the compiler unfolds `pass` into those only where nothing else calls it.
-pub fn reach(live: u64, depth: usize, any: bool, table: &[u64; 81]) -> u64
+// Up and down: all that the live states reach by edges without a letter. Unfolded wherever it is called, so that the compiler knows the depth where that
+// is a literal.
+#[inline(always)]
+pub fn pass(live: u64, depth: usize, any: bool, table: &[u64; 81]) -> u64
     requires { depth ≤ 8 }
     ensures { Passed any (slice_index table.now 6) (slice_index table.now 7) (slice_index table.now 8) table.now depth live result }
 {

@@ -18,7 +18,7 @@ fn entry(image: &[u64], sections: Sections, k: usize, j: usize) -> u64
     }
     let word = image[sections.propagate + 3 * k + j - 6];
     if j == 7 {
-        return std::num::wrapping_sub_u64(word, 1);
+        return word.wrapping_sub(1);
     }
     word
 }
@@ -30,10 +30,8 @@ pub fn table(image: &[u64], sections: Sections) -> [u64; 81]
 {
     let depth = sections.depth;
     let mut r = [0u64; 81];
-    let mut i = 0;
-    while i < 9 * (depth + 1) {
+    for i in 0..9 * (depth + 1) {
         r[i] = entry(image, sections, i / 9, i % 9);
-        i += 1;
     }
     r
 }
@@ -43,12 +41,10 @@ pub fn any_chain(table: &[u64; 81], depth: usize) -> bool
     requires { depth ≤ 8 }
     ensures { NoChain table.now depth result }
 {
-    let mut k = 0;
-    while k <= depth {
+    for k in 0..depth + 1 {
         if table[9 * k + 6] != 0 {
             return true;
         }
-        k += 1;
     }
     false
 }
@@ -59,13 +55,9 @@ pub fn backs(image: &[u64], sections: Sections) -> [u64; 16]
     ensures { Backs image.now sections.depth result }
 {
     let at = sections.back;
-    let depth = sections.depth;
+    let count = 2 * sections.depth;
     let mut r = [0u64; 16];
-    let mut i = 0;
-    while i < 2 * depth {
-        r[i] = image[at + i];
-        i += 1;
-    }
+    r[..count].copy_from_slice(&image[at..at + count]);
     r
 }
 
@@ -74,12 +66,5 @@ pub fn any_back(backs: &[u64; 16], depth: usize) -> bool
     requires { depth ≤ 8 }
     ensures { NoBack backs.now depth result }
 {
-    let mut i = 0;
-    while i < 2 * depth {
-        if backs[i] != 0 {
-            return true;
-        }
-        i += 1;
-    }
-    false
+    backs[..2 * depth].iter().any(|word| *word != 0)
 }

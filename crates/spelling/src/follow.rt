@@ -20,17 +20,15 @@ pub fn follow(
     requires { Placed image.now sections × WorkOf image.now masks.now × (start + length states.now ≤ length text.now) }
     ensures { FollowSays image.now last text.now start states.now result }
 {
-    let mut q: usize = 0;
-    let mut i = 0;
-    while i < states.len() {
+    let mut q = 0;
+    for (byte, state) in text[start..].iter().zip(states) {
         let from = reach(image, sections, masks, q);
-        let entered = enter(image, sections, from, text[start + i]);
-        let r = states[i] as usize;
+        let entered = enter(image, sections, from, *byte);
+        let r = *state as usize;
         if !has_bit(entered, r) {
             return false;
         }
         q = r;
-        i += 1;
     }
     let from = reach(image, sections, masks, q);
     has_bit(from, last)

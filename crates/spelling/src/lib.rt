@@ -11,8 +11,8 @@ ghost use Rattle.model.specs.Spelling.{CheckSays};
 ghost use Rattle.spelling.specs.Work.{RightSays};
 
 use crate::follow::follow;
-use answers::{Judged, Refusal};
-use image_check::{Verdict, check};
+use answers::Refusal;
+use image_check::{Checked, check};
 use image_sections::Sections;
 use run_edges::work;
 
@@ -24,21 +24,16 @@ pub fn check_spelling(
     start: usize,
     end: usize,
     states: &[u32],
-) -> Judged
+) -> Result<bool, Refusal>
     ensures { CheckSays image.now text.now start end states.now (judgement result) }
 {
-    let checked = check(image);
-    let verdict = checked.verdict;
-    let Verdict::Image(sections) = verdict else {
-        return Judged::Refused(Refusal::NotAnImage);
+    let Some(Checked { sections, .. }) = check(image) else {
+        return Err(Refusal::NotAnImage);
     };
     if text.len() > 65535 {
-        return Judged::Refused(Refusal::TextTooLong);
+        return Err(Refusal::TextTooLong);
     }
-    if is_right(image, sections, text, start, end, states) {
-        return Judged::Yes;
-    }
-    Judged::No
+    Ok(is_right(image, sections, text, start, end, states))
 }
 
 // Places and length first, and then the states. One pass for each byte: a short proposal costs little.

@@ -1,5 +1,5 @@
 -- WHAT THE PARTS SAY: of sets as rows of words, of what reaches a state, and of words that are an image.
-use Rattle.std.specs.Prelude.{◌≡◌, ◌⊎◌, ◌↔◌, List, [], ◌∷◌, ℕ, suc, ◌+◌, ◌-◌, ◌*◌, ◌%◌, ◌≤◌, ◌<◌, T, drop, get_or, length, take}
+use Rattle.std.specs.Prelude.{None, Option, Some, ◌≡◌, ◌⊎◌, ◌↔◌, List, [], ◌∷◌, ℕ, suc, ◌+◌, ◌-◌, ◌*◌, ◌%◌, ◌≤◌, ◌<◌, T, drop, get_or, length, take}
 use Rattle.model.specs.Bits.{bit}
 use Rattle.model.specs.Answers.{ImageOf}
 use Rattle.model.specs.Edges.{accepting, states}
@@ -11,8 +11,6 @@ use Rattle.image_sections.specs.Sections.{Placed}
 use Rattle.image_sections.specs.declared.Sections.{Sections}
 use Rattle.run_edges.specs.Reach.{EnterSays, ReachSays, reach_words}
 use Rattle.run.specs.Says.{StatesAre}
-use Rattle.spelling_propose.specs.declared.search.Found.{Found}
-use Rattle.spelling_propose.specs.declared.search.Found.TheVariants as search
 
 -- ---- sets as rows of words
 abbrev pub Has : List ℕ → ℕ → Type 0
@@ -23,9 +21,6 @@ WithSays row q r = (x : ℕ) → Has r x ↔ (Has row x ⊎ (x ≡ q))
 
 abbrev pub EitherSays : (a b r : List ℕ) → Type 0
 EitherSays a b r = (x : ℕ) → Has r x ↔ (Has a x ⊎ Has b x)
-
-abbrev pub LowestBitSays : ℕ → ℕ → Type 0
-LowestBitSays word r = (r < 64) × ((x : ℕ) → x < 64 → T (bit word x) → T (bit word r))
 
 abbrev pub LowestSays : List ℕ → ℕ → Type 0
 LowestSays row r = (r < 512) × ((x : ℕ) → Has row x → Has row r)
@@ -81,15 +76,15 @@ KeptFrom t text end k kept = (j : ℕ) → k ≤ 256 * j → 256 * j < end → S
 abbrev pub NoneAfter : Tree → List ℕ → (end k : ℕ) → Type 0
 NoneAfter t text end k = (j : ℕ) → k < j → j ≤ end → Leads t (between text j end) 0 → ⊥
 
-abbrev pub Started : Tree → List ℕ → ℕ → List (List ℕ) → Found → Type 0
-Started t text end kept (search.At k) = Leads t (between text k end) 0 × NoneAfter t text end k × KeptFrom t text end k kept
-Started t text end kept search.Nowhere = (j : ℕ) → j ≤ end → Leads t (between text j end) 0 → ⊥
+abbrev pub Started : Tree → List ℕ → ℕ → List (List ℕ) → Option ℕ → Type 0
+Started t text end kept (Some k) = Leads t (between text k end) 0 × NoneAfter t text end k × KeptFrom t text end k kept
+Started t text end kept None = (j : ℕ) → j ≤ end → Leads t (between text j end) 0 → ⊥
 
-abbrev pub Within : ℕ → Found → Type 0
-Within end (search.At k) = k ≤ end
-Within end search.Nowhere = Unit
+abbrev pub Within : ℕ → Option ℕ → Type 0
+Within end (Some k) = k ≤ end
+Within end None = Unit
 
-pub record StartSays (image : List ℕ) (origins : List (List ℕ)) (last : ℕ) (text : List ℕ) (end : ℕ) (kept : List (List ℕ)) (r : Found) : Type 0 where
+pub record StartSays (image : List ℕ) (origins : List (List ℕ)) (last : ℕ) (text : List ℕ) (end : ℕ) (kept : List (List ℕ)) (r : Option ℕ) : Type 0 where
   pub within : Within end r
   pub starts : (t : Tree) → Ready image origins last t → Started t text end kept r
 

@@ -15,8 +15,7 @@ pub fn ending(origins: &Origins, last: usize) -> [u64; 8]
     ensures { EndingSays origins.now last result }
 {
     let none = [0u64; 8];
-    let row = with_state(none, last);
-    into(origins, row)
+    into(origins, with_state(none, last))
 }
 
 // One byte back.
@@ -31,6 +30,5 @@ pub fn back(
     ensures { BackSays image.now origins.now set byte result }
 {
     let left = leave(image, sections, Mask { words: set }, byte);
-    let row = left.words;
-    into(origins, row)
+    into(origins, left.words)
 }

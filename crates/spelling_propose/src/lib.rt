@@ -16,30 +16,31 @@ ghost use Rattle.answers.specs.Answers.{proposal};
 ghost use Rattle.spelling_propose.specs.Work.{ProposeAsks};
 
 use crate::origins::find_origins;
-use crate::search::{Found, find_start};
+use crate::search::find_start;
 use crate::write::write;
 use answers::{Proposed, Refusal};
-use image_check::{Verdict, check};
+use image_check::check;
 use image_sections::Sections;
 use run_edges::work;
 
 // Propose: from an image, a text and an end to the latest start, and the states of a spelling in lent words. The image is checked in this same call.
 // The refusals are 6, 7, 16 and 17; done gives the start and the number of states.
-pub fn propose_spelling(image: &[u64], text: &[u8], end: usize, states: &mut [u32]) -> Proposed
+pub fn propose_spelling(
+    image: &[u64],
+    text: &[u8],
+    end: usize,
+    states: &mut [u32],
+) -> Result<Proposed, Refusal>
     ensures { ProposeSays image.now text.now end states.old (proposal result states.new) }
 {
-    let checked = check(image);
-    let verdict = checked.verdict;
-    let Verdict::Image(sections) = verdict else {
-        return Proposed::Refused(Refusal::NotAnImage);
-    };
+    let checked = check(image).ok_or(Refusal::NotAnImage)?;
     if text.len() > 65535 {
-        return Proposed::Refused(Refusal::TextTooLong);
+        return Err(Refusal::TextTooLong);
     }
     if end > text.len() {
-        return Proposed::Refused(Refusal::NotAnEnd);
+        return Err(Refusal::NotAnEnd);
     }
-    propose(image, sections, text, end, states)
+    propose(image, checked.sections, text, end, states)
 }
 
 // The search for the start, and then the states: for a place in the text.
@@ -49,26 +50,24 @@ fn propose(
     text: &[u8],
     end: usize,
     states: &mut [u32],
-) -> Proposed
+) -> Result<Proposed, Refusal>
     requires { ProposeAsks image.now sections text.now end }
     ensures { ProposeSays image.now text.now end states.old (proposal result states.new) }
 {
-    let count = sections.states;
-    let last = count - 1;
+    let last = sections.states - 1;
     let masks = work(image, sections);
     let none = [0u64; 8];
     let mut origins = [none; 512];
-    find_origins(image, sections, &masks, count, &mut origins);
+    find_origins(image, sections, &masks, sections.states, &mut origins);
     let mut kept = [none; 256];
     let found = find_start(image, sections, text, end, last, &origins, &mut kept);
-    let Found::At(start) = found else {
-        return Proposed::Refused(Refusal::NotAnEnd);
-    };
-    if states.len() < end - start {
-        return Proposed::Refused(Refusal::NoRoomForStates);
+    let start = found.ok_or(Refusal::NotAnEnd)?;
+    let count = end - start;
+    if states.len() < count {
+        return Err(Refusal::NoRoomForStates);
     }
     write(
         image, sections, &masks, text, start, end, last, &origins, &kept, states,
     );
-    Proposed::Done(start, end - start)
+    Ok(Proposed { start, count })
 }

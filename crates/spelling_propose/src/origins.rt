@@ -18,14 +18,10 @@ fn note(origins: &mut Origins, q: usize, reached: [u64; 8], count: usize)
     requires { (q < 512) × (count ≤ 512) × (length origins.old ≡ 512) }
     ensures { NoteSays origins.old q reached count origins.new }
 {
-    let mut p = 0;
-    while p < count {
+    for p in 0..count {
         if row_has_bit(reached, p) {
-            let row = origins[p];
-            let more = with_state(row, q);
-            origins[p] = more;
+            origins[p] = with_state(origins[p], q);
         }
-        p += 1;
     }
 }
 
@@ -42,12 +38,9 @@ pub fn find_origins(
 {
     let none = [0u64; 8];
     *origins = [none; 512];
-    let mut q = 0;
-    while q < count {
-        let from = reach(image, sections, masks, q);
-        let reached = from.words;
-        note(origins, q, reached, count);
-        q += 1;
+    for q in 0..count {
+        let reached = reach(image, sections, masks, q);
+        note(origins, q, reached.words, count);
     }
 }
 
@@ -58,15 +51,12 @@ fn into_word(origins: &Origins, word: u64, at: usize, r: [u64; 8]) -> [u64; 8]
 {
     let mut all = r;
     let mut left = word;
-    let mut p = at;
+    // No for: only the bits that are set are looked at, each found on the way.
     while left != 0 {
-        if left & 1 == 1 {
-            let from = origins[p];
-            let more = either(all, from);
-            all = more;
-        }
-        left = left >> 1;
-        p += 1;
+        let bit = left.trailing_zeros();
+        let more = either(all, origins[at + bit as usize]);
+        all = more;
+        left &= !(1 << bit);
     }
     all
 }
@@ -76,12 +66,9 @@ pub fn into(origins: &Origins, row: [u64; 8]) -> [u64; 8]
     ensures { IntoSays origins.now row result }
 {
     let mut r = [0u64; 8];
-    let mut i = 0;
-    while i < 8 {
-        let word = row[i];
-        let more = into_word(origins, word, 64 * i, r);
+    for (i, word) in row.iter().enumerate() {
+        let more = into_word(origins, *word, 64 * i, r);
         r = more;
-        i += 1;
     }
     r
 }

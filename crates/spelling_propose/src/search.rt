@@ -6,16 +6,10 @@ ghost use Rattle.spelling_propose.specs.Work.{Asked, StartSays};
 use crate::earlier::{back, ending};
 use crate::origins::Origins;
 use image_sections::Sections;
-use mask::bits::{row_has_bit, same_rows};
+use mask::bits::row_has_bit;
 
 // A set for every 256th place.
 pub type Kept = [[u64; 8]; 256];
-
-#[derive(Clone, Copy)]
-pub enum Found {
-    At(usize),
-    Nowhere,
-}
 
 // Goes back from the end until state 0 leads there, or no state does, and keeps the set of each 256th place.
 pub fn find_start(
@@ -26,28 +20,23 @@ pub fn find_start(
     last: usize,
     origins: &Origins,
     kept: &mut Kept,
-) -> Found
+) -> Option<usize>
     requires { Placed image.now sections × Asked text.now end last × (length kept.old ≡ 256) }
     ensures { StartSays image.now origins.now last text.now end kept.new result }
 {
     let none = [0u64; 8];
     let mut set = ending(origins, last);
-    let mut k = end;
-    loop {
+    for k in (0..end).rev() {
         if row_has_bit(set, 0) {
-            return Found::At(k);
+            return Some(k + 1);
         }
-        if k == 0 {
-            return Found::Nowhere;
+        if set == none {
+            return None;
         }
-        if same_rows(set, none) {
-            return Found::Nowhere;
-        }
-        k -= 1;
-        let before = back(image, sections, origins, set, text[k]);
-        set = before;
+        set = back(image, sections, origins, set, text[k]);
         if k % 256 == 0 {
             kept[k / 256] = set;
         }
     }
+    if row_has_bit(set, 0) { Some(0) } else { None }
 }

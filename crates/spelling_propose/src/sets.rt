@@ -1,6 +1,6 @@
 // Sets of states as rows of eight words: one state more, the states of either of two, a state of one.
 ghost use Rattle.std.specs.Prelude.{◌<◌};
-ghost use Rattle.spelling_propose.specs.Work.{EitherSays, LowestBitSays, LowestSays, WithSays};
+ghost use Rattle.spelling_propose.specs.Work.{EitherSays, LowestSays, WithSays};
 
 use mask::Mask;
 use mask::bits::row_with_bit;
@@ -22,31 +22,14 @@ pub fn either(a: [u64; 8], b: [u64; 8]) -> [u64; 8]
     r.words
 }
 
-// The lowest bit of a word; 0 where it has none.
-fn lowest_bit(word: u64) -> usize
-    ensures { LowestBitSays word result }
-{
-    let mut i = 0;
-    while i < 64 {
-        if (word >> i) & 1 == 1 {
-            return i;
-        }
-        i += 1;
-    }
-    0
-}
-
 // The lowest state of a row; 0 where it has none.
 pub fn lowest(row: [u64; 8]) -> usize
     ensures { LowestSays row result }
 {
-    let mut i = 0;
-    while i < 8 {
-        let word = row[i];
-        if word != 0 {
-            return 64 * i + lowest_bit(word);
+    for (i, word) in row.iter().enumerate() {
+        if *word != 0 {
+            return 64 * i + word.trailing_zeros() as usize;
         }
-        i += 1;
     }
     0
 }

@@ -28,9 +28,7 @@ fn fill(
     ensures { FillSays image.now origins.now text.now lo hi set sets.new }
 {
     let mut here = set;
-    let mut k = hi;
-    while k > lo {
-        k -= 1;
+    for k in (lo..hi).rev() {
         sets[k - lo] = here;
         let before = back(image, sections, origins, here, text[k]);
         here = before;
@@ -52,8 +50,7 @@ fn choose(
     let from = reach(image, sections, masks, at);
     let entered = enter(image, sections, from, byte);
     let both = and(entered, Mask { words: set }, 8);
-    let words = both.words;
-    lowest(words)
+    lowest(both.words)
 }
 
 // The states that the bytes from lo to hi enter, after the state `from`: each one from which the other bytes lead on.
@@ -73,12 +70,9 @@ fn walk(
     ensures { WalkSays image.now text.now lo hi sets.now from start states.old result states.new }
 {
     let mut at = from;
-    let mut k = lo;
-    while k < hi {
-        let set = sets[k - lo];
-        at = choose(image, sections, masks, at, set, text[k]);
+    for k in lo..hi {
+        at = choose(image, sections, masks, at, sets[k - lo], text[k]);
         states[k - start] = at as u32;
-        k += 1;
     }
     at
 }
@@ -89,7 +83,7 @@ fn stop_after(k: usize, end: usize) -> usize
     ensures { StopSays k end result }
 {
     let next = (k / 256 + 1) * 256;
-    if next < end { next } else { end }
+    next.min(end)
 }
 
 // The set of a place at which a stretch stops.
@@ -123,6 +117,7 @@ pub fn write(
     let mut sets = [none; 256];
     let mut at: usize = 0;
     let mut k = start;
+    // No for: a stretch goes to the next 256th place, so the first and the last may be shorter.
     while k < end {
         let stop = stop_after(k, end);
         let set = set_at(end, last, origins, kept, stop);

@@ -1,3 +1,2 @@
--- What the proofs of the functions cite. Words: words put one after another; Rows: the rows of the two tables.
-pub mod Words
+-- What the proofs of the functions cite. Rows: the rows of the two tables.
 pub mod Rows

@@ -10,34 +10,36 @@ ghost use Rattle.model.specs.Watch.{BeginSays, StepSays, watch};
 ghost use Rattle.answers.specs.Answers.{answered};
 
 use crate::words::{is_mask, put_words};
-use answers::{Answer, Refusal};
-use image_check::{Verdict, check};
+use answers::Refusal;
+use image_check::{Checked, check};
 use mask::bits::row_has_bit;
 use run::ends::go_on;
 use run_word::places::note;
 
 // Begin: the live states before any byte into the mask, place 0, and place 0 as an end if it is one. The refusals are 6 and 9; done gives the total of ends at
 // place 0.
-pub fn begin(image: &[u64], mask: &mut [u64], place: &mut u64, ends: &mut [u32]) -> Answer
+pub fn begin(
+    image: &[u64],
+    mask: &mut [u64],
+    place: &mut u64,
+    ends: &mut [u32],
+) -> Result<usize, Refusal>
     ensures { BeginSays image.now mask.old place.old ends.old
         (answered result (watch mask.new place.new ends.new)) }
 {
-    let checked = check(image);
-    let verdict = checked.verdict;
-    let Verdict::Image(sections) = verdict else {
-        return Answer::Refused(Refusal::NotAnImage);
+    let Some(Checked { sections, .. }) = check(image) else {
+        return Err(Refusal::NotAnImage);
     };
     let width = sections.width;
     let last = sections.states - 1;
     if mask.len() != width {
-        return Answer::Refused(Refusal::NotAMask);
+        return Err(Refusal::NotAMask);
     }
     let first = run::live::begin(image, sections);
-    let words = first.words;
-    let total = note(ends, 0, 0, row_has_bit(words, last));
-    put_words(mask, words, width);
+    let total = note(ends, 0, 0, row_has_bit(first.words, last));
+    put_words(mask, first.words, width);
     *place = 0;
-    Answer::Done(total)
+    Ok(total)
 }
 
 // Step: one stretch from the mask and the place as they are lent, whatever mask of the image's states that is. The refusals are 6, 7, 9 and 10; done gives
@@ -48,31 +50,26 @@ pub fn step(
     place: &mut u64,
     stretch: &[u8],
     ends: &mut [u32],
-) -> Answer
+) -> Result<usize, Refusal>
     ensures { StepSays image.now mask.old place.old stretch.now ends.old
         (answered result (watch mask.new place.new ends.new)) }
 {
-    let checked = check(image);
-    let verdict = checked.verdict;
-    let Verdict::Image(sections) = verdict else {
-        return Answer::Refused(Refusal::NotAnImage);
+    let Some(Checked { sections, .. }) = check(image) else {
+        return Err(Refusal::NotAnImage);
     };
-    let width = sections.width;
-    let count = sections.states;
     if stretch.len() > 65535 {
-        return Answer::Refused(Refusal::TextTooLong);
+        return Err(Refusal::TextTooLong);
     }
-    if !is_mask(mask, count) {
-        return Answer::Refused(Refusal::NotAMask);
+    if !is_mask(mask, sections.states) {
+        return Err(Refusal::NotAMask);
     }
     let at = *place;
     let length = stretch.len() as u64;
     if at > 4294967295 - length {
-        return Answer::Refused(Refusal::PlaceTooFar);
+        return Err(Refusal::PlaceTooFar);
     }
     let ran = go_on(image, sections, mask, at, stretch, ends);
-    let words = ran.words;
-    put_words(mask, words, width);
+    put_words(mask, ran.words, sections.width);
     *place = at + length;
-    Answer::Done(ran.total as usize)
+    Ok(ran.total as usize)
 }

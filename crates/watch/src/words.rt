@@ -8,11 +8,7 @@ pub fn is_mask(mask: &[u64], states: usize) -> bool
     ensures { result ≡ is_mask states mask.now }
 {
     let last = states - 1;
-    let top = last / 64;
-    if mask.len() != top + 1 {
-        return false;
-    }
-    (mask[top] >> (last % 64)) >> 1 == 0
+    mask.len() == last / 64 + 1 && (mask[last / 64] >> (last % 64)) >> 1 == 0
 }
 
 // The first words of eight, as many as were lent.
@@ -20,9 +16,5 @@ pub fn put_words(mask: &mut [u64], words: [u64; 8], width: usize)
     requires { (length mask.old ≡ width) × (width ≤ 8) }
     ensures { mask.new ≡ take width words }
 {
-    let mut i = 0;
-    while i < width {
-        mask[i] = words[i];
-        i += 1;
-    }
+    mask.copy_from_slice(&words[..width]);
 }

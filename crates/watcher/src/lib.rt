@@ -8,27 +8,22 @@ ghost use Rattle.model.specs.Spelling.{CheckSays, ProposeSays};
 ghost use Rattle.model.specs.Watch.{BeginSays, StepSays, watch};
 ghost use Rattle.answers.specs.Answers.{answered, judgement, proposal};
 
-use answers::{Answer, Judged, Proposed, Refusal};
+use answers::{Proposed, Refusal};
 use image::store;
-use image_check::{Verdict, check};
-use rule::{Outcome, read_rule};
+use image_check::{Checked, check};
+use rule::read_rule;
 use run::ends::find;
 
 // Build: from rule bytes to an image in lent words. The refusals are 1 to 5; done gives the image's length.
-pub fn build(rule: &[u8], image: &mut [u64]) -> Answer
+pub fn build(rule: &[u8], image: &mut [u64]) -> Result<usize, Refusal>
     ensures { BuildSays rule.now image.old (answered result image.new) }
 {
-    let reading = read_rule(rule);
-    let outcome = reading.outcome;
-    let tokens = reading.tokens;
-    match outcome {
-        Outcome::Refused(refusal) => Answer::Refused(refusal),
-        Outcome::Tree(states) => store(tokens, states - 1, image),
-    }
+    let tree = read_rule(rule)?;
+    store(tree.tokens, tree.states - 1, image)
 }
 
 // Read back: from an image to the plain writing of its tree, in lent bytes. The refusals are 6 and 8; done gives the writing's length.
-pub fn read_back(image: &[u64], bytes: &mut [u8]) -> Answer
+pub fn read_back(image: &[u64], bytes: &mut [u8]) -> Result<usize, Refusal>
     ensures { ReadBackSays image.now bytes.old (answered result bytes.new) }
 {
     writing::read_back(image, bytes)
@@ -36,24 +31,22 @@ pub fn read_back(image: &[u64], bytes: &mut [u8]) -> Answer
 
 // Match: from an image and a text to the places of the ends, rising, as far as what is lent reaches. The image is checked in this same call: what
 // was checked is what runs. The refusals are 6 and 7; done gives the total of ends.
-pub fn match_ends(image: &[u64], text: &[u8], ends: &mut [u32]) -> Answer
+pub fn match_ends(image: &[u64], text: &[u8], ends: &mut [u32]) -> Result<usize, Refusal>
     ensures { MatchSays image.now text.now ends.old (answered result ends.new) }
 {
-    let checked = check(image);
-    let verdict = checked.verdict;
-    let Verdict::Image(sections) = verdict else {
-        return Answer::Refused(Refusal::NotAnImage);
+    let Some(Checked { sections, .. }) = check(image) else {
+        return Err(Refusal::NotAnImage);
     };
     if text.len() > 65535 {
-        return Answer::Refused(Refusal::TextTooLong);
+        return Err(Refusal::TextTooLong);
     }
     let total = find(image, sections, text, ends);
-    Answer::Done(total as usize)
+    Ok(total as usize)
 }
 
 // Begin a watch: the live states before any byte into the mask, place 0, and place 0 as an end if it is one. The refusals are 6 and 9; done gives the
 // total of ends at place 0.
-pub fn begin(image: &[u64], mask: &mut [u64], place: &mut u64, ends: &mut [u32]) -> Answer
+pub fn begin(image: &[u64], mask: &mut [u64], place: &mut u64, ends: &mut [u32]) -> Result<usize, Refusal>
     ensures { BeginSays image.now mask.old place.old ends.old
         (answered result (watch mask.new place.new ends.new)) }
 {
@@ -67,7 +60,7 @@ pub fn step(
     place: &mut u64,
     stretch: &[u8],
     ends: &mut [u32],
-) -> Answer
+) -> Result<usize, Refusal>
     ensures { StepSays image.now mask.old place.old stretch.now ends.old
         (answered result (watch mask.new place.new ends.new)) }
 {
@@ -82,7 +75,7 @@ pub fn check_spelling(
     start: usize,
     end: usize,
     states: &[u32],
-) -> Judged
+) -> Result<bool, Refusal>
     ensures { CheckSays image.now text.now start end states.now (judgement result) }
 {
     spelling::check_spelling(image, text, start, end, states)
@@ -90,7 +83,7 @@ pub fn check_spelling(
 
 // Propose a spelling for an end of a text: the latest start, and the states in lent words. The refusals are 6, 7, 16 and 17; done gives the start and the
 // number of states.
-pub fn propose_spelling(image: &[u64], text: &[u8], end: usize, states: &mut [u32]) -> Proposed
+pub fn propose_spelling(image: &[u64], text: &[u8], end: usize, states: &mut [u32]) -> Result<Proposed, Refusal>
     ensures { ProposeSays image.now text.now end states.old (proposal result states.new) }
 {
     spelling_propose::propose_spelling(image, text, end, states)

@@ -14,10 +14,11 @@ fn next_in(class: [u64; 4], b: usize) -> usize
     ensures { FirstIn (value class) b result }
 {
     let mut i = b;
+    // No for: the place moves on to where the next word begins.
     while i < 256 {
         let rest = class[i / 64] >> (i % 64);
         if rest != 0 {
-            return i + u64::trailing_zeros(rest) as usize;
+            return i + rest.trailing_zeros() as usize;
         }
         i = 64 * (i / 64 + 1);
     }
@@ -36,10 +37,7 @@ fn next_out(class: [u64; 4], b: usize) -> usize
 fn is_dot(class: [u64; 4]) -> bool
     ensures { result ≡ eqb (value class) dot_class }
 {
-    (class[0] == 0xffff_ffff_ffff_fbff)
-        & (class[1] == 0xffff_ffff_ffff_ffff)
-        & (class[2] == 0xffff_ffff_ffff_ffff)
-        & (class[3] == 0xffff_ffff_ffff_ffff)
+    class == [!(1 << 10), u64::MAX, u64::MAX, u64::MAX]
 }
 
 // "its maximal runs in rising order"
@@ -50,12 +48,11 @@ fn write_runs(out: &mut [u8], at: usize, class: [u64; 4]) -> usize
 {
     let mut p = at;
     let mut lo = next_in(class, 0);
+    // No for: where a run ends and the next begins is found on the way.
     while lo < 256 {
         let end = next_out(class, lo);
-        let q = write_run(out, p, lo as u8, (end - 1) as u8);
-        p = q;
-        let next = next_in(class, end);
-        lo = next;
+        p = write_run(out, p, lo as u8, (end - 1) as u8);
+        lo = next_in(class, end);
     }
     p
 }
@@ -68,10 +65,8 @@ pub fn write_class(out: &mut [u8], at: usize, class: [u64; 4]) -> usize
     ensures written { out.new ≡ sets out.old at (class_writing (value class)) }
 {
     let first = next_in(class, 0);
-    if first < 256 {
-        if next_in(class, first + 1) == 256 {
-            return write_byte(out, at, first as u8);
-        }
+    if first < 256 && next_in(class, first + 1) == 256 {
+        return write_byte(out, at, first as u8);
     }
     if is_dot(class) {
         set_byte(out, at, b'.');

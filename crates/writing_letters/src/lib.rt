@@ -24,7 +24,7 @@ fn hex_digit(d: u8) -> u8
     requires { d < 16 }
     ensures { result ≡ hex_digit d }
 {
-    if d < 10 { b'0' + d } else { 55 + d }
+    if d < 10 { b'0' + d } else { b'A' + (d - 10) }
 }
 
 // "plain and not `-`, itself; a sign or `-`, with `\` before it; else `\x` and two upper-case digits"; and the place after it
@@ -38,7 +38,7 @@ pub fn write_byte(out: &mut [u8], at: usize, byte: u8) -> usize
         set_byte(out, at + 1, byte);
         return at + 2;
     }
-    if byte >= 33 && byte <= 126 {
+    if byte.is_ascii_graphic() {
         set_byte(out, at, byte);
         return at + 1;
     }

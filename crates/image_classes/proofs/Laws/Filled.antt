@@ -72,7 +72,7 @@ module _ (before : List ℕ) (byte word : ℕ) (small : byte < 256) {table : Lis
   lowest : (first < 64) × Lowest rest first
   lowest = lowest_bit 64 rest (omega (arith, some)) A.fits
 
-  pub inside : first < 64
+  inside : first < 64
   inside = lowest.0
 
   less : without rest first < rest

@@ -2,15 +2,8 @@
 use mathlib.Core.Path.{◌≡◌, subst}
 use Prim.Native.Nat.{ℕ, ◌-◌, ◌/◌}
 use native.Mathlib.Omega.{arith}
-use Rattle.image_sections.proofs.Laws.Within.{within}
 use Rattle.image_classes.specs.Classes.{ColumnOf}
 use Rattle.image_classes.proofs.move_on.Goals as goal
-
-pub put_column-requires : goal.put_column-requires
-put_column-requires c = let p = c.requires in (p.0, omega (arith, p.1, (within p.0).room))
-
-pub returns-then-state-eq0 : goal.returns-then-state-eq0
-returns-then-state-eq0 c = c.put_column.ensures
 
 pub returns-else-state-eq0 : goal.returns-else-state-eq0
 returns-else-state-eq0 c =

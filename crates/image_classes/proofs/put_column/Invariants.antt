@@ -1,10 +1,6 @@
 -- `put_column`: after each byte the table has those up to it that lead to each state of the column, and after the last all of them.
-use Prim.Native.Nat.{◌-◌, ◌≤◌}
 use Rattle.image_classes.proofs.Laws.Filled.{Upto}
 use Rattle.image_classes.proofs.put_column.Given as goal
 
 abbrev pub invariant-loop-byte : goal.invariant-loop-byte
-invariant-loop-byte l = (l.byte ≤ 256) × Upto l.words l.first l.width l.byte l.classes
-
-abbrev pub decreases-loop-byte : goal.decreases-loop-byte
-decreases-loop-byte l = 256 - l.byte
+invariant-loop-byte l = Upto l.words l.first l.width l.byte l.classes

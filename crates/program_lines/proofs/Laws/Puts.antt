@@ -49,16 +49,13 @@ module _ (ends before text : List ℕ) (at next i : ℕ) (P : PutAt (end_lines (
       ∙ ap (λ (l : List ℕ). end_lines (take i ends) ++ l) (lines_one (get_or ends i 0)) in
       subst (λ (xs : List ℕ). PutAt xs before at q later) (sym more) (put_then P Q)
 
-  -- as many as are counted and were lent
-  pub ends_put : (count : ℕ) → i ≡ min count (length ends) → PutAt (end_lines (take count ends)) before at next text
-  ends_put count e = go (le_or_lt count (length ends))
-    where
-      go : (count ≤ length ends) ⊎ (length ends < count) → PutAt (end_lines (take count ends)) before at next text
-      go (inl h) = let n : i ≡ count = omega arith in subst (λ (k : ℕ). PutAt (end_lines (take k ends)) before at next text) n P
-      go (inr h) =
-          let n : i ≡ length ends = omega arith in
-          let whole : take i ends ≡ take count ends = take_all i ends (omega arith) ∙ sym (take_all count ends (omega arith)) in
-          subst (λ (ps : List ℕ). PutAt (end_lines ps) before at next text) whole P
+-- as many as are counted and were lent
+pub all_shown : (ends : List ℕ) (n count i : ℕ) → n ≡ min count (length ends) → length (take n ends) ≤ i → take i (take n ends) ≡ take count ends
+all_shown ends n count i e l = take_all i (take n ends) l ∙ go (le_or_lt count (length ends))
+  where
+    go : (count ≤ length ends) ⊎ (length ends < count) → take n ends ≡ take count ends
+    go (inl h) = let same : n ≡ count = omega arith in ap (λ (k : ℕ). take k ends) same
+    go (inr h) = take_all n ends (omega arith) ∙ sym (take_all count ends (omega arith))
 
 -- ---- A TEXT THAT WAS PUT FROM PLACE 0 ON is reported
 pub reports : {Says : List ℕ → Type 0} {text before after : List ℕ} {r : ℕ} → PutAt text before 0 r after → Says text → Reports Says before r after

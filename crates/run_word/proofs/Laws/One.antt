@@ -1,6 +1,6 @@
 -- THE TABLE OF WORK HOLDS THE IMAGE'S MASKS: the entries by their tests; the table's masks are those of the image, so they find the same ends; and
 -- so do the masks of eight words of a rule of one.
-use Rattle.std.proofs.Common.{◌≡◌, ℕ, zero, suc, ◌+◌, ◌-◌, ◌*◌, ◌%◌, ◌^◌, ◌<◌, ◌≤◌, Bool, true, false, cond, ◌⊎◌, List, [], ◌∷◌, length, get_or, take, sym, refl, ap, ◌∙◌, inl, inr, not-suc-le-zero, eq-or-lt_of_le, arith}
+use Rattle.std.proofs.Common.{◌≡◌, ℕ, zero, suc, ◌+◌, ◌-◌, ◌*◌, ◌^◌, ◌<◌, ◌≤◌, Bool, true, false, cond, List, [], ◌∷◌, length, get_or, take, sym, refl, ap, ◌∙◌, not-suc-le-zero, arith}
 use lib.Seq.{sets}
 use Rattle.model.specs.Models.Sections.{back_at, depth_word, gather_at, propagate_at, scatter_at, three_place, two_place}
 use Rattle.model.specs.Models.Run.{close_words, ends_after, Masks, run_from}
@@ -18,19 +18,8 @@ use Rattle.run_word.proofs.Laws.Back.{BackCut, Zeros}
 use Rattle.run_word.proofs.Laws.Cut.{after_cut, close_cut, Cut, run_cut}
 use Rattle.run_word.proofs.Laws.Nine.{entered_at, nine_gather, nine_scatter}
 
-pub less-one : {x s : ℕ} → s < 2 ^ 64 → (s + 1) % 2 ^ 64 ≡ x → s ≡ wrap_sub x 1
-less-one h e = omega arith
-
 pub never : true ≡ false → ⊥
 never e = let z : ◌≡◌ {A = ℕ} 0 1 = cc in omega arith
-
--- the empty blocks, one more
-pub empty_more : (table : List ℕ) (k : ℕ) → ((x : ℕ) → x < k → get_or table (9 * x + 6) 0 ≡ 0) → get_or table (9 * k + 6) 0 ≡ 0 → (x : ℕ) → x ≤ k → get_or table (9 * x + 6) 0 ≡ 0
-empty_more table k I e x h = go (eq-or-lt_of_le h)
-  where
-    go : (x ≡ k) ⊎ (x < k) → get_or table (9 * x + 6) 0 ≡ 0
-    go (inl q) = ap (λ (y : ℕ). get_or table (9 * y + 6) 0) q ∙ e
-    go (inr q) = I x q
 
 -- ---- THE TABLE'S MASKS ARE THE IMAGE'S
 module _ (ws table backs : List ℕ) (d : ℕ) (any : Bool) (deep : d ≡ depth_word ws) (I : Entered ws d table) (N : NoChain table d any) (B : Backs ws d backs)

@@ -1,18 +1,12 @@
 -- ON ONE WORD the operations of the run are the machine's; and one turn of the loops over the depths.
-use Rattle.std.proofs.Common.{◌≡◌, ℕ, zero, suc, ◌+◌, ◌-◌, ◌*◌, ◌%◌, ◌^◌, ◌<◌, ◌≤◌, Bool, cond, ◌⊎◌, List, [], ◌∷◌, get_or, sym, refl, ap, ◌∙◌, inl, inr, not-suc-le-zero, arith}
+use Rattle.std.proofs.Common.{◌≡◌, ℕ, zero, suc, ◌+◌, ◌-◌, ◌*◌, ◌%◌, ◌^◌, ◌<◌, ◌≤◌, Bool, cond, ◌⊎◌, List, [], ◌∷◌, get_or, sym, refl, ap, ap₂, ◌∙◌, inl, inr, not-suc-le-zero, arith}
 use lib.Bits.{and_zero_l, bit_and, bit_or, bit_xor, or_zero_r}
-use Rattle.model.specs.Models.Run.{fall_words, gather_words, Masks, move_words, propagate_words, rise_words, scatter_words}
+use Rattle.model.specs.Models.Run.{fall_words, gather_words, Masks, propagate_words, rise_words, scatter_words}
 use Rattle.model.specs.Models.Words.{wrap_add, wrap_sub}
 use Rattle.model.proofs.Laws.Bool.{le_or_lt}
 use Rattle.run_word.specs.One.{Fallen, Passed, Risen, table_masks, word_at}
 
--- ---- differences and sums of one word
-difference_one : {x y s : ℕ} → x < 2 ^ 64 → y < 2 ^ 64 → s < 2 ^ 64 → (s + y) % 2 ^ 64 ≡ x → s ≡ wrap_sub (wrap_sub x y) 0
-difference_one hx hy hs e = omega arith
-
-sum_one : (x y : ℕ) {s : ℕ} → s ≡ (x + y) % 2 ^ 64 → s ≡ wrap_add (wrap_add x y) 0
-sum_one x y e = omega arith
-
+-- ---- the complement of a difference of one word
 -- a number that passes 2^64 at most once
 once : (x r : ℕ) → x < 2 ^ 64 + 2 ^ 64 → x % 2 ^ 64 ≡ r → (r ≡ x) ⊎ (r + 2 ^ 64 ≡ x)
 once x r h e = go (le_or_lt (2 ^ 64) x)
@@ -34,33 +28,28 @@ opposite hz hf hb hs hw (inr a) (inl b) (inr c) = omega arith
 opposite hz hf hb hs hw (inr a) (inr b) (inl c) = omega arith
 opposite hz hf hb hs hw (inr a) (inr b) (inr c) = omega arith
 
-complement_one : {below from z : ℕ} → below < 2 ^ 64 → from < 2 ^ 64 → z < 2 ^ 64 → (z + from) % 2 ^ 64 ≡ below
-    → z ≡ 2 ^ 64 - 1 - wrap_sub (wrap_sub from (wrap_add below 1)) 0
-complement_one {below} {from} {z} hb hf hz e =
+complement_one : (below from : ℕ) → below < 2 ^ 64 → from < 2 ^ 64
+    → (below + (2 ^ 64 - from)) % 2 ^ 64 ≡ 2 ^ 64 - 1 - wrap_sub (wrap_sub from (wrap_add below 1)) 0
+complement_one below from hb hf =
+    let z = (below + (2 ^ 64 - from)) % 2 ^ 64 in
     let source = wrap_add below 1 in
     let w = wrap_sub from source in
+    let hz : z < 2 ^ 64 = omega arith in
     let hs : source < 2 ^ 64 = omega arith in
     let hw : w < 2 ^ 64 = omega arith in
+    let e : (z + from) % 2 ^ 64 ≡ below = omega arith in
     let same : w ≡ wrap_sub w 0 = omega arith in
     opposite hz hf hb hs hw (once (z + from) below (omega arith) e) (once (below + 1) source (omega arith) refl)
     (once (from + 2 ^ 64 - source) w (omega arith) refl)
     ∙ ap (λ (y : ℕ). 2 ^ 64 - 1 - y) same
 
--- ---- the four moves
-pub scatter_one : (block source target live : ℕ) {s : ℕ} → block < 2 ^ 64 → bit_and live source < 2 ^ 64 → s < 2 ^ 64 → (s + bit_and live source) % 2 ^ 64 ≡ block
-    → bit_or live (bit_and s target) ∷ [] ≡ scatter_words (block ∷ []) (source ∷ []) (target ∷ []) (live ∷ [])
-scatter_one block source target live hb hl hs e = ap (λ (z : ℕ). bit_or live (bit_and z target) ∷ []) (difference_one hb hl hs e)
-
-pub gather_one : (block source target live : ℕ) {s : ℕ} → s ≡ (block + bit_and live source) % 2 ^ 64
-    → bit_or live (bit_and s target) ∷ [] ≡ gather_words (block ∷ []) (source ∷ []) (target ∷ []) (live ∷ [])
-gather_one block source target live e = ap (λ (z : ℕ). bit_or live (bit_and z target) ∷ []) (sum_one block (bit_and live source) e)
-
-pub propagate_one : (block below target live : ℕ) {z : ℕ} → below < 2 ^ 64 → bit_or (bit_and live block) target < 2 ^ 64 → z < 2 ^ 64
-    → (z + bit_or (bit_and live block) target) % 2 ^ 64 ≡ below
-    → bit_or live (bit_and block (bit_xor z (bit_or (bit_and live block) target))) ∷ []
+-- ---- propagate
+pub propagate_one : (block below target live : ℕ) → below < 2 ^ 64 → bit_or (bit_and live block) target < 2 ^ 64
+    → bit_or live (bit_and block (bit_xor ((below + (2 ^ 64 - bit_or (bit_and live block) target)) % 2 ^ 64) (bit_or (bit_and live block) target))) ∷ []
     ≡ propagate_words (block ∷ []) (wrap_add below 1 ∷ []) (target ∷ []) (live ∷ [])
-propagate_one block below target live hb hf hz e =
-    ap (λ (y : ℕ). bit_or live (bit_and block (bit_xor y (bit_or (bit_and live block) target))) ∷ []) (complement_one hb hf hz e)
+propagate_one block below target live hb hf =
+    let from = bit_or (bit_and live block) target in
+    ap (λ (y : ℕ). bit_or live (bit_and block (bit_xor y from)) ∷ []) (complement_one below from hb hf)
 
 -- without a block nothing is reached
 pub propagate_none : (source target live : ℕ) → live ∷ [] ≡ propagate_words (0 ∷ []) (source ∷ []) (target ∷ []) (live ∷ [])
@@ -68,12 +57,6 @@ propagate_none source target live =
     let from = bit_or (bit_and live 0) target in
     let z = bit_xor (2 ^ 64 - 1 - wrap_sub (wrap_sub from source) 0) from in
     ap (λ (y : ℕ). y ∷ []) (sym (ap (bit_or live) (and_zero_l z) ∙ or_zero_r live))
-
-pub advance_one : (letters repeats live : ℕ)
-    → bit_or (bit_or (bit_and (live * 2 % 2 ^ 64) letters) (bit_and live repeats)) 1 ∷ [] ≡ move_words (letters ∷ []) (repeats ∷ []) (1 ∷ []) (live ∷ [])
-advance_one letters repeats live =
-    let e : live * 2 % 2 ^ 64 ≡ live * 2 % 2 ^ 64 + 0 = omega arith in
-    ap (λ (x : ℕ). bit_or (bit_or (bit_and x letters) (bit_and live repeats)) 1 ∷ []) e
 
 -- ---- one turn of the loops over the depths, with the nine words of depth k
 module _ (ws : List ℕ) (any : Bool) (block below target : ℕ) (table backs : List ℕ) where
@@ -89,11 +72,12 @@ module _ (ws : List ℕ) (any : Bool) (block below target : ℕ) (table backs : 
   abbrev scatter_at : ℕ → List ℕ → List ℕ
   scatter_at k live = scatter_words (word_at table (9 * k)) (word_at table (9 * k + 1)) (word_at table (9 * k + 2)) live
 
-  rise_turn : (k : ℕ) → 0 < k → (live : List ℕ) → rise_words M (k - 1) (gather_at k (along_at k live)) ≡ rise_words M k live
+  rise_turn : (k : ℕ) → 0 < k → (live : List ℕ) → rise_words M (k - 1) (gather_at (k - 1 + 1) (along_at (k - 1 + 1) live)) ≡ rise_words M k live
   rise_turn zero h live = absurd (not-suc-le-zero h)
   rise_turn (suc k) h live =
       let e : suc k - 1 ≡ k = omega arith in
-      ap (λ (j : ℕ). rise_words M j (gather_at (suc k) (along_at (suc k) live))) e
+      let f : suc k - 1 + 1 ≡ suc k = omega arith in
+      ap₂ (λ (i j : ℕ). rise_words M i (gather_at j (along_at j live))) e f
 
   fall_turn : (d k : ℕ) → k < d → (live : List ℕ) → fall_words M (d - (k + 1)) (k + 1) (along_at (k + 1) (scatter_at (k + 1) live)) ≡ fall_words M (d - k) k live
   fall_turn d k h live =
@@ -103,9 +87,9 @@ module _ (ws : List ℕ) (any : Bool) (block below target : ℕ) (table backs : 
       ∙ sym (ap (λ (n : ℕ). fall_words M n k live) e)
 
   -- what is left of the way from r gives what the whole way gives
-  pub rise_again : (d k live r : ℕ) {a g : ℕ} → 0 < k → rise_words M k (r ∷ []) ≡ rise_words M d (live ∷ []) → a ∷ [] ≡ along_at k (r ∷ []) → g ∷ [] ≡ gather_at k (a ∷ [])
-      → rise_words M (k - 1) (g ∷ []) ≡ rise_words M d (live ∷ [])
-  rise_again d k live r h I ea eg = ap (rise_words M (k - 1)) (eg ∙ ap (gather_at k) ea) ∙ rise_turn k h (r ∷ []) ∙ I
+  pub rise_again : (d k live r : ℕ) {a g : ℕ} → 0 < k → rise_words M k (r ∷ []) ≡ rise_words M d (live ∷ []) → a ∷ [] ≡ along_at (k - 1 + 1) (r ∷ [])
+      → g ∷ [] ≡ gather_at (k - 1 + 1) (a ∷ []) → rise_words M (k - 1) (g ∷ []) ≡ rise_words M d (live ∷ [])
+  rise_again d k live r h I ea eg = ap (rise_words M (k - 1)) (eg ∙ ap (gather_at (k - 1 + 1)) ea) ∙ rise_turn k h (r ∷ []) ∙ I
 
   pub fall_again : (d k live r : ℕ) {s a : ℕ} → k < d → fall_words M (d - k) k (r ∷ []) ≡ fall_words M d 0 (live ∷ []) → s ∷ [] ≡ scatter_at (k + 1) (r ∷ [])
       → a ∷ [] ≡ along_at (k + 1) (s ∷ []) → fall_words M (d - (k + 1)) (k + 1) (a ∷ []) ≡ fall_words M d 0 (live ∷ [])

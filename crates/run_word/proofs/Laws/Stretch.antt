@@ -1,16 +1,22 @@
 -- THE LOOP OVER A STRETCH, on masks of any number of words: from where a loop begins, what was noted and what is still to come is the whole list, and the
 -- live words run on to those at its end, turn by turn. And a whole text is a beginning and one stretch.
-use Rattle.std.proofs.Common.{◌≡◌, ℕ, suc, ◌+◌, ◌%◌, ◌^◌, ◌<◌, ◌≤◌, Bool, true, false, List, [], ◌++◌, length, get_or, take, drop, sym, refl, ap, ◌∙◌, ap₂, add-zero, arith, length-append, drop_of_length-le, drop-cons}
+use Rattle.std.proofs.Common.{◌≡◌, ℕ, suc, ◌+◌, ◌%◌, ◌^◌, ◌<◌, ◌≤◌, Bool, true, false, List, [], ◌∷◌, ◌++◌, length, get_or, take, drop, sym, refl, ap, ◌∙◌, ap₂, add-zero, arith, length-append, drop_of_length-le, drop-cons}
 use lib.Seq.{length-sets, sets}
 use Rattle.model.specs.Bits.{bit}
-use Rattle.model.specs.Models.Run.{close_words, ends_after, ends_with, Masks, noted, run_from, step_words}
+use Rattle.model.specs.Models.Run.{close_words, ends_after, ends_with, Masks, move_by, noted, run_from, step_words}
 use Rattle.model.specs.Models.Words.{value}
 use Rattle.model.proofs.Laws.Stores.{sets_append}
 use Rattle.run_word.specs.Ends.{Noted, RanOver}
+use Rattle.run_word.specs.Stretch.{Closes}
 
 pub noted_few : (b : Bool) (p : ℕ) → length (noted b p) ≤ 1
 noted_few true p = omega arith
 noted_few false p = omega arith
+
+-- the move by a byte, and what a loop's own part of a step does
+pub stepped : (M : Masks) (d : ℕ) {leads : ℕ → ℕ → Type 0} → Closes M d leads → (b : ℕ) (live : List ℕ) {on r : ℕ} → on < 2 ^ 64 → leads on r → on ∷ [] ≡ move_by M b live
+    → r ∷ [] ≡ step_words M d b live
+stepped M d C b live {on} {r} h l e = C on r h l ∙ ap (close_words M d) e
 
 module _ (M : Masks) (d last place : ℕ) (stretch : List ℕ) where
   abbrev to_come : ℕ → List ℕ → List ℕ

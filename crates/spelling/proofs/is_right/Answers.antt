@@ -1,30 +1,17 @@
 -- `is_right`: each way out is one of the wish's conditions.
 use native.Mathlib.Omega.{arith}
 use Rattle.image_sections.proofs.Laws.Within.{own_states}
-use Rattle.spelling.proofs.Laws.Check.{followed, outside, turned, uneven}
+use Rattle.spelling.proofs.Laws.Check.{followed}
 use Rattle.spelling.proofs.is_right.Goals as goal
 
 pub returns-then-end-text : goal.returns-then-end-text
-returns-then-end-text c = let a = c.args in outside a.image.now a.text.now a.start a.end a.states.now c.if-end-text.true
+returns-then-end-text c = λ t I. (λ f. absurd f, λ s. omega (arith, s.inside))
 
 pub returns-then-start-end : goal.returns-then-start-end
-returns-then-start-end c = let a = c.args in turned a.image.now a.text.now a.start a.end a.states.now c.if-start-end.true
+returns-then-start-end c = λ t I. (λ f. absurd f, λ s. omega (arith, s.ordered))
 
 pub returns-then-states-end : goal.returns-then-states-end
-returns-then-states-end c = let a = c.args in uneven a.image.now a.text.now a.start a.end a.states.now c.if-states-end.true
-
-pub overflow_sub-last : goal.overflow_sub-last
-overflow_sub-last c = let P = c.requires in omega (arith, own_states P, P.some)
-
-pub work-masks-requires : goal.work-masks-requires
-work-masks-requires c = c.requires
-
-pub follow-requires : goal.follow-requires
-follow-requires c =
-    (c.requires, c.work-masks.ensures, omega (arith, c.if-states-end.false, c.if-start-end.false, c.if-end-text.false))
+returns-then-states-end c = λ t I. (λ f. absurd f, λ s. c.if-states-end.true s.each)
 
 pub returns : goal.returns
-returns c =
-    let a = c.args in
-    followed a.image.now a.text.now a.start a.end a.states.now c.if-end-text.false c.if-start-end.false c.if-states-end.false
-    (own_states c.requires) c.follow.result c.follow.ensures
+returns c = followed c.if-end-text.false c.if-start-end.false c.if-states-end.false (own_states c.requires) c.follow.result c.follow.ensures

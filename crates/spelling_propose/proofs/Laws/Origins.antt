@@ -1,22 +1,25 @@
 -- THE LOOPS OVER THE STATES: the rows of what reaches each state, one state after another, and what reaches a state of a row.
 use mathlib.Core.Path.{◌≡◌, refl, sym, ap, ap₂, ◌∙◌, subst}
 use mathlib.Core.Logic.{◌⊎◌, inl, inr, ◌↔◌}
-use mathlib.Core.Bool.{true, false}
+use mathlib.Core.Bool.{Bool, true, false, not, ◌&&◌, and-false, true≢false}
 use mathlib.Core.List.{List, []}
 use Prim.Native.Nat.{ℕ, ◌+◌, ◌-◌, ◌*◌, ◌/◌, ◌%◌, ◌^◌, ◌≤◌, ◌<◌}
-use native.Mathlib.Nat.{eq-or-lt_of_le, le_refl}
+use native.Mathlib.Nat.{eq-or-lt_of_le}
 use native.Mathlib.Omega.{arith}
+use borrow.Author.Tests.{eq-eqb}
 use lib.Bits.{bit_and}
+use lib.Count.{count_trailing_zeros}
 use lib.Dec.{T, eqb, eqb→eq}
 use lib.ListN.{get_or, get_or-replicate, length, length-set, replicate, set}
-use lib.Pow.{pow_mono, shr_lt, shr-shr}
+use lib.Pow.{pow-lt}
 use lib.Seq.{get_or-set_other, get_or-set_same}
-use Rattle.mask.proofs.Laws.Bits.{none_bit, read_bit}
+use Rattle.mask.proofs.Laws.Bits.{none_bit}
 use Rattle.model.specs.Bits.{bit}
 use Rattle.model.specs.Models.Words.{Fit, value}
-use Rattle.model.proofs.Laws.Bits.{no_bit}
-use Rattle.model.proofs.Laws.Bool.{le_or_lt}
-use Rattle.model.proofs.Words.RowBits.{row_bit, shifted}
+use Rattle.model.proofs.Laws.Bits.{bit_zero}
+use Rattle.model.proofs.Laws.Bool.{and_split, le_or_lt}
+use Rattle.model.proofs.Words.Lowest.{Lowest, lowest_bit, without, without_bit, without_less}
+use Rattle.model.proofs.Words.RowBits.{row_bit}
 use Rattle.run_edges.specs.Reach.{reach_words}
 use Rattle.run_edges.proofs.Laws.Sets.{bit_below}
 use Rattle.spelling_propose.specs.Work.{EitherSays, Has, IntoSays, IntoWordSays, NoteSays, OriginsSays, WithSays}
@@ -124,119 +127,93 @@ module _ (image : List ℕ) (count : ℕ) where
   found_all {q} {rows} F e p h x =
       subst (λ (n : ℕ). Has (get_or rows p []) x ↔ ((x < n) × Has (reach_words image x) p)) e (F.has p h x)
 
--- ---- WHAT REACHES A STATE OF ONE WORD: the origins of its states before p are in r, and `left` is the word from there on
+-- ---- WHAT REACHES A STATE OF ONE WORD: the origins of its states that are not left in the word are in r
 module _ (origins : List (List ℕ)) (word at : ℕ) (before : List ℕ) where
-  abbrev From : (n q : ℕ) → Type 0
-  From n q = (j : ℕ) × (j < n) × T (bit word j) × Has (get_or origins (at + j) []) q
+  abbrev From : (gone : ℕ → Type 0) (q : ℕ) → Type 0
+  From gone q = (j : ℕ) × (j < 64) × T (bit word j) × gone j × Has (get_or origins (at + j) []) q
 
-  pub record Taking (p left : ℕ) (r : List ℕ) : Type 0 where
-    pub past : at ≤ p
-    pub left_is : left ≡ word / 2 ^ (p - at)
-    pub has : (q : ℕ) → Has r q ↔ (Has before q ⊎ From (p - at) q)
+  pub record Taking (left : ℕ) (r : List ℕ) : Type 0 where
+    pub fits : left < 2 ^ 64
+    pub of_word : (j : ℕ) → T (bit left j) → T (bit word j)
+    pub has : (q : ℕ) → Has r q ↔ (Has before q ⊎ From (λ j. bit left j ≡ false) q)
 
-  pub taking_none : Taking at word before
-  taking_none =
-      let e : at - at ≡ 0 = omega arith in
-      record {
-        past = le_refl at;
-        left_is = let d : word ≡ word / 1 = omega arith in d ∙ ap (λ (n : ℕ). word / 2 ^ n) (sym e);
-        has = λ q. (
-          λ h. inl h,
-          λ h. elim h [
-            | inl k ↦ k
-            | inr (j, l, b, k) ↦ absurd (omega (arith, e))
-          ],
-        );
-      }
+  pub taking_none : word < 2 ^ 64 → Taking word before
+  taking_none f = record {
+    fits = f;
+    of_word = λ j b. b;
+    has = λ q. (
+      λ h. inl h,
+      λ h. elim h [
+        | inl k ↦ k
+        | inr (j, l, b, out, k) ↦ absurd (subst T out b)
+      ],
+    );
+  }
 
-  module _ {p left : ℕ} {r : List ℕ} (K : Taking p left r) where
-    up : p + 1 - at ≡ p - at + 1
-    up = omega (arith, K.past)
+  -- the lowest state that is left is taken
+  module _ {left : ℕ} {r : List ℕ} (K : Taking left r) (some : left ≡ 0 → ⊥) where
+    abbrev first : ℕ
+    first = count_trailing_zeros 64 left
 
-    here : at + (p - at) ≡ p
-    here = omega (arith, K.past)
+    lowest : (first < 64) × Lowest left first
+    lowest = lowest_bit 64 left (omega (arith, some)) K.fits
 
-    -- while some bit is left, the place lies in the word
-    pub inside : word < 2 ^ 64 → (left ≡ 0 → ⊥) → p < at + 64
-    inside w f = go (le_or_lt (p - at) 63)
+    pub inside : first < 64
+    inside = lowest.0
+
+    -- what is left, as the code has it
+    abbrev cleared : ℕ
+    cleared = bit_and left (2 ^ 64 - 1 - 1 * 2 ^ first % 2 ^ 64)
+
+    is_cleared : cleared ≡ without left first
+    is_cleared =
+        let p : 2 ^ first < 2 ^ 64 = pow-lt inside in
+        let e : 1 * 2 ^ first % 2 ^ 64 ≡ 2 ^ first = omega arith in
+        ap (λ (n : ℕ). bit_and left (2 ^ 64 - 1 - n)) e
+
+    pub taking_less : cleared < left
+    taking_less = subst (λ (n : ℕ). n < left) (sym is_cleared) (without_less left first K.fits inside lowest.1.here)
+
+    pub taking_more : (s : List ℕ) → EitherSays r (get_or origins (at + first) []) s → Taking cleared s
+    taking_more s E = record {
+      fits = omega (arith, taking_less, K.fits);
+      of_word = λ j b. K.of_word j (and_split (bit left j) (not (eqb j first)) (subst T (bits j) b)).0;
+      has = λ q. (there q, back q);
+    }
       where
-        go : (p - at ≤ 63) ⊎ (63 < p - at) → p < at + 64
-        go (inl h) = omega (arith, K.past)
-        go (inr h) =
-            let s : 2 ^ 64 ≤ 2 ^ (p - at) = pow_mono (let l : 64 ≤ p - at = omega arith in l) in
-            let e : p - at ≡ 0 + (p - at) = omega arith in
-            let z : word / 2 ^ (p - at) < 1 = shr_lt 0 (p - at) (subst (λ (k : ℕ). word < 2 ^ k) e (omega arith)) in
-            absurd (f (omega (arith, K.left_is)))
+        bits : (j : ℕ) → bit cleared j ≡ (bit left j && not (eqb j first))
+        bits j = ap (λ (n : ℕ). bit n j) is_cleared ∙ without_bit left first K.fits inside j
 
-    next : left / 2 ^ 1 ≡ word / 2 ^ (p + 1 - at)
-    next = ap (λ (x : ℕ). x / 2 ^ 1) K.left_is ∙ shr-shr word (p - at) 1 ∙ ap (λ (x : ℕ). word / 2 ^ x) (sym up)
-
-    look : eqb (bit_and left 1) 1 ≡ bit word (p - at)
-    look = ap (λ (x : ℕ). eqb (bit_and x 1) 1) K.left_is ∙ read_bit word (p - at)
-
-    pub taking_more : bit_and left 1 ≡ 1 → (s : List ℕ) → EitherSays r (get_or origins p []) s → Taking (p + 1) (left / 2 ^ 1) s
-    taking_more e s E = record { past = omega (arith, K.past); left_is = next; has = λ q. (there q, back q) }
-      where
-        set : T (bit word (p - at))
-        set = subst T look (subst (λ (x : ℕ). T (eqb x 1)) (sym e) tt)
-
-        there : (q : ℕ) → Has s q → Has before q ⊎ From (p + 1 - at) q
+        there : (q : ℕ) → Has s q → Has before q ⊎ From (λ j. bit cleared j ≡ false) q
         there q h = elim ((E q).0 h) [
           | inl k ↦ elim ((K.has q).0 k) [
             | inl m ↦ inl m
-            | inr m ↦ inr (m.0, omega (arith, up, m.1), m.2, m.3)
+            | inr (j, l, b, out, m) ↦ inr (j, l, b, bits j ∙ rw out, m)
           ]
-          | inr k ↦ inr (p - at, omega (arith, up), set, subst (λ (x : ℕ). Has (get_or origins x []) q) (sym here) k)
+          | inr k ↦ inr (first, inside, K.of_word first (subst T (sym lowest.1.here) tt), bits first ∙ rw (eq-eqb first first refl, and-false (bit left first)), k)
         ]
 
-        go : (q j : ℕ) → T (bit word j) → Has (get_or origins (at + j) []) q → (j ≡ p - at) ⊎ (j < p - at) → Has s q
-        go q j b k (inl d) = (E q).1 (inr (subst (λ (x : ℕ). Has (get_or origins x []) q) (ap (λ (x : ℕ). at + x) d ∙ here) k))
-        go q j b k (inr l) = (E q).1 (inl ((K.has q).1 (inr (j, l, b, k))))
-
-        back : (q : ℕ) → Has before q ⊎ From (p + 1 - at) q → Has s q
+        back : (q : ℕ) → Has before q ⊎ From (λ j. bit cleared j ≡ false) q → Has s q
         back q (inl h) = (E q).1 (inl ((K.has q).1 (inl h)))
-        back q (inr (j, l, b, k)) = go q j b k (split (let m : j < p - at + 1 = omega (arith, up) in m))
+        back q (inr (j, l, b, out, k)) = go (bit left j) refl (eqb j first) refl
+          where
+            go : (c : Bool) → bit left j ≡ c → (d : Bool) → eqb j first ≡ d → Has s q
+            go false e d f = (E q).1 (inl ((K.has q).1 (inr (j, l, b, e, k))))
+            go true e true f = (E q).1 (inr (subst (λ (x : ℕ). Has (get_or origins (at + x) []) q) (eqb→eq j first (subst T (sym f) tt)) k))
+            go true e false f = absurd (true≢false (sym (bits j ∙ rw (e, f)) ∙ out))
 
-    pub taking_same : (bit_and left 1 ≡ 1 → ⊥) → Taking (p + 1) (left / 2 ^ 1) r
-    taking_same f = record { past = omega (arith, K.past); left_is = next; has = λ q. (there q, back q) }
-      where
-        clear : T (bit word (p - at)) → ⊥
-        clear h = f (eqb→eq (bit_and left 1) 1 (subst T (sym look) h))
-
-        there : (q : ℕ) → Has r q → Has before q ⊎ From (p + 1 - at) q
-        there q h = elim ((K.has q).0 h) [
-          | inl m ↦ inl m
-          | inr m ↦ inr (m.0, omega (arith, up, m.1), m.2, m.3)
-        ]
-
-        go : (q j : ℕ) → T (bit word j) → Has (get_or origins (at + j) []) q → (j ≡ p - at) ⊎ (j < p - at) → Has r q
-        go q j b k (inl d) = absurd (clear (subst (λ (x : ℕ). T (bit word x)) d b))
-        go q j b k (inr l) = (K.has q).1 (inr (j, l, b, k))
-
-        back : (q : ℕ) → Has before q ⊎ From (p + 1 - at) q → Has r q
-        back q (inl h) = (K.has q).1 (inl h)
-        back q (inr (j, l, b, k)) = go q j b k (split (let m : j < p - at + 1 = omega (arith, up) in m))
-
-    -- no bit is left: all of the word's have been met
-    pub taking_all : p ≤ at + 64 → left ≡ 0 → IntoWordSays origins word at before r
-    taking_all h e q = (there, back)
-      where
-        there : Has r q → Has before q ⊎ From 64 q
-        there k = elim ((K.has q).0 k) [
-          | inl m ↦ inl m
-          | inr m ↦ inr (m.0, omega (arith, m.1), m.2, m.3)
-        ]
-
-        none : (i : ℕ) → T (bit word (p - at + i)) → ⊥
-        none i b = no_bit i (subst T (sym (ap (λ (x : ℕ). bit x i) (sym e ∙ K.left_is) ∙ shifted word (p - at) i)) b)
-
-        go : (j : ℕ) → T (bit word j) → Has (get_or origins (at + j) []) q → (p - at ≤ j) ⊎ (j < p - at) → Has r q
-        go j b k (inl l) = absurd (none (j - (p - at)) (subst (λ (x : ℕ). T (bit word x)) (let d : j ≡ p - at + (j - (p - at)) = omega arith in d) b))
-        go j b k (inr l) = (K.has q).1 (inr (j, l, b, k))
-
-        back : Has before q ⊎ From 64 q → Has r q
-        back (inl k) = (K.has q).1 (inl k)
-        back (inr (j, l, b, k)) = go j b k (le_or_lt (p - at) j)
+  -- none is left: all of the word's have been met
+  pub taking_all : {left : ℕ} {r : List ℕ} → Taking left r → left ≡ 0 → IntoWordSays origins word at before r
+  taking_all {left} K e q = (
+    λ h. elim ((K.has q).0 h) [
+      | inl m ↦ inl m
+      | inr (j, l, b, out, m) ↦ inr (j, l, b, m)
+    ],
+    λ h. elim h [
+      | inl m ↦ (K.has q).1 (inl m)
+      | inr (j, l, b, m) ↦ (K.has q).1 (inr (j, l, b, ap (λ (n : ℕ). bit n j) e ∙ bit_zero j, m))
+    ],
+  )
 
 -- ---- AND OF A ROW: word after word
 module _ (origins : List (List ℕ)) (row : List ℕ) where

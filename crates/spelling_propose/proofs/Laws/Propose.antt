@@ -1,6 +1,7 @@
 -- THE ROWS OF THE PROPOSER'S TABLE.
 use mathlib.Core.Path.{◌≡◌, refl, sym, ap, ◌∙◌, subst}
 use mathlib.Core.Logic.{◌⊎◌, inl, inr}
+use Rattle.std.specs.Prelude.{None, Option, Some}
 use mathlib.Core.List.{List, ◌++◌}
 use Prim.Native.Nat.{ℕ, ◌-◌, ◌≤◌, ◌<◌}
 use native.Mathlib.Omega.{arith}
@@ -16,8 +17,6 @@ use Rattle.image_sections.specs.declared.Sections.{Sections}
 use Rattle.image_sections.proofs.Laws.OfTree.{states_is}
 use Rattle.image_sections.proofs.Laws.Within.{own_states}
 use Rattle.spelling_propose.specs.Work.{Asked, OriginsSays, ProposeAsks, Ready, StartSays, WriteSays}
-use Rattle.spelling_propose.specs.declared.search.Found.{Found}
-use Rattle.spelling_propose.specs.declared.search.Found.TheVariants as search
 use Rattle.spelling_propose.proofs.Laws.Back.{ready}
 
 -- an end lies in the text
@@ -43,19 +42,19 @@ module _ {words : List ℕ} {p : Sections} {text : List ℕ} {end : ℕ} (A : Pr
   abbrev Says : Proposal → Type 0
   Says = ProposeSays words text end before
 
-  module _ {origins : List (List ℕ)} (O : OriginsSays words p.states origins) {kept : List (List ℕ)} {r : Found}
+  module _ {origins : List (List ℕ)} (O : OriginsSays words p.states origins) {kept : List (List ℕ)} {r : Option ℕ}
       (S : StartSays words origins last text end kept r) where
     R : Ready words origins last t
     R = ready words origins p.states t I (own_states A.placed ∙ states_is words t I) O
 
-    pub nowhere : r ≡ search.Nowhere → Says (proposes_none 16 before)
+    pub nowhere : r ≡ None → Says (proposes_none 16 before)
     nowhere e = no_end t I A.short (λ d. go (subst (StartSays words origins last text end kept) e S) ((spelled_end t I.is_rule text end).1 d)) refl
       where
-        go : StartSays words origins last text end kept search.Nowhere → (start : ℕ) × (states : List ℕ) × Spelled t text start end states → ⊥
+        go : StartSays words origins last text end kept None → (start : ℕ) × (states : List ℕ) × Spelled t text start end states → ⊥
         go N (i, rs, s) = let l = (spelled_leads t text i end).0 (rs, s) in N.starts t R i l.1 l.2
 
-    module _ {start : ℕ} (e : r ≡ search.At start) where
-      at : StartSays words origins last text end kept (search.At start)
+    module _ {start : ℕ} (e : r ≡ Some start) where
+      at : StartSays words origins last text end kept (Some start)
       at = subst (StartSays words origins last text end kept) e S
 
       pub ordered : start ≤ end

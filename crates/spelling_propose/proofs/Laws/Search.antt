@@ -1,6 +1,7 @@
 -- GOING BACK TO THE LATEST START: the set of the place, no start after it, and the kept sets from it on.
 use mathlib.Core.Path.{◌≡◌, sym, ap, ◌∙◌, subst}
 use mathlib.Core.Logic.{◌⊎◌, inl, inr}
+use Rattle.std.specs.Prelude.{None, Option, Some}
 use mathlib.Core.Bool.{false}
 use mathlib.Core.List.{List, [], ◌∷◌}
 use Prim.Native.Nat.{ℕ, suc, ◌-◌, ◌*◌, ◌/◌, ◌%◌, ◌≤◌, ◌<◌}
@@ -17,7 +18,6 @@ use Rattle.model.specs.Models.Leads.{Leads}
 use Rattle.model.specs.Spelling.{between}
 use Rattle.model.proofs.Spelling.Leads.{between_none, between_one, between_split, leads_later}
 use Rattle.spelling_propose.specs.Work.{Asked, BackSays, EndingSays, Has, KeptFrom, NoneAfter, Ready, SetAt, SetOf, StartSays}
-use Rattle.spelling_propose.specs.declared.search.Found.TheVariants as search
 
 module _ (image : List ℕ) (origins : List (List ℕ)) (last : ℕ) (text : List ℕ) (end : ℕ) where
   pub record Place (t : Tree) (k : ℕ) (here : List ℕ) (kept : List (List ℕ)) : Type 0 where
@@ -104,14 +104,14 @@ module _ (image : List ℕ) (origins : List (List ℕ)) (last : ℕ) (text : Lis
               subst (λ (w : List ℕ). SetAt t text end (256 * j) w) (sym (get_or-set_other kept i j before [] (λ q. omega arith))) ((K.place t R).kept_from j (omega arith) m)
 
     -- ---- the ways out
-    pub backed_here : {k : ℕ} {here : List ℕ} {kept : List (List ℕ)} → Backed k here kept → T (bit (value here) 0) → StartSays image origins last text end kept (search.At k)
+    pub backed_here : {k : ℕ} {here : List ℕ} {kept : List (List ℕ)} → Backed k here kept → T (bit (value here) 0) → StartSays image origins last text end kept (Some k)
     backed_here K h = record {
       within = K.within;
       starts = λ t R. let P = K.place t R in ((P.set_at.within 0 (omega arith)).0 h, P.none_after, P.kept_from);
     }
 
     -- where no state leads on from a place, none does from any before it
-    pub backed_empty : {k : ℕ} {here : List ℕ} {kept : List (List ℕ)} → Backed k here kept → ((x : ℕ) → Has here x → ⊥) → StartSays image origins last text end kept search.Nowhere
+    pub backed_empty : {k : ℕ} {here : List ℕ} {kept : List (List ℕ)} → Backed k here kept → ((x : ℕ) → Has here x → ⊥) → StartSays image origins last text end kept None
     backed_empty {k} {here} K f = record { within = tt; starts = λ t R j m l. go t R j m l (le_or_lt j k) }
       where
         go : (t : Tree) → Ready image origins last t → (j : ℕ) → j ≤ end → Leads t (between text j end) 0 → (j ≤ k) ⊎ (k < j) → ⊥
@@ -120,7 +120,7 @@ module _ (image : List ℕ) (origins : List (List ℕ)) (last : ℕ) (text : Lis
             f g.0 (((K.place t R).set_at.within g.0 g.1).1 g.2)
         go t R j m l (inr h) = (K.place t R).none_after j h m l
 
-    pub backed_nowhere : {k : ℕ} {here : List ℕ} {kept : List (List ℕ)} → Backed k here kept → bit (value here) 0 ≡ false → k ≡ 0 → StartSays image origins last text end kept search.Nowhere
+    pub backed_nowhere : {k : ℕ} {here : List ℕ} {kept : List (List ℕ)} → Backed k here kept → bit (value here) 0 ≡ false → k ≡ 0 → StartSays image origins last text end kept None
     backed_nowhere {k} {here} K h e = record { within = tt; starts = λ t R j m l. go t R j m l (eq-or-lt_of_le (let x : k ≤ j = omega arith in x)) }
       where
         go : (t : Tree) → Ready image origins last t → (j : ℕ) → j ≤ end → Leads t (between text j end) 0 → (k ≡ j) ⊎ (k < j) → ⊥

@@ -6,6 +6,7 @@ use mathlib.Core.List.{List}
 use Prim.Native.Nat.{ℕ, zero, suc, ◌+◌, ◌*◌, ◌/◌, ◌%◌, ◌^◌, ◌≤◌, ◌<◌}
 use native.Mathlib.Nat.{le_refl, pow-suc}
 use native.Mathlib.Omega.{arith}
+use lib.Count.{count_trailing_zeros}
 use lib.Dec.{T, eqb, eqb→eq, eqb_refl}
 use lib.ListN.{get_or, length, take}
 use lib.Seq.{take_all}
@@ -15,10 +16,11 @@ use Rattle.model.proofs.Laws.Bits.{no_bit}
 use Rattle.model.proofs.Laws.Bool.{and_both, and_split, le_or_lt, or_left, or_right, or_split}
 use Rattle.model.proofs.Words.Holds.{Near}
 use Rattle.model.proofs.Words.Operations.{near_and, near_or}
-use Rattle.model.proofs.Words.Put.{put-bit}
+use Rattle.model.proofs.Words.Lowest.{lowest_bit}
+use Rattle.model.proofs.Words.Put.{fit_at, put-bit}
 use Rattle.model.proofs.Words.RowBits.{row_bit}
 use Rattle.run_edges.proofs.Laws.Sets.{bit_below}
-use Rattle.spelling_propose.specs.Work.{EitherSays, Has, LowestBitSays, LowestSays, WithSays}
+use Rattle.spelling_propose.specs.Work.{EitherSays, Has, LowestSays, WithSays}
 
 pub with_says : (row r : List ℕ) (q : ℕ) → q < 512 → length row ≡ 8 → Fit row → r ≡ put_bit row q → WithSays row q r
 with_says row r q l long fit e x = (there, back)
@@ -71,23 +73,15 @@ module _ (a b r : List ℕ) (la : length a ≡ 8) (lb : length b ≡ 8) (lr : le
           ∙ (near_and (suc x) 8 a b (λ y. bit (value a) y) (λ y. bit (value b) y) (self x a la fa) (self x b lb fb)).bits x (le_refl (suc x))
 
 -- ---- THE LOWEST
--- a number of k digits that is not 0 has a bit
-some_bit : (k n : ℕ) → n < 2 ^ k → (n ≡ 0 → ⊥) → (x : ℕ) × (x < k) × T (bit n x)
-some_bit zero n h f = absurd (f (omega arith))
-some_bit (suc k) n h f = go (le_or_lt (n % 2) 0) (λ e. some_bit k (n / 2) (omega (arith, pow-suc 2 k)) (λ z. f (omega arith)))
-  where
-    go : (n % 2 ≤ 0) ⊎ (0 < n % 2) → (n % 2 ≤ 0 → (x : ℕ) × (x < k) × T (bit (n / 2) x)) → (x : ℕ) × (x < suc k) × T (bit n x)
-    go (inl e) g = let r = g e in (suc r.0, omega (arith, r.1), r.2)
-    go (inr e) g = let o : n % 2 ≡ 1 = omega arith in (0, omega arith, subst (λ (y : ℕ). T (eqb (n % 2) y)) o (eqb_refl (n % 2)))
-
 module _ (row : List ℕ) (long : length row ≡ 8) (fit : Fit row) where
   -- the first word that is not 0 has it
-  pub lowest_in : (i r : ℕ) → i < 8 → get_or row i 0 < 2 ^ 64 → (get_or row i 0 ≡ 0 → ⊥) → LowestBitSays (get_or row i 0) r → LowestSays row (64 * i + r)
-  lowest_in i r h w f L =
-      let b = some_bit 64 (get_or row i 0) w f in
+  pub lowest_in : (i : ℕ) → i < 8 → (get_or row i 0 ≡ 0 → ⊥) → LowestSays row (64 * i + count_trailing_zeros 64 (get_or row i 0))
+  lowest_in i h f =
+      let r = count_trailing_zeros 64 (get_or row i 0) in
+      let L = lowest_bit 64 (get_or row i 0) (omega (arith, f)) (fit_at row i fit) in
       let d : (64 * i + r) / 64 ≡ i = omega (arith, L.0) in
       let m : (64 * i + r) % 64 ≡ r = omega (arith, L.0) in
-      (omega (arith, L.0), λ x k. subst T (sym (row_bit row (64 * i + r) fit ∙ ap₂ (λ (a b : ℕ). bit (get_or row a 0) b) d m)) (L.1 b.0 b.1 b.2))
+      (omega (arith, L.0), λ x k. subst T (sym (row_bit row (64 * i + r) fit ∙ ap₂ (λ (a b : ℕ). bit (get_or row a 0) b) d m ∙ L.1.here)) tt)
 
   -- no word has one
   pub lowest_none : ((j : ℕ) → j < 8 → get_or row j 0 ≡ 0) → LowestSays row 0

@@ -9,6 +9,7 @@ use native.Mathlib.Omega.{arith}
 use lib.Dec.{T}
 use lib.ListN.{length, take}
 use lib.Seq.{sets}
+use Rattle.std.specs.Prelude.{None, Option, Some}
 use Rattle.model.specs.Answers.{gives, ImageOf}
 use Rattle.model.specs.Bits.{bit}
 use Rattle.model.specs.Edges.{accepting, states}
@@ -17,7 +18,7 @@ use Rattle.model.specs.Live.{Before}
 use Rattle.model.specs.Models.Run.{noted}
 use Rattle.model.specs.Models.Words.{Fit, is_mask, value}
 use Rattle.model.specs.Tree.{Tree}
-use Rattle.model.specs.Watch.{BeginSays, begun, goes_on, IsMask, not_a_mask, not_an_image, stays, stepped, StepSays, stretch_too_long, text_too_long, watch, Watched}
+use Rattle.model.specs.Watch.{BeginSays, begun, goes_on, IsMask, not_a_mask, not_an_image, stays, stepped, StepSays, stretch_too_long, text_too_long, watch}
 use Rattle.model.proofs.Laws.Bool.{not-false, not-true}
 use Rattle.model.proofs.Laws.Stores.{sets_fit}
 use Rattle.model.proofs.Watch.Ends.{ends_zero}
@@ -30,13 +31,15 @@ use Rattle.image_sections.proofs.Laws.Within.{own_states, within}
 use Rattle.run.proofs.Image.Stretch.{states_mask}
 use Rattle.image_check.specs.Says.{CheckSays}
 use Rattle.image_check.specs.declared.Checked.{Checked}
-use Rattle.image_check.specs.declared.Verdict.TheVariants.{Image, Other}
 use Rattle.image_check.proofs.Laws.Found.{Found, found, not_found}
 use Rattle.run_word.proofs.Laws.Stretch.{noted_few}
 
-module _ (ws : List ℕ) {r : Checked} (C : CheckSays ws r) {p : Sections} (g : r.verdict ≡ Image p) where
-  abbrev F : Found ws p r.tape
-  F = found ws r C g
+module _ {ws : List ℕ} {r : Option Checked} {c : Checked} (C : CheckSays ws r) (g : r ≡ Some c) where
+  abbrev p : Sections
+  p = c.sections
+
+  abbrev F : Found ws p c.tape
+  F = found ws C g
 
   abbrev t : Tree
   t = F.tree
@@ -61,7 +64,7 @@ module _ (ws : List ℕ) {r : Checked} (C : CheckSays ws r) {p : Sections} (g : 
   narrow = (within placed).narrow
 
   -- ---- BEGIN
-  module _ (mask : List ℕ) (place : ℕ) (ends : List ℕ) where
+  module _ {mask : List ℕ} {place : ℕ} {ends : List ℕ} where
     pub begin_words : (length mask ≡ p.width → ⊥) → BeginSays ws mask place ends (stays 9 mask place ends)
     begin_words f = not_a_mask t I (λ e. f (e ∙ sym width_is)) refl
 
@@ -90,47 +93,40 @@ module _ (ws : List ℕ) {r : Checked} (C : CheckSays ws r) {p : Sections} (g : 
         total_is = omega (arith, counts, noted_few hit 0)
 
   -- ---- STEP
-  module _ (mask : List ℕ) (place : ℕ) (stretch ends : List ℕ) where
-    abbrev Says : Watched → Type 0
-    Says = StepSays ws mask place stretch ends
+  pub step_long : {mask : List ℕ} {place : ℕ} {stretch ends : List ℕ} → 65535 < length stretch → StepSays ws mask place stretch ends (stays 7 mask place ends)
+  step_long l = stretch_too_long t I l refl
 
-    pub step_long : 65535 < length stretch → Says (stays 7 mask place ends)
-    step_long l = stretch_too_long t I l refl
+  module _ {mask : List ℕ} (fits : Fit mask) {b : Bool} (test : b ≡ is_mask p.states mask) where
+    is : T b ↔ IsMask (states t) mask
+    is =
+        let k : b ≡ is_mask (states t) mask = test ∙ ap (λ (m : ℕ). is_mask m mask) states_are in
+        let h = mask_test (states t) (omega arith) mask fits in
+        (λ y. h.0 (subst T k y), λ M. subst T (sym k) (h.1 M))
 
-    module _ (small : length stretch ≤ 65535) (fits : Fit mask) {b : Bool} (test : b ≡ is_mask p.states mask) where
-      is : T b ↔ IsMask (states t) mask
-      is =
-          let k : b ≡ is_mask (states t) mask = test ∙ ap (λ (m : ℕ). is_mask m mask) states_are in
-          let h = mask_test (states t) (omega arith) mask fits in
-          (λ y. h.0 (subst T k y), λ M. subst T (sym k) (h.1 M))
+    pub step_mask : {place : ℕ} {stretch ends : List ℕ} → length stretch ≤ 65535 → not b ≡ true → StepSays ws mask place stretch ends (stays 9 mask place ends)
+    step_mask small n = not_a_mask t I small (λ M. subst T (not-true b n) (is.1 M)) refl
 
-      pub step_mask : not b ≡ true → Says (stays 9 mask place ends)
-      step_mask n = not_a_mask t I small (λ M. subst T (not-true b n) (is.1 M)) refl
+    module _ (passed : not b ≡ false) where
+      M : IsMask (states t) mask
+      M = is.0 (subst T (sym (not-false b passed)) tt)
 
-      module _ (passed : not b ≡ false) where
-        M : IsMask (states t) mask
-        M = is.0 (subst T (sym (not-false b passed)) tt)
+      pub step_past : {place : ℕ} {stretch ends : List ℕ} → length stretch ≤ 65535 → 4294967295 - length stretch < place → StepSays ws mask place stretch ends (stays 10 mask place ends)
+      step_past small l = text_too_long t I small M (omega arith) refl
 
-        pub its_words : length mask ≡ p.width
-        its_words = M.long ∙ sym width_is
+      module _ {place : ℕ} {stretch : List ℕ} (small : length stretch ≤ 65535) (near : place ≤ 4294967295 - length stretch) where
+        pub goes : Goes ws p mask place stretch
+        goes = record { placed = placed; long = M.long ∙ sym width_is; limits = record { small = small; near = omega arith; few = omega arith } }
 
-        pub step_past : 4294967295 - length stretch < place → Says (stays 10 mask place ends)
-        step_past l = text_too_long t I small M (omega arith) refl
+        pub step_done : {ends words : List ℕ} {total : ℕ} {after new : List ℕ} → run.GoOnSays ws mask place stretch ends words total after → new ≡ take p.width words
+            → StepSays ws mask place stretch ends (gives total (watch new (place + length stretch) after))
+        step_done {ends} {words} {total} {after} {new} G laid =
+            let R = G t I M in
+            stepped t (take (width (states t)) words) R.found I small M (omega arith) R.live R.ends
+            (ap₂ (λ (n : ℕ) (l : List ℕ). gives n (watch new (place + length stretch) l)) R.counted R.stored
+            ∙ ap (λ (m : List ℕ). goes_on m (place + length stretch) R.found ends) (laid ∙ ap (λ (n : ℕ). take n words) width_is))
 
-        module _ (near : place ≤ 4294967295 - length stretch) where
-          pub goes : Goes ws p mask place stretch
-          goes = record { placed = placed; long = its_words; limits = record { small = small; near = omega arith; few = omega arith } }
+pub begin_other : {ws mask : List ℕ} {place : ℕ} {ends : List ℕ} {r : Option Checked} → CheckSays ws r → r ≡ None → BeginSays ws mask place ends (stays 6 mask place ends)
+begin_other {ws} C g = not_an_image (not_found ws C g) refl
 
-          pub step_done : {words : List ℕ} {total : ℕ} {after new : List ℕ} → run.GoOnSays ws mask place stretch ends words total after → new ≡ take p.width words
-              → Says (gives total (watch new (place + length stretch) after))
-          step_done {words} {total} {after} {new} G laid =
-              let R = G t I M in
-              stepped t (take (width (states t)) words) R.found I small M (omega arith) R.live R.ends
-              (ap₂ (λ (n : ℕ) (l : List ℕ). gives n (watch new (place + length stretch) l)) R.counted R.stored
-              ∙ ap (λ (m : List ℕ). goes_on m (place + length stretch) R.found ends) (laid ∙ ap (λ (n : ℕ). take n words) width_is))
-
-pub begin_other : (ws mask : List ℕ) (place : ℕ) (ends : List ℕ) {r : Checked} → CheckSays ws r → r.verdict ≡ Other → BeginSays ws mask place ends (stays 6 mask place ends)
-begin_other ws mask place ends {r} C g = not_an_image (not_found ws r C g) refl
-
-pub step_other : (ws mask : List ℕ) (place : ℕ) (stretch ends : List ℕ) {r : Checked} → CheckSays ws r → r.verdict ≡ Other → StepSays ws mask place stretch ends (stays 6 mask place ends)
-step_other ws mask place stretch ends {r} C g = not_an_image (not_found ws r C g) refl
+pub step_other : {ws mask : List ℕ} {place : ℕ} {stretch ends : List ℕ} {r : Option Checked} → CheckSays ws r → r ≡ None → StepSays ws mask place stretch ends (stays 6 mask place ends)
+step_other {ws} C g = not_an_image (not_found ws C g) refl

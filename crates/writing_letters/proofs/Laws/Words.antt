@@ -11,21 +11,20 @@ use borrow.Author.Tests.{not-false, not-true}
 use lib.Count.{count_trailing_zeros}
 use lib.Dec.{eqb, eqb→eq}
 use lib.ListN.{get_or, length}
+use lib.Pointwise.{bytes_decides, pointwise}
 use lib.Pow.{shr_le}
 use Rattle.model.specs.Bits.{bit}
 use Rattle.model.specs.Grammar.{dot_class}
-use Rattle.model.specs.Models.Verdict.{same_words}
 use Rattle.model.specs.Models.Words.{Fit, not_words, value}
 use Rattle.model.proofs.Image.SameBits.{rows_ext}
 use Rattle.model.proofs.Laws.Bits.{bit_zero}
-use Rattle.model.proofs.Laws.Bool.{le_or_lt, same_truth}
+use Rattle.model.proofs.Laws.Bool.{is_true, le_or_lt, same_truth}
 use Rattle.model.proofs.Words.Bits.{bit_high}
 use Rattle.model.proofs.Words.Holds.{Near}
 use Rattle.model.proofs.Words.Lowest.{Lowest, lowest_bit}
 use Rattle.model.proofs.Words.Operations.{near_not}
 use Rattle.model.proofs.Words.Put.{fit_at}
 use Rattle.model.proofs.Words.RowBits.{row_bit, shifted}
-use Rattle.mask.proofs.Laws.Same.{same_exactly}
 use Rattle.writing_letters.specs.Runs.{FirstIn, FirstOut}
 use Rattle.writing_letters.proofs.Laws.Runs.{All, all_then}
 
@@ -89,10 +88,11 @@ first_not ws four f b r F = record {
 abbrev pub dot_words : List ℕ
 dot_words = 0xffff_ffff_ffff_fbff ∷ 0xffff_ffff_ffff_ffff ∷ 0xffff_ffff_ffff_ffff ∷ 0xffff_ffff_ffff_ffff ∷ []
 
-pub same_dot : (ws : List ℕ) → length ws ≡ 4 → Fit ws → same_words ws dot_words ≡ eqb (value ws) dot_class
+pub same_dot : (ws : List ℕ) → length ws ≡ 4 → Fit ws → pointwise eqb ws dot_words ≡ eqb (value ws) dot_class
 same_dot ws four f =
-    same_truth (same_words ws dot_words) (eqb (value ws) dot_class) (λ t. rw ((same_exactly ws dot_words).0 t) tt)
-    (λ t. (same_exactly ws dot_words).1 (rows_ext ws dot_words four f fits (λ i. ap (λ (n : ℕ). bit n i) (eqb→eq (value ws) dot_class t))))
+    let decides = bytes_decides ws dot_words in
+    same_truth (pointwise eqb ws dot_words) (eqb (value ws) dot_class) (λ t. rw (decides.0 (is_true (pointwise eqb ws dot_words) t)) tt)
+    (λ t. rw (decides.1 (rows_ext ws dot_words four f fits (λ i. ap (λ (n : ℕ). bit n i) (eqb→eq (value ws) dot_class t)))) tt)
   where
     fits : Fit dot_words
     fits = (omega arith, (omega arith, (omega arith, (omega arith, tt))))

@@ -7,6 +7,4 @@ pub returns : goal.returns
 returns c =
     let a = c.args in
     let g = c.well_formed in
-    let s = c.wrapping_sub_u64 in
-    propagate_one a.block a.below a.target a.live g.1.1.0.1
-    (or_lt 64 (bit_and a.live a.block) a.target (and_lt 64 a.live a.block g.0.1 g.1.0.1) g.1.1.1.0.1) s.type_inv s.ensures.value
+    propagate_one a.block a.below a.target a.live g.1.1.0.1 (or_lt 64 (bit_and a.live a.block) a.target (and_lt 64 a.live a.block g.0.1 g.1.0.1) g.1.1.1.0.1)

@@ -1,6 +1,5 @@
 -- `return_at`: where a test ends it nothing is added (`adds_none`, `adds_held`).
 use Rattle.std.proofs.Common.{ℕ, ◌+◌, ◌*◌, false, [], ◌∷◌, get_or, sym, ap}
-use lib.Bits.{bit_or}
 use Rattle.run_back.proofs.Laws.Adds.{adds_held, adds_none}
 use Rattle.run_word.proofs.rounds.return_at.Goals as goal
 
@@ -15,6 +14,3 @@ returns-then-live-target c =
     let a = c.args in
     let b = a.backs.now in
     ap (λ (w : ℕ). w ∷ []) (sym (adds_held false (get_or b (2 * a.k) 0) (get_or b (2 * a.k + 1) 0) a.first a.live c.ranges.live.fits c.if-live-target.true))
-
-pub returns : goal.returns
-returns c = ap (λ (w : ℕ). bit_or c.args.live w ∷ []) c.lead_back.ensures

@@ -6,23 +6,18 @@ use Rattle.run_word.proofs.Laws.Rounds.{returns_again}
 use Rattle.run_word.proofs.rounds.returns.Goals as goal
 
 pub loop-k-init : goal.loop-k-init
-loop-k-init c = (omega arith, λ ws any b s t table. refl)
-
-pub return_at-r-requires : goal.return_at-r-requires
-return_at-r-requires c = omega (arith, c.loop-k.invariant.0, c.loop-k-test.true, c.requires)
+loop-k-init c = λ ws any b s t table. refl
 
 pub loop-k-preserved : goal.loop-k-preserved
-loop-k-preserved c =
+loop-k-preserved c = λ ws any b s t table.
     let l = c.loop-k in
-    let a = c.args in (
-      omega (arith, l.invariant.0),
-      λ ws any b s t table. returns_again (table_masks ws any b s t table a.backs.now) a.backs.now a.depth l.k (a.first ∷ []) (l.r ∷ [])
-          (omega (arith, c.loop-k-test.true)) (λ i j. refl) (l.invariant.1 ws any b s t table) c.return_at-r.ensures,
-    )
+    let a = c.args in
+    returns_again (table_masks ws any b s t table a.backs.now) a.backs.now a.depth l.k (a.first ∷ []) (l.r ∷ [])
+    (omega (arith, c.loop-k-test.true)) (λ i j. refl) (l.invariant ws any b s t table) c.return_at-r.ensures
 
 pub returns : goal.returns
 returns c = λ ws any b s t table.
     let l = c.loop-k in
     let a = c.args in
     let e : 0 ≡ l.k = omega arith in
-    ap (λ (k : ℕ). returns_words (table_masks ws any b s t table a.backs.now) k (a.first ∷ []) (l.r ∷ [])) e ∙ l.invariant.1 ws any b s t table
+    ap (λ (k : ℕ). returns_words (table_masks ws any b s t table a.backs.now) k (a.first ∷ []) (l.r ∷ [])) e ∙ l.invariant ws any b s t table

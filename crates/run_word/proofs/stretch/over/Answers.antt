@@ -1,46 +1,19 @@
 -- `over`: at each turn what was noted and what is still to come is the whole list, and the word runs on to the last one (`Since`).
-use Rattle.std.proofs.Common.{[], ◌∷◌, ap, ◌∙◌, arith}
-use Rattle.model.specs.Models.Run.{close_words}
+use Rattle.std.proofs.Common.{[], ◌∷◌, get_or, arith}
 use Rattle.run_word.specs.One.{table_masks}
-use Rattle.run_word.proofs.Laws.Rounds.{no_edges}
-use Rattle.run_word.proofs.Laws.Stretch.{at_end, at_next, since_now}
+use Rattle.run_word.proofs.Laws.Stretch.{at_end, at_next, since_now, stepped}
 use Rattle.run_word.proofs.stretch.over.Goals as goal
 
 pub loop-p-init : goal.loop-p-init
-loop-p-init c = since_now _ _ _ _ _ _ _ _ 0 (omega arith) (omega (arith, c.requires.3.few))
-
-pub moved-on-requires : goal.moved-on-requires
-moved-on-requires c = c.requires.0
-
-pub pass-live-requires : goal.pass-live-requires
-pass-live-requires c = c.requires.2
-
-pub overflow_add-p : goal.overflow_add-p
-overflow_add-p c = omega (arith, c.loop-p-test.true, c.requires.3.small)
-
-pub overflow_add-place : goal.overflow_add-place
-overflow_add-place c = omega (arith, c.loop-p-test.true, c.requires.3.near)
-
-pub overflow_cast-place : goal.overflow_cast-place
-overflow_cast-place c = omega (arith, c.loop-p-test.true, c.requires.3.near)
-
-pub is_live-requires : goal.is_live-requires
-is_live-requires c = c.requires.1
-
-pub loop-p-smaller : goal.loop-p-smaller
-loop-p-smaller c = omega (arith, c.loop-p-test.true)
+loop-p-init g c = λ any block below target table backs d C. since_now _ _ _ _ _ _ _ _ 0 (omega arith) (omega (arith, c.requires.begins.limits.few))
 
 pub loop-p-preserved : goal.loop-p-preserved
-loop-p-preserved c =
-    let a = c.args in
-    let ws = a.image.now in
-    at_next _ _ _ _ _ c.requires.3.small (c.pass-live.result ∷ []) c.loop-p.invariant c.loop-p-test.true
-    (c.pass-live.ensures ws [] ∙ no_edges ws a.any a.block a.below a.target a.table.now a.depth c.moved-on.result
-    ∙ ap (close_words (table_masks ws a.any a.block a.below a.target a.table.now []) a.depth) c.moved-on.ensures) c.is_live.result c.is_live.ensures
-    c.note-total.ensures.counted c.note-total.ensures.written
-
-pub shape_of-ends : goal.shape_of-ends
-shape_of-ends c = c.loop-p.invariant.long
+loop-p-preserved g c = λ any block below target table backs d C.
+    let M = table_masks c.args.image.now any block below target table backs in
+    at_next _ _ _ _ _ c.requires.begins.limits.small (c.reach-live.result ∷ []) (c.loop-p.invariant any block below target table backs d C) (omega arith)
+    (stepped M d C (get_or c.args.stretch.now c.loop-p.p 0) (c.loop-p.live ∷ []) c.moved.type_inv c.reach-live.ensures c.moved.ensures)
+    c.is_live.result c.is_live.ensures c.note-total.ensures.counted c.note-total.ensures.written
 
 pub returns : goal.returns
-returns c = let l = c.loop-p in at_end _ _ _ _ _ 1 _ _ _ (l.live ∷ []) l.invariant c.loop-p-test.false
+returns g c = λ any block below target table backs d C.
+    let l = c.loop-p in at_end _ _ _ _ _ 1 _ _ _ (l.live ∷ []) (l.invariant any block below target table backs d C) (omega arith)

@@ -1,43 +1,9 @@
--- `over_back`: as in `over`, what was noted and what is still to come is the whole list (`Since`).
-use Rattle.std.proofs.Common.{[], ◌∷◌, ap, ◌∙◌, arith}
-use Rattle.model.specs.Models.Run.{close_words}
-use Rattle.run_word.specs.One.{work_masks}
-use Rattle.run_word.proofs.Laws.Stretch.{at_end, at_next, since_now}
+-- `over_back`: a step's part after the move is the two rounds.
+use Rattle.std.proofs.Common.{get_or}
 use Rattle.run_word.proofs.stretch.over_back.Goals as goal
 
-pub loop-p-init : goal.loop-p-init
-loop-p-init c = since_now _ _ _ _ _ _ _ _ 0 (omega arith) (omega (arith, c.requires.0.limits.few))
-
-pub moved-next-requires : goal.moved-next-requires
-moved-next-requires c = c.requires.0.long
-
-pub close-live-requires : goal.close-live-requires
-close-live-requires c = c.requires.1
-
-pub overflow_add-p : goal.overflow_add-p
-overflow_add-p c = omega (arith, c.loop-p-test.true, c.requires.0.limits.small)
-
-pub overflow_add-from : goal.overflow_add-from
-overflow_add-from c = omega (arith, c.loop-p-test.true, c.requires.0.limits.near)
-
-pub overflow_cast-from : goal.overflow_cast-from
-overflow_cast-from c = omega (arith, c.loop-p-test.true, c.requires.0.limits.near)
-
-pub is_live-requires : goal.is_live-requires
-is_live-requires c = c.requires.0.few
-
-pub loop-p-smaller : goal.loop-p-smaller
-loop-p-smaller c = omega (arith, c.loop-p-test.true)
-
-pub loop-p-preserved : goal.loop-p-preserved
-loop-p-preserved c =
-    let a = c.args in
-    at_next _ _ _ _ _ c.requires.0.limits.small (c.close-live.result ∷ []) c.loop-p.invariant c.loop-p-test.true
-    (c.close-live.ensures a.image.now ∙ ap (close_words (work_masks a.image.now a.any a.table.now a.backs.now) a.depth) c.moved-next.ensures) c.is_live.result c.is_live.ensures
-    c.note-total.ensures.counted c.note-total.ensures.written
-
-pub shape_of-ends : goal.shape_of-ends
-shape_of-ends c = c.loop-p.invariant.long
-
 pub returns : goal.returns
-returns c = let l = c.loop-p in at_end _ _ _ _ _ 1 _ _ _ (l.live ∷ []) l.invariant c.loop-p-test.false
+returns c =
+    let a = c.args in
+    let t = a.table.now in
+    c.over.ensures a.any (get_or t 6 0) (get_or t 7 0) (get_or t 8 0) t a.backs.now a.depth (λ x y h p. p a.image.now)

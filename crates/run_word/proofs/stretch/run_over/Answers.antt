@@ -1,11 +1,8 @@
 -- `run_over`: the loop with back edges runs as the image's masks do (`chosen`); where every word of theirs is 0, the masks are those without (`no_back`).
 use Rattle.std.proofs.Common.{refl, arith}
 use Rattle.run_word.proofs.Laws.Bytes.{all_bytes}
-use Rattle.run_word.proofs.Laws.One.{chosen, no_back}
+use Rattle.run_word.proofs.Laws.One.{chosen}
 use Rattle.run_word.proofs.stretch.run_over.Goals as goal
-
-pub over_back-requires : goal.over_back-requires
-over_back-requires c = (c.requires.overs, c.requires.shallow)
 
 pub returns-then-any_back : goal.returns-then-any_back
 returns-then-any_back c =
@@ -13,10 +10,3 @@ returns-then-any_back c =
     let a = c.args in
     chosen c.requires (λ i. (c.type_inv.image i).fits) (all_bytes a.stretch.now (λ i. omega (arith, c.type_inv.stretch i))) a.any c.requires.none a.backs.now
     c.requires.edges a.depth refl r.result r.ensures
-
-pub run_plain-requires : goal.run_plain-requires
-run_plain-requires c =
-    no_back c.requires (c.any_back.ensures c.if-any_back.false)
-
-pub returns : goal.returns
-returns c = c.run_plain.ensures

@@ -10,9 +10,6 @@ use Rattle.spelling_propose.proofs.origins.into.Goals as goal
 pub loop-i-init : goal.loop-i-init
 loop-i-init c = let a = c.args in gathered_none a.origins.now a.row
 
-pub into_word-more-requires : goal.into_word-more-requires
-into_word-more-requires c = omega (arith, c.loop-i-test.true)
-
 pub loop-i-preserved : goal.loop-i-preserved
 loop-i-preserved c =
     let a = c.args in

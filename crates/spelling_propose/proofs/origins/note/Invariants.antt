@@ -1,10 +1,6 @@
 -- `note`: each turn decides for one row more.
-use Prim.Native.Nat.{◌-◌}
 use Rattle.spelling_propose.proofs.Laws.Origins.{Noting}
 use Rattle.spelling_propose.proofs.origins.note.Given as goal
 
 abbrev pub invariant-loop-p : goal.invariant-loop-p
 invariant-loop-p l = Noting l.initial.origins l.q l.reached l.p l.origins
-
-abbrev pub decreases-loop-p : goal.decreases-loop-p
-decreases-loop-p l = l.count - l.p

@@ -1,61 +1,53 @@
 -- `find_start`: at each place the set is known, no later place is a start, and the sets of each 256th place from it on are kept.
-use mathlib.Core.Path.{subst, sym, ◌∙◌}
+use mathlib.Core.Path.{◌≡◌, subst, sym, ◌∙◌}
+use Prim.Native.Nat.{◌+◌, ◌-◌}
 use native.Mathlib.Omega.{arith}
 use lib.Dec.{T}
 use lib.ListN.{replicate}
-use Rattle.model.proofs.Image.Verdict.{same-words}
+use lib.Pointwise.{bytes_decides}
 use Rattle.spelling_propose.specs.Work.{Has}
 use Rattle.spelling_propose.proofs.Laws.Origins.{none_has}
 use Rattle.spelling_propose.proofs.Laws.Search.{backed_empty, backed_end, backed_here, backed_kept, backed_nowhere, backed_past}
 use Rattle.spelling_propose.proofs.search.find_start.Goals as goal
 
-pub ending-set-requires : goal.ending-set-requires
-ending-set-requires c = c.requires.1.state
-
-pub loop-sections-init : goal.loop-sections-init
-loop-sections-init c =
+pub loop-k-init : goal.loop-k-init
+loop-k-init c =
     let a = c.args in
     backed_end a.image.now a.origins.now a.last a.text.now a.end c.requires.1 c.ending-set.result a.kept.now c.requires.2 c.ending-set.ensures
 
 pub returns-then-row_has_bit : goal.returns-then-row_has_bit
 returns-then-row_has_bit c =
     let a = c.args in
-    backed_here a.image.now a.origins.now a.last a.text.now a.end c.requires.1 c.loop-sections.invariant (subst T (sym c.if-row_has_bit.true ∙ c.row_has_bit.ensures) tt)
+    let k = c.loop-k.k in
+    let e : k - 1 + 1 ≡ k = omega (arith, c.loop-k-test.true) in
+    rw e (backed_here a.image.now a.origins.now a.last a.text.now a.end c.requires.1 c.loop-k.invariant (subst T (sym c.if-row_has_bit.true ∙ c.row_has_bit.ensures) tt))
 
-pub returns-then-k-eq0 : goal.returns-then-k-eq0
-returns-then-k-eq0 c =
+pub returns-then-eq : goal.returns-then-eq
+returns-then-eq c =
     let a = c.args in
-    backed_nowhere a.image.now a.origins.now a.last a.text.now a.end c.requires.1 c.loop-sections.invariant (sym c.row_has_bit.ensures ∙ c.if-row_has_bit.false) c.if-k-eq0.true
+    let e = (bytes_decides c.loop-k.set (replicate 8 0)).0 (sym c.eq.ensures ∙ c.if-eq.true) in
+    backed_empty a.image.now a.origins.now a.last a.text.now a.end c.requires.1 c.loop-k.invariant (λ x h. none_has x (subst (λ w. Has w x) e h))
 
-pub returns-then-same_rows : goal.returns-then-same_rows
-returns-then-same_rows c =
+pub loop-k-preserved-then-k-eq0 : goal.loop-k-preserved-then-k-eq0
+loop-k-preserved-then-k-eq0 c =
     let a = c.args in
-    let e = same-words c.loop-sections.set (replicate 8 0) (subst T (sym c.if-same_rows.true ∙ c.same_rows.ensures) tt) in
-    backed_empty a.image.now a.origins.now a.last a.text.now a.end c.requires.1 c.loop-sections.invariant (λ x h. none_has x (subst (λ w. Has w x) e h))
+    backed_kept a.image.now a.origins.now a.last a.text.now a.end c.requires.1 c.loop-k.invariant c.loop-k-test.true (sym c.row_has_bit.ensures ∙ c.if-row_has_bit.false)
+    c.back-set.result c.back-set.ensures c.if-k-eq0.true
 
-pub bounds-text-k : goal.bounds-text-k
-bounds-text-k c =
-    omega (arith, c.requires.1.inside, c.loop-sections.invariant.within, c.if-k-eq0.false)
-
-pub back-before-requires : goal.back-before-requires
-back-before-requires c = c.requires.0
-
-pub offset_bounds-kept-k : goal.offset_bounds-kept-k
-offset_bounds-kept-k c =
-    omega (arith, c.requires.1.inside, c.requires.1.short, c.loop-sections.invariant.within)
-
-pub bounds-kept-k : goal.bounds-kept-k
-bounds-kept-k c =
-    omega (arith, c.requires.1.inside, c.requires.1.short, c.loop-sections.invariant.within)
-
-pub loop-sections-preserved-then-k-eq0-2 : goal.loop-sections-preserved-then-k-eq0-2
-loop-sections-preserved-then-k-eq0-2 c =
+pub loop-k-preserved : goal.loop-k-preserved
+loop-k-preserved c =
     let a = c.args in
-    backed_kept a.image.now a.origins.now a.last a.text.now a.end c.requires.1 c.loop-sections.invariant (omega (arith, c.if-k-eq0.false)) (sym c.row_has_bit.ensures ∙ c.if-row_has_bit.false)
-    c.back-before.result c.back-before.ensures c.if-k-eq0-2.true
+    backed_past a.image.now a.origins.now a.last a.text.now a.end c.requires.1 c.loop-k.invariant c.loop-k-test.true (sym c.row_has_bit.ensures ∙ c.if-row_has_bit.false)
+    c.back-set.result c.back-set.ensures c.if-k-eq0.false
 
-pub loop-sections-preserved : goal.loop-sections-preserved
-loop-sections-preserved c =
+pub returns-then-row_has_bit-2 : goal.returns-then-row_has_bit-2
+returns-then-row_has_bit-2 c =
     let a = c.args in
-    backed_past a.image.now a.origins.now a.last a.text.now a.end c.requires.1 c.loop-sections.invariant (omega (arith, c.if-k-eq0.false)) (sym c.row_has_bit.ensures ∙ c.if-row_has_bit.false)
-    c.back-before.result c.back-before.ensures c.if-k-eq0-2.false
+    let e : c.loop-k.k ≡ 0 = omega (arith, c.loop-k-test.false) in
+    rw e at (backed_here a.image.now a.origins.now a.last a.text.now a.end c.requires.1 c.loop-k.invariant (subst T (sym c.if-row_has_bit-2.true ∙ c.row_has_bit-2.ensures) tt))
+
+pub returns-else-row_has_bit-2 : goal.returns-else-row_has_bit-2
+returns-else-row_has_bit-2 c =
+    let a = c.args in
+    backed_nowhere a.image.now a.origins.now a.last a.text.now a.end c.requires.1 c.loop-k.invariant (sym c.row_has_bit-2.ensures ∙ c.if-row_has_bit-2.false)
+    (omega (arith, c.loop-k-test.false))

@@ -2,8 +2,5 @@
 use Rattle.spelling_propose.proofs.Laws.Search.{Backed}
 use Rattle.spelling_propose.proofs.search.find_start.Given as goal
 
-abbrev pub invariant-loop-sections : goal.invariant-loop-sections
-invariant-loop-sections l = Backed l.image l.origins l.last l.text l.end l.k l.set l.kept
-
-abbrev pub decreases-loop-sections : goal.decreases-loop-sections
-decreases-loop-sections l = l.k
+abbrev pub invariant-loop-k : goal.invariant-loop-k
+invariant-loop-k l = Backed l.image l.origins l.last l.text l.end l.k l.set l.kept

@@ -7,9 +7,6 @@ loop-k-init c =
     let a = c.args in
     filling_none a.image.now a.origins.now a.text.now a.lo a.hi a.set a.sets.now c.requires.2 c.requires.1.ordered
 
-pub back-before-requires : goal.back-before-requires
-back-before-requires c = c.requires.0
-
 pub loop-k-preserved : goal.loop-k-preserved
 loop-k-preserved c =
     let a = c.args in

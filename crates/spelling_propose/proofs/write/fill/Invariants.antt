@@ -4,6 +4,3 @@ use Rattle.spelling_propose.proofs.write.fill.Given as goal
 
 abbrev pub invariant-loop-k : goal.invariant-loop-k
 invariant-loop-k l = Filling l.image l.origins l.text l.lo l.hi l.initial.here l.k l.here l.sets
-
-abbrev pub decreases-loop-k : goal.decreases-loop-k
-decreases-loop-k l = l.k

@@ -2,14 +2,6 @@
 use Rattle.spelling_propose.proofs.Laws.Walk.{walking_all, walking_more, walking_none}
 use Rattle.spelling_propose.proofs.write.walk.Goals as goal
 
-pub loop-k-init : goal.loop-k-init
-loop-k-init c =
-    let a = c.args in
-    walking_none a.image.now a.text.now a.lo a.hi a.sets.now a.from a.start a.states.now c.requires.2
-
-pub choose-at-requires : goal.choose-at-requires
-choose-at-requires c = (c.requires.0, c.requires.1)
-
 pub loop-k-preserved : goal.loop-k-preserved
 loop-k-preserved c =
     let a = c.args in

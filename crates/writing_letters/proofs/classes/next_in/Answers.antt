@@ -4,12 +4,9 @@ use native.Mathlib.Omega.{arith}
 use borrow.Author.Rules.{rules}
 use Rattle.model.specs.Models.Words.{Fit, value}
 use Rattle.mask.proofs.Laws.Bits.{fit_row}
-use Rattle.writing_letters.proofs.Laws.Runs.{all_none, all_then}
+use Rattle.writing_letters.proofs.Laws.Runs.{all_then}
 use Rattle.writing_letters.proofs.Laws.Words.{rest_first, rest_none}
 use Rattle.writing_letters.proofs.classes.next_in.Goals as goal
-
-pub loop-i-init : goal.loop-i-init
-loop-i-init c = (omega arith, all_none (value c.args.class) c.args.b)
 
 pub returns-then-rest-ne0 : goal.returns-then-rest-ne0
 returns-then-rest-ne0 c =
@@ -24,8 +21,3 @@ loop-i-preserved c =
       omega arith,
       all_then (value c.args.class) c.args.b l.i (64 * (l.i / 64 + 1)) l.invariant.1 (rest_none c.args.class l.i fit c.if-rest-ne0.false),
     )
-
-pub returns : goal.returns
-returns c =
-    let l = c.loop-i in
-    record { from = c.requires; upto = omega arith; skipped = λ x h k. l.invariant.1 x h (omega arith); hit = λ h. absurd (omega arith) }

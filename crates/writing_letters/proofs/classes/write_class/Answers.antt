@@ -15,7 +15,7 @@ use Rattle.writing_letters.proofs.Laws.Bounds.{outside_short}
 use Rattle.writing_letters.proofs.Laws.Classes.{no_byte, NotOne, one_byte, one_written, other_written, two_bytes}
 use Rattle.writing_letters.proofs.Laws.Texts.{writes_as, writes_one, writes_then}
 use Rattle.writing_letters.proofs.classes.write_class.Goals as goal
-use Rattle.writing_letters.proofs.classes.write_class.Goals.{then-first-lt256+else-next_in-eq256, else-first-lt256}
+use Rattle.writing_letters.proofs.classes.write_class.Goals.{else-first-lt256-via-then-first-lt256+else-next_in-eq256, else-first-lt256-via-else-first-lt256}
 
 -- the place after the runs leaves room for one more
 room : (at n p : ℕ) → at < 2 ^ 30 → n ≤ 2304 → p ≡ at + 1 + n → p + 1 < 2 ^ 64
@@ -38,11 +38,11 @@ returns-then-is_dot c =
     let f = c.next_in-first in
     -- no byte was found, or two were
     let several : NotOne v =
-    elim c.if-first-lt256.branch [
-      | then-first-lt256+else-next_in-eq256 w ↦
+    elim c.else-first-lt256.branch [
+      | else-first-lt256-via-then-first-lt256+else-next_in-eq256 w ↦
           two_bytes v f.result w.next_in.result (omega (arith, w.next_in.ensures.from)) (f.ensures.hit w.if-first-lt256.true)
           (w.next_in.ensures.hit (omega (arith, w.next_in.ensures.upto, w.if-next_in-eq256.false)))
-      | else-first-lt256 w ↦ no_byte v (λ x h k. f.ensures.skipped x h (omega (arith, w.if-first-lt256.false)))
+      | else-first-lt256-via-else-first-lt256 w ↦ no_byte v (λ x h k. f.ensures.skipped x h (omega (arith, w.if-first-lt256.false)))
     ] in
     let e = sym c.is_dot.ensures ∙ c.if-is_dot.true in
     let l = c.args.out.now in
@@ -59,11 +59,11 @@ returns c =
     let v = value c.args.class in
     let f = c.next_in-first in
     let several : NotOne v =
-    elim c.if-first-lt256.branch [
-      | then-first-lt256+else-next_in-eq256 w ↦
+    elim c.else-first-lt256.branch [
+      | else-first-lt256-via-then-first-lt256+else-next_in-eq256 w ↦
           two_bytes v f.result w.next_in.result (omega (arith, w.next_in.ensures.from)) (f.ensures.hit w.if-first-lt256.true)
           (w.next_in.ensures.hit (omega (arith, w.next_in.ensures.upto, w.if-next_in-eq256.false)))
-      | else-first-lt256 w ↦ no_byte v (λ x h k. f.ensures.skipped x h (omega (arith, w.if-first-lt256.false)))
+      | else-first-lt256-via-else-first-lt256 w ↦ no_byte v (λ x h k. f.ensures.skipped x h (omega (arith, w.if-first-lt256.false)))
     ] in
     let w = c.write_runs-p in
     let m = c.set_byte-2 in

@@ -3,8 +3,8 @@ use mathlib.Core.Path.{sym, ap}
 use Prim.Native.Nat.{suc}
 use native.Mathlib.Omega.{arith}
 use Rattle.model.proofs.Laws.Bool.{le_false, le_true}
-use Rattle.rule.specs.Says.{outcome_of}
-use Rattle.rule.proofs.outcome_of.Goals as goal
+use Rattle.rule.specs.Says.{states_of}
+use Rattle.rule.proofs.count_states.Goals as goal
 
 pub returns-then-p-length : goal.returns-then-p-length
 returns-then-p-length c =
@@ -23,4 +23,4 @@ returns-else-next-gt511 c =
     )
 
 pub returns-in-Bad : goal.returns-in-Bad
-returns-in-Bad c = ap (λ w. outcome_of w c.args.length) (sym c.in-Bad.is)
+returns-in-Bad c = ap (λ w. states_of w c.args.length) (sym c.in-Bad.is)

@@ -8,52 +8,39 @@ ghost use Rattle.model.specs.Models.Words.{put_bit, value};
 use crate::Mask;
 
 // The row with bit i set.
-pub fn row_with_bit(row: [u64; 8], i: usize) -> [u64; 8]
+pub fn row_with_bit(mut row: [u64; 8], i: usize) -> [u64; 8]
     ensures { result ≡ put_bit row i }
 {
-    let mut r = row;
     if i < 512 {
-        r[i / 64] = r[i / 64] | (1 << (i % 64));
+        row[i / 64] |= 1 << (i % 64);
     }
-    r
+    row
 }
 
 // Whether bit i is set.
 pub fn row_has_bit(row: [u64; 8], i: usize) -> bool
     ensures { result ≡ bit (value row) i }
 {
-    if i < 512 {
-        (row[i / 64] >> (i % 64)) & 1 == 1
-    } else {
-        false
-    }
+    i < 512 && (row[i / 64] >> (i % 64)) & 1 == 1
 }
 
-// Whether all words are the same; the first that differs ends it.
+// Whether all words are the same.
 pub fn same_rows(a: [u64; 8], b: [u64; 8]) -> bool
     ensures { result ≡ same_words a b }
 {
-    let mut i = 0;
-    while i < 8 {
-        if a[i] != b[i] {
-            return false;
-        }
-        i += 1;
-    }
-    true
+    a == b
 }
 
 pub fn with_bit(a: Mask, i: usize) -> Mask
     ensures { result.words ≡ put_bit a.words i }
 {
-    let row = a.words;
-    let words = row_with_bit(row, i);
-    Mask { words }
+    Mask {
+        words: row_with_bit(a.words, i),
+    }
 }
 
 pub fn has_bit(a: Mask, i: usize) -> bool
     ensures { result ≡ bit (value a.words) i }
 {
-    let row = a.words;
-    row_has_bit(row, i)
+    row_has_bit(a.words, i)
 }

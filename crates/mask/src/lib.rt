@@ -25,5 +25,5 @@ pub fn none() -> Mask
 pub fn upto(n: usize) -> usize
     ensures { Upto n result }
 {
-    if n < 8 { n } else { 8 }
+    n.min(8)
 }

@@ -9,7 +9,6 @@ use Rattle.answers.specs.declared.Refusal.{Refusal}
 use Rattle.answers.specs.declared.Refusal.TheVariants.{NotARule, RuleTooLong, TooManyStates}
 use Rattle.rule.specs.Tokens.{room_with}
 use Rattle.rule.specs.declared.parts.Part.{Part}
-use Rattle.rule.specs.declared.parts.Part.TheVariants.{Bad as no_part, Got as aPart}
 use Rattle.rule.specs.declared.Tree.{Tree}
 
 -- a tree by its states and its tokens' words
@@ -24,5 +23,4 @@ pub data ReadSays (rule : List ℕ) (r : Result Tree Refusal) : Type 0 where
 
 -- how many states, by the whole rule read as one item, and the rule's length
 abbrev pub states_of : Part → ℕ → Result ℕ Refusal
-states_of (aPart p next e) n = cond (ltb p n) (Err (NotARule p)) (cond (ltb 511 next) (Err TooManyStates) (Ok (next + 1)))
-states_of (no_part p) n = Err (NotARule p)
+states_of whole n = cond (ltb whole.place n) (Err (NotARule whole.place)) (cond (ltb 511 whole.next) (Err TooManyStates) (Ok (whole.next + 1)))

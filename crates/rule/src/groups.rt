@@ -6,12 +6,12 @@ ghost use Rattle.model.specs.Models.Reader.{read_mark};
 ghost use Rattle.model.specs.Models.Tokens.{shown as shownOf};
 ghost use Rattle.model.specs.Tree.{once, unmarked};
 ghost use Rattle.tokens.specs.Tokens.{mark_of, repeat_of};
-ghost use Rattle.rule.specs.Groups.{Closes, Counted, Groups, Wholes};
+ghost use Rattle.rule.specs.Groups.{Closes, Groups, Wholes};
 ghost use Rattle.rule.specs.Tokens.{Numbered};
 
 use crate::parts::{Alternatives, Part};
 use crate::rows::{double, enclose};
-use rule_bytes::byte_at;
+use rule_bytes::{Unreadable, byte_at};
 use tokens::token::{Mark, Repeat, can_skip};
 
 // The sign of a group, and the place after it.
@@ -26,29 +26,13 @@ fn read_mark(rule: &[u8], at: usize) -> GroupSign
     requires { (at ≤ length rule.now) × (length rule.now ≤ 1024) }
     ensures { Took rule.now (read_mark (drop at rule.now)) (repeat_of result.repeat) result.place }
 {
-    let x = byte_at(rule, at);
-    if x == b'?' {
-        return GroupSign {
-            repeat: Repeat::Option,
-            place: at + 1,
-        };
-    }
-    if x == b'*' {
-        return GroupSign {
-            repeat: Repeat::Star,
-            place: at + 1,
-        };
-    }
-    if x == b'+' {
-        return GroupSign {
-            repeat: Repeat::Plus,
-            place: at + 1,
-        };
-    }
-    GroupSign {
-        repeat: Repeat::Once,
-        place: at,
-    }
+    let (repeat, place) = match byte_at(rule, at) {
+        b'?' => (Repeat::Option, at + 1),
+        b'*' => (Repeat::Star, at + 1),
+        b'+' => (Repeat::Plus, at + 1),
+        _ => (Repeat::Once, at),
+    };
+    GroupSign { repeat, place }
 }
 
 // What the close of a union without a mark of its own shows: whether an alternative can be empty.
@@ -109,14 +93,19 @@ fn group(
 
 // The alternatives of a whole rule as one item.
 pub fn bracket(tokens: &mut [u64; 2555], alternatives: Alternatives) -> Part
-    requires { Counted 0 alternatives }
+    requires { Numbered 0 alternatives.next }
     ensures { Wholes alternatives tokens.old tokens.new result }
 {
-    match alternatives {
-        Alternatives::Got(p, next, several, empty) => {
-            Part::Got(p, unite(tokens, 0, next, several, empty), empty)
-        }
-        Alternatives::Bad(p) => Part::Bad(p),
+    let Alternatives {
+        place,
+        next,
+        several,
+        empty,
+    } = alternatives;
+    Part {
+        place,
+        next: unite(tokens, 0, next, several, empty),
+        empty,
     }
 }
 
@@ -126,20 +115,23 @@ pub fn close_item(
     tokens: &mut [u64; 2555],
     n: usize,
     alternatives: Alternatives,
-) -> Part
-    requires { (length rule.now ≤ 1024) × Counted n alternatives }
+) -> Result<Part, Unreadable>
+    requires { (length rule.now ≤ 1024) × Numbered n alternatives.next }
     ensures { Closes rule.now n alternatives tokens.old tokens.new result }
 {
-    match alternatives {
-        Alternatives::Got(p, next, several, empty) => {
-            if byte_at(rule, p) != b')' {
-                return Part::Bad(p);
-            }
-            let sign = read_mark(rule, p + 1);
-            let repeat = sign.repeat;
-            let end = group(tokens, n, next, several, empty, repeat);
-            Part::Got(sign.place, end, can_skip(repeat) | empty)
-        }
-        Alternatives::Bad(p) => Part::Bad(p),
+    let Alternatives {
+        place,
+        next,
+        several,
+        empty,
+    } = alternatives;
+    if byte_at(rule, place) != b')' {
+        return Err(Unreadable(place));
     }
+    let sign = read_mark(rule, place + 1);
+    Ok(Part {
+        place: sign.place,
+        next: group(tokens, n, next, several, empty, sign.repeat),
+        empty: can_skip(sign.repeat) | empty,
+    })
 }

@@ -15,6 +15,7 @@ use crate::groups::bracket;
 use crate::parts::Part;
 use crate::readers::read_alternatives;
 use answers::Refusal;
+use rule_bytes::Unreadable;
 
 // The tree of a rule: how many states it has, and its tokens, five words for each, with 0 after them.
 #[derive(Clone, Copy)]
@@ -28,18 +29,13 @@ pub struct Tree {
 fn count_states(whole: Part, length: usize) -> Result<usize, Refusal>
     ensures { result ≡ states_of whole length }
 {
-    match whole {
-        Part::Got(p, next, _) => {
-            if p < length {
-                return Err(Refusal::NotARule(p));
-            }
-            if next > 511 {
-                return Err(Refusal::TooManyStates);
-            }
-            Ok(next + 1)
-        }
-        Part::Bad(p) => Err(Refusal::NotARule(p)),
+    if whole.place < length {
+        return Err(Refusal::NotARule(whole.place));
     }
+    if whole.next > 511 {
+        return Err(Refusal::TooManyStates);
+    }
+    Ok(whole.next + 1)
 }
 
 // A rule, from its first byte to its last.
@@ -50,7 +46,10 @@ pub fn read_rule(rule: &[u8]) -> Result<Tree, Refusal>
         return Err(Refusal::RuleTooLong);
     }
     let mut tokens = [0; 2555];
-    let alternatives = read_alternatives(rule, 0, &mut tokens, 0);
+    let alternatives = match read_alternatives(rule, 0, &mut tokens, 0) {
+        Ok(alternatives) => alternatives,
+        Err(Unreadable(place)) => return Err(Refusal::NotARule(place)),
+    };
     let whole = bracket(&mut tokens, alternatives);
     let states = count_states(whole, rule.len())?;
     Ok(Tree { states, tokens })

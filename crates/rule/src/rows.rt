@@ -12,7 +12,7 @@ ghost use Rattle.rule_signs.specs.Repeats.{Bounded};
 ghost use Rattle.tokens.specs.Rows.{token_words};
 ghost use Rattle.rule.specs.Tokens.{copied, cut, enclosed, Numbered, opened, Stands, times_words};
 
-use rule_letters::{Class, none};
+use rule_letters::Class;
 use rule_signs::HowOften;
 use tokens::kind::{ONCE, OPEN, OPTION, mark_kind, repeat_kind};
 use tokens::token::Mark;
@@ -46,7 +46,7 @@ pub fn put_union(tokens: &mut [u64; 2555], n: usize, kind: u8) -> usize
     ensures count { result ≡ cut (n + 1) }
     ensures written { tokens.new ≡ sets tokens.old (5 * n) (kind ∷ words 4 0) }
 {
-    put_token(tokens, n, kind, none())
+    put_token(tokens, n, kind, Class::none())
 }
 
 // The token n and those after it up to n + count - 1, all alike, and the number of the token after them.
@@ -56,10 +56,8 @@ fn put_many(tokens: &mut [u64; 2555], n: usize, count: usize, kind: u8, class: C
     ensures written { tokens.new ≡ sets tokens.old (5 * n) (times_words count (kind ∷ words_of class)) }
 {
     let mut next = n;
-    let mut i: usize = 0;
-    while i < count {
+    for _ in 0..count {
         next = put_token(tokens, next, kind, class);
-        i += 1;
     }
     next
 }

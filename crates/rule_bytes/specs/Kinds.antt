@@ -1,11 +1,11 @@
--- THE KINDS' NUMBERS, as the table of bytes has them. They rise so that each test of the readers is one comparison: a digit is a hex digit too,
--- and both are plain bytes.
-use Rattle.std.specs.Prelude.{ℕ}
-use Rattle.model.specs.Bytes.{digit_byte, hex_byte, Kind, other_byte, plain_byte, sign_byte}
+-- THE KINDS OF BYTES, as the table has them.
+use Rattle.model.specs.Bytes.{digit_byte, hex_byte, Kind as KindOfByte, other_byte, plain_byte, sign_byte}
+use Rattle.rule_bytes.specs.declared.Kind.{Kind}
+use Rattle.rule_bytes.specs.declared.Kind.TheVariants.{Digit, Hex, Other, Plain, Sign}
 
-abbrev pub number : Kind → ℕ
-number digit_byte = 0
-number hex_byte = 1
-number plain_byte = 2
-number sign_byte = 3
-number other_byte = 4
+abbrev pub in_table : KindOfByte → Kind
+in_table digit_byte = Digit
+in_table hex_byte = Hex
+in_table plain_byte = Plain
+in_table sign_byte = Sign
+in_table other_byte = Other

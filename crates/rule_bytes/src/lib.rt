@@ -4,111 +4,111 @@
 #![tactic(auto)]
 
 ghost use Rattle.std.specs.Prelude.{◌≡◌, ◌∷◌, get_or};
-ghost use Rattle.model.specs.Bytes.{byte, digital, hexadecimal, kind as kind_of, plain, signs};
+ghost use Rattle.model.specs.Bytes.{byte, digital, hexadecimal, kind, plain, signs};
 ghost use Rattle.model.specs.Grammar.{bare};
 ghost use Rattle.model.specs.Lists.{within};
-ghost use Rattle.rule_bytes.specs.Kinds.{number};
+ghost use Rattle.rule_bytes.specs.Kinds.{in_table};
 
-// The kinds' numbers rise so that each test is one comparison: digits are hex digits too, and both are plain bytes.
-const DIGIT: u8 = 0;
+use crate::Kind::{Digit, Hex, Other, Plain, Sign};
 
-const HEX: u8 = 1;
-
-const PLAIN: u8 = 2;
-
-const SIGN: u8 = 3;
-
-const OTHER: u8 = 4;
+// What a byte can be in a rule. Digits are hex digits too, and both are plain bytes.
+#[derive(Clone, Copy, PartialEq, Eq)]
+enum Kind {
+    Digit,
+    Hex,
+    Plain,
+    Sign,
+    Other,
+}
 
 // The kinds of the bytes 0 to 255.
-const KINDS: [u8; 256] = [
+const KINDS: [Kind; 256] = [
     // 0 to 15
-    OTHER, OTHER, OTHER, OTHER, OTHER, OTHER, OTHER, OTHER, OTHER, OTHER, OTHER, OTHER, OTHER,
-    OTHER, OTHER, OTHER,
+    Other, Other, Other, Other, Other, Other, Other, Other, Other, Other, Other, Other, Other,
+    Other, Other, Other,
     // 16 to 31
-    OTHER, OTHER, OTHER, OTHER, OTHER, OTHER, OTHER, OTHER, OTHER, OTHER, OTHER, OTHER, OTHER,
-    OTHER, OTHER, OTHER,
+    Other, Other, Other, Other, Other, Other, Other, Other, Other, Other, Other, Other, Other,
+    Other, Other, Other,
     // 32 to 47: space ! " # $ % & ' ( ) * + , - . /
-    OTHER, PLAIN, PLAIN, PLAIN, PLAIN, PLAIN, PLAIN, PLAIN, SIGN, // (
-    SIGN, // )
-    SIGN, // *
-    SIGN, // +
-    PLAIN, PLAIN, SIGN, // .
-    PLAIN,
+    Other, Plain, Plain, Plain, Plain, Plain, Plain, Plain, Sign, // (
+    Sign, // )
+    Sign, // *
+    Sign, // +
+    Plain, Plain, Sign, // .
+    Plain,
     // 48 to 63: 0 1 2 3 4 5 6 7 8 9 : ; < = > ?
-    DIGIT, DIGIT, DIGIT, DIGIT, DIGIT, DIGIT, DIGIT, DIGIT, DIGIT, DIGIT, PLAIN, PLAIN, PLAIN,
-    PLAIN, PLAIN, SIGN, // ?
+    Digit, Digit, Digit, Digit, Digit, Digit, Digit, Digit, Digit, Digit, Plain, Plain, Plain,
+    Plain, Plain, Sign, // ?
     // 64 to 79: @ A B C D E F G H I J K L M N O
-    PLAIN, HEX, HEX, HEX, HEX, HEX, HEX, PLAIN, PLAIN, PLAIN, PLAIN, PLAIN, PLAIN, PLAIN, PLAIN,
-    PLAIN,
+    Plain, Hex, Hex, Hex, Hex, Hex, Hex, Plain, Plain, Plain, Plain, Plain, Plain, Plain, Plain,
+    Plain,
     // 80 to 95: P Q R S T U V W X Y Z [ \ ] ^ _
-    PLAIN, PLAIN, PLAIN, PLAIN, PLAIN, PLAIN, PLAIN, PLAIN, PLAIN, PLAIN, PLAIN, SIGN, // [
-    SIGN, // \
-    SIGN, // ]
-    PLAIN, PLAIN,
+    Plain, Plain, Plain, Plain, Plain, Plain, Plain, Plain, Plain, Plain, Plain, Sign, // [
+    Sign, // \
+    Sign, // ]
+    Plain, Plain,
     // 96 to 111: ` a b c d e f g h i j k l m n o
-    PLAIN, HEX, HEX, HEX, HEX, HEX, HEX, PLAIN, PLAIN, PLAIN, PLAIN, PLAIN, PLAIN, PLAIN, PLAIN,
-    PLAIN,
+    Plain, Hex, Hex, Hex, Hex, Hex, Hex, Plain, Plain, Plain, Plain, Plain, Plain, Plain, Plain,
+    Plain,
     // 112 to 127: p q r s t u v w x y z { | } ~
-    PLAIN, PLAIN, PLAIN, PLAIN, PLAIN, PLAIN, PLAIN, PLAIN, PLAIN, PLAIN, PLAIN, SIGN, // {
-    SIGN, // |
-    SIGN, // }
-    PLAIN, OTHER,
+    Plain, Plain, Plain, Plain, Plain, Plain, Plain, Plain, Plain, Plain, Plain, Sign, // {
+    Sign, // |
+    Sign, // }
+    Plain, Other,
     // 128 to 143
-    OTHER, OTHER, OTHER, OTHER, OTHER, OTHER, OTHER, OTHER, OTHER, OTHER, OTHER, OTHER, OTHER,
-    OTHER, OTHER, OTHER,
+    Other, Other, Other, Other, Other, Other, Other, Other, Other, Other, Other, Other, Other,
+    Other, Other, Other,
     // 144 to 159
-    OTHER, OTHER, OTHER, OTHER, OTHER, OTHER, OTHER, OTHER, OTHER, OTHER, OTHER, OTHER, OTHER,
-    OTHER, OTHER, OTHER,
+    Other, Other, Other, Other, Other, Other, Other, Other, Other, Other, Other, Other, Other,
+    Other, Other, Other,
     // 160 to 175
-    OTHER, OTHER, OTHER, OTHER, OTHER, OTHER, OTHER, OTHER, OTHER, OTHER, OTHER, OTHER, OTHER,
-    OTHER, OTHER, OTHER,
+    Other, Other, Other, Other, Other, Other, Other, Other, Other, Other, Other, Other, Other,
+    Other, Other, Other,
     // 176 to 191
-    OTHER, OTHER, OTHER, OTHER, OTHER, OTHER, OTHER, OTHER, OTHER, OTHER, OTHER, OTHER, OTHER,
-    OTHER, OTHER, OTHER,
+    Other, Other, Other, Other, Other, Other, Other, Other, Other, Other, Other, Other, Other,
+    Other, Other, Other,
     // 192 to 207
-    OTHER, OTHER, OTHER, OTHER, OTHER, OTHER, OTHER, OTHER, OTHER, OTHER, OTHER, OTHER, OTHER,
-    OTHER, OTHER, OTHER,
+    Other, Other, Other, Other, Other, Other, Other, Other, Other, Other, Other, Other, Other,
+    Other, Other, Other,
     // 208 to 223
-    OTHER, OTHER, OTHER, OTHER, OTHER, OTHER, OTHER, OTHER, OTHER, OTHER, OTHER, OTHER, OTHER,
-    OTHER, OTHER, OTHER,
+    Other, Other, Other, Other, Other, Other, Other, Other, Other, Other, Other, Other, Other,
+    Other, Other, Other,
     // 224 to 239
-    OTHER, OTHER, OTHER, OTHER, OTHER, OTHER, OTHER, OTHER, OTHER, OTHER, OTHER, OTHER, OTHER,
-    OTHER, OTHER, OTHER,
+    Other, Other, Other, Other, Other, Other, Other, Other, Other, Other, Other, Other, Other,
+    Other, Other, Other,
     // 240 to 255
-    OTHER, OTHER, OTHER, OTHER, OTHER, OTHER, OTHER, OTHER, OTHER, OTHER, OTHER, OTHER, OTHER,
-    OTHER, OTHER, OTHER,
+    Other, Other, Other, Other, Other, Other, Other, Other, Other, Other, Other, Other, Other,
+    Other, Other, Other,
 ];
 
-fn kind(b: u8) -> u8
-    ensures { result ≡ number (kind_of b) }
+fn kind_of(b: u8) -> Kind
+    ensures { result ≡ in_table (kind b) }
 {
-    let i = b as usize;
-    KINDS[i]
+    KINDS[b as usize]
 }
 
 pub fn is_digit(b: u8) -> bool
     ensures { result ≡ digital b }
 {
-    kind(b) == DIGIT
+    kind_of(b) == Kind::Digit
 }
 
 pub fn is_hex(b: u8) -> bool
     ensures { result ≡ hexadecimal b }
 {
-    kind(b) <= HEX
+    matches!(kind_of(b), Kind::Digit | Kind::Hex)
 }
 
 pub fn is_plain(b: u8) -> bool
     ensures { result ≡ plain b }
 {
-    kind(b) <= PLAIN
+    matches!(kind_of(b), Kind::Digit | Kind::Hex | Kind::Plain)
 }
 
 fn is_sign(b: u8) -> bool
     ensures { result ≡ within b signs }
 {
-    kind(b) == SIGN
+    kind_of(b) == Kind::Sign
 }
 
 // A plain byte other than `-`: the bytes that stand for themselves in a class.
@@ -129,5 +129,9 @@ pub fn is_escaped(b: u8) -> bool
 pub fn byte_at(rule: &[u8], at: usize) -> u8
     ensures { result ≡ get_or rule.now at 0 }
 {
-    if at < rule.len() { rule[at] } else { 0 }
+    rule.get(at).copied().unwrap_or(0)
 }
+
+// The place of the first byte of a rule that cannot be read.
+#[derive(Clone, Copy)]
+pub struct Unreadable(pub usize);

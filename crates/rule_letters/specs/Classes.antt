@@ -5,7 +5,7 @@ use Rattle.model.specs.Bytes.{byte}
 use Rattle.model.specs.Grammar.{span}
 use Rattle.model.specs.Models.Reader.{bind, case, got, past, Read, read_escape, read_members, read_single}
 use Rattle.model.specs.Models.Words.{value}
-use Rattle.rule_letters.specs.declared.Class.{Class}
+use Rattle.rule_letters.specs.declared.classes.Class.{Class}
 
 -- the words, low word first, and the number whose bit b says that byte b is in the class
 abbrev pub words_of : Class → List ℕ

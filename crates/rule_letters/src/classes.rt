@@ -4,7 +4,14 @@ ghost use Rattle.std.specs.Int.Bits.{bit_or};
 ghost use Rattle.model.specs.Grammar.{dot_class, span as span_of};
 ghost use Rattle.rule_letters.specs.Classes.{bytes_of, below_word, span_word};
 
-use crate::Class;
+// A set of bytes: byte b is bit b mod 64 of word b / 64.
+#[derive(Clone, Copy)]
+pub struct Class {
+    pub word0: u64,
+    pub word1: u64,
+    pub word2: u64,
+    pub word3: u64,
+}
 
 // Of the 64 bytes from base on those below n.
 fn below(n: usize, base: usize) -> u64
@@ -28,62 +35,64 @@ fn span_word(lo: usize, hi: usize, base: usize) -> u64
     below(hi + 1, base) - below(lo, base)
 }
 
-// The bytes from lo to hi.
-pub fn span(lo: u8, hi: u8) -> Class
-    ensures { bytes_of result ≡ span_of lo hi }
-{
-    let first = lo as usize;
-    let last = hi as usize;
-    if last < first {
-        return none();
+impl Class {
+    // The bytes from lo to hi.
+    pub fn span(lo: u8, hi: u8) -> Class
+        ensures { bytes_of result ≡ span_of lo hi }
+    {
+        let first = lo as usize;
+        let last = hi as usize;
+        if last < first {
+            return Class::none();
+        }
+        Class {
+            word0: span_word(first, last, 0),
+            word1: span_word(first, last, 64),
+            word2: span_word(first, last, 128),
+            word3: span_word(first, last, 192),
+        }
     }
-    Class {
-        word0: span_word(first, last, 0),
-        word1: span_word(first, last, 64),
-        word2: span_word(first, last, 128),
-        word3: span_word(first, last, 192),
+
+    // The byte b alone.
+    pub fn one(b: u8) -> Class
+        ensures { bytes_of result ≡ 2 ^ b }
+    {
+        Class::span(b, b)
     }
-}
 
-// The byte b alone.
-pub fn one(b: u8) -> Class
-    ensures { bytes_of result ≡ 2 ^ b }
-{
-    span(b, b)
-}
-
-// No byte.
-pub fn none() -> Class
-    ensures { bytes_of result ≡ 0 }
-{
-    Class {
-        word0: 0,
-        word1: 0,
-        word2: 0,
-        word3: 0,
+    // No byte.
+    pub fn none() -> Class
+        ensures { bytes_of result ≡ 0 }
+    {
+        Class {
+            word0: 0,
+            word1: 0,
+            word2: 0,
+            word3: 0,
+        }
     }
-}
 
-// "every byte but 10"
-pub fn dot() -> Class
-    ensures { bytes_of result ≡ dot_class }
-{
-    Class {
-        word0: 0xffff_ffff_ffff_fbff,
-        word1: 0xffff_ffff_ffff_ffff,
-        word2: 0xffff_ffff_ffff_ffff,
-        word3: 0xffff_ffff_ffff_ffff,
+    // "every byte but 10"
+    pub fn dot() -> Class
+        ensures { bytes_of result ≡ dot_class }
+    {
+        Class {
+            word0: 0xffff_ffff_ffff_fbff,
+            word1: 0xffff_ffff_ffff_ffff,
+            word2: 0xffff_ffff_ffff_ffff,
+            word3: 0xffff_ffff_ffff_ffff,
+        }
     }
-}
 
-// The bytes of either.
-pub fn or(a: Class, b: Class) -> Class
-    ensures { bytes_of result ≡ bit_or (bytes_of a) (bytes_of b) }
-{
-    Class {
-        word0: a.word0 | b.word0,
-        word1: a.word1 | b.word1,
-        word2: a.word2 | b.word2,
-        word3: a.word3 | b.word3,
+    // The bytes of either.
+    pub fn or(self, other: Class) -> Class
+        ensures { bytes_of result ≡ bit_or (bytes_of self) (bytes_of other) }
+    {
+        Class {
+            word0: self.word0 | other.word0,
+            word1: self.word1 | other.word1,
+            word2: self.word2 | other.word2,
+            word3: self.word3 | other.word3,
+        }
     }
 }

@@ -4,108 +4,88 @@ ghost use Rattle.model.specs.Models.Reader.{read_member};
 ghost use Rattle.rule_letters.specs.Answers.{ClassTells, LetterSays, LetterTells, SingleTells};
 ghost use Rattle.rule_letters.specs.Classes.{after_escape, after_lower};
 
-use crate::classes::{dot, none, one, or, span};
+use crate::Class;
 use crate::escapes::read_escape;
-use crate::{Byte, Letter};
-use rule_bytes::{byte_at, is_bare, is_plain};
+use rule_bytes::{Unreadable, byte_at, is_bare, is_plain};
 
 // A single of a class, at least lo: an escape, or a plain byte other than `-`.
-fn read_single(rule: &[u8], at: usize, lo: u8) -> Byte
+fn read_single(rule: &[u8], at: usize, lo: u8) -> Result<(u8, usize), Unreadable>
     requires { at ≤ length rule.now }
     ensures { SingleTells lo rule.now at result }
 {
     let x = byte_at(rule, at);
     if is_bare(x) {
         if x < lo {
-            return Byte::Bad(at);
+            return Err(Unreadable(at));
         }
-        return Byte::Got(x, at + 1);
+        return Ok((x, at + 1));
     }
     if x != b'\\' {
-        return Byte::Bad(at);
+        return Err(Unreadable(at));
     }
     read_escape(rule, at + 1, lo)
 }
 
 // After the single lo: nothing more, or `-` and the upper end of a range.
-fn read_upper(rule: &[u8], at: usize, lo: u8) -> Letter
+fn read_upper(rule: &[u8], at: usize, lo: u8) -> Result<(Class, usize), Unreadable>
     requires { at ≤ length rule.now }
     ensures { LetterSays rule.now (after_lower lo (drop at rule.now)) result }
 {
     if byte_at(rule, at) != b'-' {
-        return Letter::Got(span(lo, lo), at);
+        return Ok((Class::span(lo, lo), at));
     }
-    let upper = read_single(rule, at + 1, lo);
-    match upper {
-        Byte::Got(hi, p) => Letter::Got(span(lo, hi), p),
-        Byte::Bad(p) => Letter::Bad(p),
-    }
+    let (hi, p) = read_single(rule, at + 1, lo)?;
+    Ok((Class::span(lo, hi), p))
 }
 
 // A single or a range.
-fn read_member(rule: &[u8], at: usize) -> Letter
+fn read_member(rule: &[u8], at: usize) -> Result<(Class, usize), Unreadable>
     requires { at ≤ length rule.now }
     ensures { LetterSays rule.now (read_member (drop at rule.now)) result }
 {
-    let lower = read_single(rule, at, 0);
-    match lower {
-        Byte::Got(lo, p) => read_upper(rule, p, lo),
-        Byte::Bad(p) => Letter::Bad(p),
-    }
+    let (lo, p) = read_single(rule, at, 0)?;
+    read_upper(rule, p, lo)
 }
 
 // A class, after its `[`: one or more members and `]`.
-fn read_members(rule: &[u8], at: usize) -> Letter
+fn read_members(rule: &[u8], at: usize) -> Result<(Class, usize), Unreadable>
     requires { at ≤ length rule.now }
     ensures { ClassTells rule.now at result }
 {
-    let mut class = none();
+    let mut class = Class::none();
     let mut p = at;
+    // No for: the place moves on by what was read.
     loop {
-        let member = read_member(rule, p);
-        let Letter::Got(more, q) = member else {
-            return member;
-        };
-        let all = or(class, more);
-        if byte_at(rule, q) == b']' {
-            return Letter::Got(all, q + 1);
-        }
-        class = all;
+        let (member, q) = read_member(rule, p)?;
+        class = class.or(member);
         p = q;
+        if byte_at(rule, p) == b']' {
+            return Ok((class, p + 1));
+        }
     }
 }
 
 // An escape as a letter, after its `\`.
-fn read_escaped(rule: &[u8], at: usize) -> Letter
+fn read_escaped(rule: &[u8], at: usize) -> Result<(Class, usize), Unreadable>
     requires { at ≤ length rule.now }
     ensures { LetterSays rule.now (after_escape (drop at rule.now)) result }
 {
-    let escape = read_escape(rule, at, 0);
-    match escape {
-        Byte::Got(b, p) => Letter::Got(one(b), p),
-        Byte::Bad(p) => Letter::Bad(p),
-    }
+    let (b, p) = read_escape(rule, at, 0)?;
+    Ok((Class::one(b), p))
 }
 
 // A letter; at the rule's end there is none, and past it neither.
-pub fn read_letter(rule: &[u8], at: usize) -> Letter
+pub fn read_letter(rule: &[u8], at: usize) -> Result<(Class, usize), Unreadable>
     ensures { LetterTells rule.now at result }
 {
     if at >= rule.len() {
-        return Letter::Bad(rule.len());
+        return Err(Unreadable(rule.len()));
     }
-    let x = rule[at];
-    if is_plain(x) {
-        return Letter::Got(one(x), at + 1);
+    match rule[at] {
+        b'.' => Ok((Class::dot(), at + 1)),
+        b'[' => read_members(rule, at + 1),
+        b'\\' => read_escaped(rule, at + 1),
+        x if is_plain(x) => Ok((Class::one(x), at + 1)),
+        _ => Err(Unreadable(at)),
     }
-    if x == b'.' {
-        return Letter::Got(dot(), at + 1);
-    }
-    if x == b'[' {
-        return read_members(rule, at + 1);
-    }
-    if x != b'\\' {
-        return Letter::Bad(at);
-    }
-    read_escaped(rule, at + 1)
 }

@@ -1,5 +1,4 @@
 -- What the proofs of the functions cite, and callers.
--- Repeats says what the models make of a list by its first byte; Progress how far numbers go; Placed where the readers stop.
-pub mod Repeats
+-- Progress says how far numbers go, Placed where the readers stop.
 pub mod Progress
 pub mod Placed

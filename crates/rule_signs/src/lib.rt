@@ -7,24 +7,17 @@
 ghost use Rattle.std.specs.Prelude.{true, ◌≡◌, ◌-◌, ◌≤◌, drop, length};
 ghost use Rattle.model.specs.Bytes.{byte, digital};
 ghost use Rattle.model.specs.Models.Reader.{close as closeOf, read_bounds, read_braces, read_digits};
-ghost use Rattle.rule_signs.specs.Answers.{BoundsSays, NumberSays, NumberTells, SignSays, SignTells};
+ghost use Rattle.rule_signs.specs.Answers.{bounds_of, BoundsSays, NumberSays, NumberTells, SignSays, SignTells};
 ghost use Rattle.rule_signs.specs.Repeats.{after_first, last_bound};
 
-use rule_bytes::{byte_at, is_digit};
+use rule_bytes::{Unreadable, byte_at, is_digit};
 use tokens::token::Repeat;
-
-// A number in braces.
-#[derive(Clone, Copy)]
-enum Number {
-    Got(usize, usize),
-    Bad(usize),
-}
 
 // The two numbers in braces.
 #[derive(Clone, Copy)]
-enum Bounds {
-    Got(usize, usize, usize),
-    Bad(usize),
+struct Bounds {
+    x: usize,
+    y: usize,
 }
 
 // How often a letter is taken: by one sign or none, or by the numbers in braces.
@@ -32,13 +25,6 @@ enum Bounds {
 pub enum HowOften {
     Plainly(Repeat),
     Times(usize, usize),
-}
-
-// A letter's repeat sign.
-#[derive(Clone, Copy)]
-pub enum Sign {
-    Got(HowOften, usize),
-    Bad(usize),
 }
 
 fn digit_value(x: u8) -> usize
@@ -49,7 +35,7 @@ fn digit_value(x: u8) -> usize
 }
 
 // At most a third digit, after v.
-fn read_third(rule: &[u8], at: usize, least: usize, v: usize) -> Number
+fn read_third(rule: &[u8], at: usize, least: usize, v: usize) -> Result<(usize, usize), Unreadable>
     requires { (at ≤ length rule.now) × (v ≤ 99) }
     ensures { NumberSays rule.now (read_digits 1 least v (drop at rule.now)) result }
 {
@@ -57,18 +43,18 @@ fn read_third(rule: &[u8], at: usize, least: usize, v: usize) -> Number
     if is_digit(x) {
         let n = 10 * v + digit_value(x);
         if n < least {
-            return Number::Bad(at);
+            return Err(Unreadable(at));
         }
-        return Number::Got(n, at + 1);
+        return Ok((n, at + 1));
     }
     if v < least {
-        return Number::Bad(at);
+        return Err(Unreadable(at));
     }
-    Number::Got(v, at)
+    Ok((v, at))
 }
 
-// At most a second and a third digit, after v.
-fn read_second(rule: &[u8], at: usize, least: usize, v: usize) -> Number
+// At most a second and a third digit, after v. Not one function with the third digit alone: each has its own bound on what may still follow.
+fn read_second(rule: &[u8], at: usize, least: usize, v: usize) -> Result<(usize, usize), Unreadable>
     requires { (at ≤ length rule.now) × (v ≤ 9) }
     ensures { NumberSays rule.now (read_digits 2 least v (drop at rule.now)) result }
 {
@@ -76,124 +62,102 @@ fn read_second(rule: &[u8], at: usize, least: usize, v: usize) -> Number
     if is_digit(x) {
         let n = 10 * v + digit_value(x);
         if 10 * n + 9 < least {
-            return Number::Bad(at);
+            return Err(Unreadable(at));
         }
         return read_third(rule, at + 1, least, n);
     }
     if v < least {
-        return Number::Bad(at);
+        return Err(Unreadable(at));
     }
-    Number::Got(v, at)
+    Ok((v, at))
 }
 
 // A number of at least `least`: 1 to 3 digits, and no leading zero except `0` itself.
-fn read_number(rule: &[u8], at: usize, least: usize) -> Number
+fn read_number(rule: &[u8], at: usize, least: usize) -> Result<(usize, usize), Unreadable>
     requires { at ≤ length rule.now }
     ensures { NumberTells least rule.now at result }
 {
     let x = byte_at(rule, at);
     if !is_digit(x) {
-        return Number::Bad(at);
+        return Err(Unreadable(at));
     }
     if x == b'0' {
         if 0 < least {
-            return Number::Bad(at);
+            return Err(Unreadable(at));
         }
-        return Number::Got(0, at + 1);
+        return Ok((0, at + 1));
     }
     let v = digit_value(x);
     if 100 * v + 99 < least {
-        return Number::Bad(at);
+        return Err(Unreadable(at));
     }
     read_second(rule, at + 1, least, v)
 }
 
 // The second number of a pair whose first is x.
-fn read_last(rule: &[u8], at: usize, x: usize, least: usize) -> Bounds
+fn read_last(rule: &[u8], at: usize, x: usize, least: usize) -> Result<(Bounds, usize), Unreadable>
     requires { at ≤ length rule.now }
     ensures { BoundsSays rule.now (last_bound x least (drop at rule.now)) result }
 {
-    let last = read_number(rule, at, least);
-    match last {
-        Number::Got(y, p) => Bounds::Got(x, y, p),
-        Number::Bad(p) => Bounds::Bad(p),
-    }
+    let (y, p) = read_number(rule, at, least)?;
+    Ok((Bounds { x, y }, p))
 }
 
 // After the first number x: nothing more, or `,` and a number that is at least x and at least 1.
-fn read_after(rule: &[u8], at: usize, x: usize) -> Bounds
+fn read_after(rule: &[u8], at: usize, x: usize) -> Result<(Bounds, usize), Unreadable>
     requires { at ≤ length rule.now }
     ensures { BoundsSays rule.now (after_first x (drop at rule.now)) result }
 {
     if byte_at(rule, at) != b',' {
-        return Bounds::Got(x, x, at);
+        return Ok((Bounds { x, y: x }, at));
     }
-    if x == 0 {
-        return read_last(rule, at + 1, x, 1);
-    }
-    read_last(rule, at + 1, x, x)
+    read_last(rule, at + 1, x, x.max(1))
 }
 
 // `,y`, or `x,y`, or `x`.
-fn read_bounds(rule: &[u8], at: usize) -> Bounds
+fn read_bounds(rule: &[u8], at: usize) -> Result<(Bounds, usize), Unreadable>
     requires { at ≤ length rule.now }
     ensures { BoundsSays rule.now (read_bounds (drop at rule.now)) result }
 {
     if byte_at(rule, at) == b',' {
         return read_last(rule, at + 1, 0, 1);
     }
-    let first = read_number(rule, at, 0);
-    match first {
-        Number::Got(x, p) => read_after(rule, p, x),
-        Number::Bad(p) => Bounds::Bad(p),
-    }
+    let (x, p) = read_number(rule, at, 0)?;
+    read_after(rule, p, x)
 }
 
-// `}` after the numbers x and y, of which y is at least 1.
-fn close(rule: &[u8], at: usize, x: usize, y: usize) -> Sign
+// `}` after the two numbers, of which the second is at least 1.
+fn close(rule: &[u8], at: usize, bounds: Bounds) -> Result<(HowOften, usize), Unreadable>
     requires { at ≤ length rule.now }
-    ensures { SignSays rule.now (closeOf (x, y) (drop at rule.now)) result }
+    ensures { SignSays rule.now (closeOf (bounds_of bounds) (drop at rule.now)) result }
 {
-    if y == 0 {
-        return Sign::Bad(at);
+    if bounds.y == 0 || byte_at(rule, at) != b'}' {
+        return Err(Unreadable(at));
     }
-    if byte_at(rule, at) != b'}' {
-        return Sign::Bad(at);
-    }
-    Sign::Got(HowOften::Times(x, y), at + 1)
+    Ok((HowOften::Times(bounds.x, bounds.y), at + 1))
 }
 
 // Braces, after their `{`.
-fn read_braces(rule: &[u8], at: usize) -> Sign
+fn read_braces(rule: &[u8], at: usize) -> Result<(HowOften, usize), Unreadable>
     requires { at ≤ length rule.now }
     ensures { SignSays rule.now (read_braces (drop at rule.now)) result }
 {
-    let bounds = read_bounds(rule, at);
-    match bounds {
-        Bounds::Got(x, y, p) => close(rule, p, x, y),
-        Bounds::Bad(p) => Sign::Bad(p),
-    }
+    let (bounds, p) = read_bounds(rule, at)?;
+    close(rule, p, bounds)
 }
 
 // At most one repeat sign; at the rule's end there is none, and past it neither.
-pub fn read_sign(rule: &[u8], at: usize) -> Sign
+pub fn read_sign(rule: &[u8], at: usize) -> Result<(HowOften, usize), Unreadable>
     ensures { SignTells rule.now at result }
 {
     if at >= rule.len() {
-        return Sign::Got(HowOften::Plainly(Repeat::Once), rule.len());
+        return Ok((HowOften::Plainly(Repeat::Once), rule.len()));
     }
-    let x = rule[at];
-    if x == b'?' {
-        return Sign::Got(HowOften::Plainly(Repeat::Option), at + 1);
+    match rule[at] {
+        b'?' => Ok((HowOften::Plainly(Repeat::Option), at + 1)),
+        b'*' => Ok((HowOften::Plainly(Repeat::Star), at + 1)),
+        b'+' => Ok((HowOften::Plainly(Repeat::Plus), at + 1)),
+        b'{' => read_braces(rule, at + 1),
+        _ => Ok((HowOften::Plainly(Repeat::Once), at)),
     }
-    if x == b'*' {
-        return Sign::Got(HowOften::Plainly(Repeat::Star), at + 1);
-    }
-    if x == b'+' {
-        return Sign::Got(HowOften::Plainly(Repeat::Plus), at + 1);
-    }
-    if x == b'{' {
-        return read_braces(rule, at + 1);
-    }
-    Sign::Got(HowOften::Plainly(Repeat::Once), at)
 }

@@ -33,9 +33,7 @@ fn returns(first: Mask, depth: usize, n: usize, table: &Table) -> Mask
     ensures { take n result.words ≡ returns_words (pass_masks n table.now) depth (take n first.words) (take n first.words) }
 {
     let mut r = first;
-    let mut k = depth;
-    while k > 0 {
-        k -= 1;
+    for k in (0..depth).rev() {
         r = return_at(r, first, k, n, table);
     }
     r

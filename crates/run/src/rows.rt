@@ -7,10 +7,6 @@ pub fn row_at(image: &[u64], at: usize, width: usize) -> [u64; 8]
     ensures { result ≡ row_at image.now at width }
 {
     let mut r = [0u64; 8];
-    let mut i = 0;
-    while i < width {
-        r[i] = image[at + i];
-        i += 1;
-    }
+    r[..width].copy_from_slice(&image[at..at + width]);
     r
 }

@@ -70,10 +70,8 @@ pub fn rise(live: Mask, depth: usize, n: usize, table: &Table) -> Mask
     ensures { take n result.words ≡ rise_words (pass_masks n table.now) depth (take n live.words) }
 {
     let mut r = live;
-    let mut k = depth;
-    while k > 0 {
-        let along = propagate_at(r, k, n, table);
-        k -= 1;
+    for k in (0..depth).rev() {
+        let along = propagate_at(r, k + 1, n, table);
         r = gather_at(along, k, n, table);
     }
     propagate_at(r, 0, n, table)
@@ -85,12 +83,9 @@ pub fn fall(live: Mask, depth: usize, n: usize, table: &Table) -> Mask
     ensures { take n result.words ≡ fall_words (pass_masks n table.now) depth 0 (take n live.words) }
 {
     let mut r = live;
-    let mut left = depth;
-    while left > 0 {
-        let k = depth - left;
+    for k in 0..depth {
         let started = scatter_at(r, k, n, table);
         r = propagate_at(started, k + 1, n, table);
-        left -= 1;
     }
     r
 }

@@ -23,11 +23,8 @@ fn series_at(image: &[u64], at: usize, width: usize, count: usize, which: usize)
 {
     let none = [0u64; 8];
     let mut r = [none; 9];
-    let mut k = 0;
-    while k < count {
-        let row = row_at(image, at + width * (3 * k + which), width);
-        r[k] = row;
-        k += 1;
+    for k in 0..count {
+        r[k] = row_at(image, at + width * (3 * k + which), width);
     }
     r
 }
@@ -36,15 +33,7 @@ fn series_at(image: &[u64], at: usize, width: usize, count: usize, which: usize)
 fn less_ones(source: Series) -> Series
     ensures { Lessened source result }
 {
-    let mut r = source;
-    let mut k = 0;
-    while k < 9 {
-        let row = source[k];
-        let less = less_one(row);
-        r[k] = less;
-        k += 1;
-    }
-    r
+    source.map(less_one)
 }
 
 // Series j of the nine: scatter's three, gather's three, propagate's three with the source less one.
@@ -72,11 +61,8 @@ fn put_series(table: &mut Table, j: usize, masks: Series)
     requires { (j < 9) × (length table.old ≡ 97) }
     ensures { Put j masks table.old table.new }
 {
-    let mut k = 0;
-    while k < 9 {
-        let row = masks[k];
-        table[9 * k + j] = row;
-        k += 1;
+    for (k, row) in masks.iter().enumerate() {
+        table[9 * k + j] = *row;
     }
 }
 
@@ -88,11 +74,8 @@ fn put_backs(table: &mut Table, image: &[u64], sections: Sections)
     let at = sections.back;
     let width = sections.width;
     let depth = sections.depth;
-    let mut i = 0;
-    while i < 2 * depth {
-        let row = row_at(image, at + width * i, width);
-        table[81 + i] = row;
-        i += 1;
+    for i in 0..2 * depth {
+        table[81 + i] = row_at(image, at + width * i, width);
     }
 }
 
@@ -102,11 +85,14 @@ pub fn all_sources(table: &Table, depth: usize) -> Mask
     ensures { Sources table.now depth result.words }
 {
     let mut r = mask::none();
-    let mut k = 0;
-    while k < depth {
-        let row = table[81 + 2 * k];
-        r = or(r, Mask { words: row }, 8);
-        k += 1;
+    for k in 0..depth {
+        r = or(
+            r,
+            Mask {
+                words: table[81 + 2 * k],
+            },
+            8,
+        );
     }
     r
 }
@@ -117,11 +103,8 @@ pub fn table(image: &[u64], sections: Sections) -> Table
 {
     let none = [0u64; 8];
     let mut r = [none; 97];
-    let mut j = 0;
-    while j < 9 {
-        let masks = series(image, sections, j);
-        put_series(&mut r, j, masks);
-        j += 1;
+    for j in 0..9 {
+        put_series(&mut r, j, series(image, sections, j));
     }
     put_backs(&mut r, image, sections);
     r

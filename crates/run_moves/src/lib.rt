@@ -73,9 +73,7 @@ fn lead_back(live: Mask, source: Mask, target: Mask, n: usize) -> Mask
 {
     let mut r = live;
     let mut above = false;
-    let mut i = upto(n);
-    while i > 0 {
-        i -= 1;
+    for i in (0..upto(n)).rev() {
         let l = live.words[i];
         let s = source.words[i];
         let t = target.words[i];
@@ -90,27 +88,20 @@ pub fn meet(a: Mask, b: Mask, n: usize) -> bool
     ensures { Meets n a.words b.words result }
 {
     let stop = upto(n);
-    let mut i = 0;
-    while i < stop {
-        if a.words[i] & b.words[i] != 0 {
-            return true;
-        }
-        i += 1;
-    }
-    false
+    a.words[..stop]
+        .iter()
+        .zip(&b.words[..stop])
+        .any(|(x, y)| *x & *y != 0)
 }
 
 // Whether every state of b is in a.
 fn holds(a: Mask, b: Mask, n: usize) -> bool
     ensures { result ≡ true → Holds n a.words b.words }
 {
-    let stop = upto(n);
-    let mut i = 0;
-    while i < stop {
+    for i in 0..upto(n) {
         if a.words[i] | b.words[i] != a.words[i] {
             return false;
         }
-        i += 1;
     }
     true
 }
@@ -134,14 +125,7 @@ pub fn same(a: Mask, b: Mask, n: usize) -> bool
     ensures { result ≡ same_words (take n a.words) (take n b.words) }
 {
     let stop = upto(n);
-    let mut i = 0;
-    while i < stop {
-        if a.words[i] != b.words[i] {
-            return false;
-        }
-        i += 1;
-    }
-    true
+    a.words[..stop] == b.words[..stop]
 }
 
 // The mask of state 0.

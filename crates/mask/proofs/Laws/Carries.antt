@@ -6,7 +6,7 @@ use Rattle.model.specs.Bits.{digit}
 use Rattle.model.specs.Models.Words.{borrow_out, carry_out, wrap_add, wrap_sub}
 use Rattle.model.proofs.Laws.Bool.{le_false, le_or_lt, le_true, same_truth}
 use Rattle.model.proofs.Words.Ripple.{digit_small}
-use Rattle.mask.proofs.Laws.Ripple.{shift_word, top_bit}
+use Rattle.mask.specs.Rows.{shift_word, top_bit}
 
 -- two tests or-ed as numbers
 either : (p q : Bool) → bit_or (bool_byte p) (bool_byte q) ≡ digit (p || q)

@@ -4,7 +4,7 @@ use Rattle.model.specs.Bits.{digit}
 use Rattle.model.specs.Models.Words.{ripple, shift_words}
 use Rattle.mask.proofs.Laws.Filled.{Filled, filled_none, filled_more, filled_take}
 use Rattle.mask.proofs.Laws.Take.{take_ripple}
-use Rattle.mask.specs.Rows.{Upto}
+use Rattle.mask.specs.Rows.{shift_word, top_bit, Upto}
 
 -- what goes into word i, from c into word 0
 abbrev into_word : (out : ℕ → ℕ → Bool → Bool) → List ℕ → List ℕ → Bool → ℕ → Bool
@@ -61,12 +61,6 @@ module _ (word : ℕ → ℕ → Bool → ℕ) (out : ℕ → ℕ → Bool → B
         ∙ take_ripple word out m xs ys false
 
 -- the shift is such a row, of a row with itself
-abbrev pub shift_word : ℕ → ℕ → Bool → ℕ
-shift_word x y c = x * 2 % 2 ^ 64 + digit c
-
-abbrev pub top_bit : ℕ → ℕ → Bool → Bool
-top_bit x y c = leb (2 ^ 63) x
-
 pub shift_ripple : (xs : List ℕ) (c : Bool) → shift_words xs c ≡ ripple shift_word top_bit xs xs c
 shift_ripple [] c = refl
 shift_ripple (x ∷ xs) c = ap (λ (zs : List ℕ). (x * 2 % 2 ^ 64 + digit c) ∷ zs) (shift_ripple xs (leb (2 ^ 63) x))

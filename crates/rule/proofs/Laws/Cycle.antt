@@ -15,15 +15,15 @@ use Rattle.model.specs.Tree.{Alts, glue, last, more, Seq}
 use Rattle.model.proofs.Image.Groups.{empty_glue}
 use Rattle.model.proofs.Laws.Bool.{is_true, unequal}
 use Rattle.model.proofs.Reading.Cycle.{alts_is, item_falls, item_is, seq_falls, seq_is}
+use Rattle.std.proofs.Common.{Err, Ok, Result}
 use Rattle.rule_bytes.specs.Places.{Stopped}
+use Rattle.rule_bytes.specs.declared.Unreadable.{Unreadable}
 use Rattle.rule.specs.Groups.{closed}
-use Rattle.rule.specs.Parts.{AlternativesSay, PartSays, seq_tokens, several_of, Wrote}
+use Rattle.rule.specs.Parts.{AlternativesSay, PartSays, seq_tokens, Wrote}
 use Rattle.tokens.specs.Rows.{token_words}
 use Rattle.rule.specs.Tokens.{between, cut}
 use Rattle.rule.specs.declared.parts.Alternatives.{Alternatives}
-use Rattle.rule.specs.declared.parts.Alternatives.TheVariants.{Bad as noAlternatives, Got as someAlternatives}
 use Rattle.rule.specs.declared.parts.Part.{Part}
-use Rattle.rule.specs.declared.parts.Part.TheVariants.{Bad as no_part, Got as aPart}
 use Rattle.rule_bytes.proofs.Laws.Binds.{bind_stops}
 use Rattle.rule_bytes.proofs.Laws.Places.{here, inside, stays}
 use Rattle.rule_bytes.proofs.Laws.Progress.{further}
@@ -70,12 +70,12 @@ module _ (rule : List ℕ) (at n : ℕ) {before : List ℕ} where
     pub item_on : at < p
     item_on = further rule w.took at (item_falls (drop at rule))
 
-    pub sequence_ends : (c : Bool) → over (drop p rule) ≡ true → PartSays c rule n (seq (drop at rule)) before after (aPart p next (c && e))
+    pub sequence_ends : (c : Bool) → over (drop p rule) ≡ true → PartSays c rule n (seq (drop at rule)) before after (Ok (record { place = p; next = next; empty = c && e }))
     sequence_ends c o = (h, same_row (after_item ∙ rw o) refl (ap (λ (b : Bool). c && b) w.empties) w)
 
-    pub sequence_goes : (c : Bool) → over (drop p rule) ≡ false → (final : List ℕ) (r : Part) → PartSays (c && e) rule next (seq (drop p rule)) after final r
+    pub sequence_goes : (c : Bool) → over (drop p rule) ≡ false → (final : List ℕ) (r : Result Part Unreadable) → PartSays (c && e) rule next (seq (drop p rule)) after final r
         → PartSays c rule n (seq (drop at rule)) before final r
-    sequence_goes c o final (aPart q k f) (t, v) = (
+    sequence_goes c o final (Ok r) (t, v) = (
       glue h t,
       record {
         took = record { reads = after_item ∙ rw (o, v.took.reads); inside = v.took.inside };
@@ -85,7 +85,7 @@ module _ (rule : List ℕ) (at n : ℕ) {before : List ℕ} where
             ∙ and_assoc c (seq_empty h) (seq_empty t) ∙ ap (λ (b : Bool). c && b) (sym (empty_glue h t));
       },
     )
-    sequence_goes c o final (no_part q) v = record { reads = after_item ∙ rw (o, v.reads); inside = v.inside }
+    sequence_goes c o final (Err e) v = record { reads = after_item ∙ rw (o, v.reads); inside = v.inside }
 
   -- ---- alternatives, after the first sequence
   module _ {s : Seq} {p next : ℕ} {c : Bool} {after : List ℕ}
@@ -99,7 +99,8 @@ module _ (rule : List ℕ) (at n : ℕ) {before : List ℕ} where
     pub sequence_on : at < p
     sequence_on = further rule w.took at (seq_falls (drop at rule))
 
-    pub alternatives_end : (x ≡ byte "|" → ⊥) → AlternativesSay rule n (alts (drop at rule)) before after (someAlternatives p next false c)
+    pub alternatives_end : (x ≡ byte "|" → ⊥) → AlternativesSay rule n (alts (drop at rule)) before after
+        (Ok (record { place = p; next = next; several = false; empty = c }))
     alternatives_end o = (last s, same_row (after_sequence ∙ rw (past_other rule p e (byte "|") w.took.inside o)) refl w.empties w, refl)
 
     -- a bar, and the alternatives after it
@@ -119,14 +120,16 @@ module _ (rule : List ℕ) (at n : ℕ) {before : List ℕ} where
         empties = ap₂ ◌||◌ w.empties v.empties;
       }
 
-      pub alternatives_go : (final : List ℕ) (rest : Alternatives)
-          → AlternativesSay rule (cut (next + 1)) (alts (drop (p + 1) rule)) (sets after (5 * next) (token_words a_bar)) final rest
-          → AlternativesSay rule n (alts (drop at rule)) before final (several_of c rest)
-      alternatives_go final (someAlternatives q k v f) (a, u, o) = (more s a, one_more u, refl)
-      alternatives_go final (noAlternatives q) v = record { reads = after-bar ∙ rw v.reads; inside = v.inside }
+      pub alternatives_stop_later : {q : ℕ} → Stopped rule (alts (drop (p + 1) rule)) q → Stopped rule (alts (drop at rule)) q
+      alternatives_stop_later v = record { reads = after-bar ∙ rw v.reads; inside = v.inside }
+
+      pub alternatives_go : (final : List ℕ) (r : Alternatives)
+          → AlternativesSay rule (cut (next + 1)) (alts (drop (p + 1) rule)) (sets after (5 * next) (token_words a_bar)) final (Ok r)
+          → AlternativesSay rule n (alts (drop at rule)) before final (Ok (record { place = r.place; next = r.next; several = true; empty = c || r.empty }))
+      alternatives_go final r (a, u, o) = (more s a, one_more u, refl)
 
 -- ---- an item
-module _ (rule : List ℕ) (at n : ℕ) (before after : List ℕ) (r : Part) {x : ℕ} (e : x ≡ get_or rule at 0) where
+module _ (rule : List ℕ) (at n : ℕ) (before after : List ℕ) (r : Result Part Unreadable) {x : ℕ} (e : x ≡ get_or rule at 0) where
   abbrev Says : Read Seq → Type 0
   Says m = PartSays true rule n m before after r
 

@@ -13,13 +13,12 @@ use Rattle.model.specs.Models.Reader.{bind, got, past, Read, read_mark}
 use Rattle.model.specs.Models.Tokens.{a_close, an_open, several, shown, Token}
 use Rattle.model.specs.Tree.{Alts, can_skip, end, last, more, once, option, optional, plus, Repeat, star, starred, union, unmarked}
 use Rattle.model.proofs.Image.Groups.{empty_bracket, empty_glue, option_dropped, option_tokens, plus_tokens, star_tokens}
+use Rattle.std.proofs.Common.{Ok}
 use Rattle.rule_bytes.specs.Places.{Stopped, Took}
-use Rattle.rule.specs.Groups.{closed, Counted}
+use Rattle.rule.specs.Groups.{closed}
 use Rattle.rule.specs.Parts.{AlternativesSay, PartSays, seq_tokens, Wrote}
-use Rattle.rule.specs.Tokens.{between, copied, cut, enclosed, Stands}
+use Rattle.rule.specs.Tokens.{between, copied, cut, enclosed, Numbered, Stands}
 use Rattle.rule.specs.declared.parts.Alternatives.{Alternatives}
-use Rattle.rule.specs.declared.parts.Alternatives.TheVariants.{Bad as noAlternatives, Got as someAlternatives}
-use Rattle.rule.specs.declared.parts.Part.TheVariants.{Got as aPart}
 use Rattle.rule_bytes.proofs.Laws.Binds.{bind_stops}
 use Rattle.rule_bytes.proofs.Laws.Places.{inside}
 use Rattle.rule.proofs.Laws.Cycle.{past_one, past_other}
@@ -81,10 +80,9 @@ module _ (a : Alts) {before now : List ℕ} {n next : ℕ} (s : Stands before no
 
 -- ---- alternatives that were read
 -- the number of the token after them is counted
-pub says_counted : (rule : List ℕ) (n : ℕ) (m : Read Alts) (before now : List ℕ) (alternatives : Alternatives) → n ≤ 512
-    → AlternativesSay rule n m before now alternatives → Counted n alternatives
-says_counted rule n m before now (someAlternatives p next v e) h (a, w, s) = (omega (arith, w.stands.count), omega (arith, w.stands.count))
-says_counted rule n m before now (noAlternatives p) h w = tt
+pub says_counted : (rule : List ℕ) (n : ℕ) (m : Read Alts) (before now : List ℕ) (r : Alternatives) → n ≤ 512
+    → AlternativesSay rule n m before now (Ok r) → Numbered n r.next
+says_counted rule n m before now r h (a, w, s) = (omega (arith, w.stands.count), omega (arith, w.stands.count))
 
 -- before their `)`
 module _ (rule : List ℕ) (n : ℕ) (m : Read Alts) (before : List ℕ) where
@@ -96,7 +94,8 @@ module _ (rule : List ℕ) (n : ℕ) (m : Read Alts) (before : List ℕ) where
     close_other o = record { reads = rw (w.took.reads, past_other rule p g (byte ")") w.took.inside o); inside = w.took.inside }
 
     pub close_here : x ≡ byte ")" → (k : Repeat) {q : ℕ} → Took rule (read_mark (drop (p + 1) rule)) k q → {after : List ℕ} {to : ℕ}
-        → Stands before after n to (seq_tokens (grouped a k)) → {f : Bool} → f ≡ can_skip k → PartSays true rule n (closed m) before after (aPart q to (f || e))
+        → Stands before after n to (seq_tokens (grouped a k)) → {f : Bool} → f ≡ can_skip k
+        → PartSays true rule n (closed m) before after (Ok (record { place = q; next = to; empty = f || e }))
     close_here o k t s c = (
       grouped a k,
       record {

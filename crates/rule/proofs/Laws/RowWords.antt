@@ -15,7 +15,7 @@ use Rattle.tokens.specs.Kinds.{repeat_kind}
 use Rattle.tokens.specs.Rows.{row_words, token_words}
 use Rattle.tokens.proofs.Rows.{row_append, row_length}
 use Rattle.rule.specs.Tokens.{opened, times_words}
-use Rattle.rule_letters.specs.declared.Class.{Class}
+use Rattle.rule_letters.specs.declared.classes.Class.{Class}
 use Rattle.rule_letters.proofs.Laws.Classes.{class_words}
 use Rattle.rule.proofs.Laws.Stores.{sets_opened}
 

@@ -1,7 +1,6 @@
 -- A RULE IS ITS ALTERNATIVES, READ TO THE LAST BYTE, AS ONE ITEM: the model's reader decides the grammar and stops at the place, so the answer is the table's.
 use mathlib.Core.Path.{◌≡◌, refl, sym, ap, ◌∙◌}
 use mathlib.Core.Logic.{◌⊎◌, inl, inr}
-use mathlib.Core.Bool.{Bool}
 use mathlib.Core.List.{List}
 use mathlib.Core.Option.{none, some}
 use Prim.Native.Nat.{ℕ, suc, ◌+◌, ◌≤◌, ◌<◌}
@@ -18,13 +17,13 @@ use Rattle.model.proofs.Reading.Decides.{reads}
 use Rattle.model.proofs.Reading.Place.{place_at}
 use Rattle.std.proofs.Common.{Err, Ok, Result}
 use Rattle.answers.specs.declared.Refusal.{Refusal}
-use Rattle.rule_bytes.specs.Places.{Took}
+use Rattle.answers.specs.declared.Refusal.TheVariants.{NotARule}
+use Rattle.rule_bytes.specs.Places.{Stopped, Took}
 use Rattle.rule.specs.Groups.{WholeSays}
 use Rattle.rule.specs.Parts.{seq_tokens}
 use Rattle.rule.specs.Says.{not_a_rule, read, ReadSays, states_of, too_many_states, tree_of}
 use Rattle.rule.specs.Tokens.{no_tokens, Stands}
 use Rattle.rule.specs.declared.parts.Part.{Part}
-use Rattle.rule.specs.declared.parts.Part.TheVariants.{Bad as no_part, Got as aPart}
 use Rattle.rule.specs.declared.Tree.{Tree}
 
 -- the tokens are given with the states
@@ -32,39 +31,47 @@ abbrev pub answered : Result ℕ Refusal → List ℕ → Result Tree Refusal
 answered (Err x) row = Err x
 answered (Ok m) row = Ok (tree_of m row)
 
-module _ (rule row : List ℕ) (short : length rule ≤ 1024) where
+module _ (rule : List ℕ) (short : length rule ≤ 1024) where
   unread : read_rule rule ≡ none → (t : tree.Tree) → IsRule rule t → ⊥
   unread e t d = no_tree (sym e ∙ (reads rule t).0 d)
     where
       no_tree : none ≡ some t → ⊥
       no_tree p = let z : ◌≡◌ {A = ℕ} 0 1 = cc in omega arith
 
-  module _ {a : tree.Alts} {p next : ℕ} (e : Bool) (t : Took rule (alts rule) a p) (s : Stands no_tokens row 0 next (seq_tokens (bracket a))) where
+  -- the alternatives cannot be read
+  pub stopped_says : {p : ℕ} → Stopped rule (alts rule) p → ReadSays rule (Err (NotARule p))
+  stopped_says {p} s = not_a_rule p short (unread (ap whole s.reads)) (place_at rule p s.inside (ap left s.reads)) refl
+
+  module _ {a : tree.Alts} (row : List ℕ) (item : Part) (t : Took rule (alts rule) a item.place) (s : Stands no_tokens row 0 item.next (seq_tokens (bracket a))) where
+    abbrev Says : Type 0
+    Says = ReadSays rule (answered (states_of item (length rule)) row)
+
     -- bytes are left
-    left_over : p < length rule → ReadSays rule (answered (states_of (aPart p next e) (length rule)) row)
-    left_over h = rw (le_true (suc p) (length rule) h) (not_a_rule p short (unread (ap whole t.reads ∙ rw (drop-cons rule p 0 h))) (place_at rule p t.inside (ap left t.reads)) refl)
+    left_over : item.place < length rule → Says
+    left_over h =
+        rw (le_true (suc item.place) (length rule) h)
+        (not_a_rule item.place short (unread (ap whole t.reads ∙ rw (drop-cons rule item.place 0 h))) (place_at rule item.place t.inside (ap left t.reads)) refl)
 
     -- all bytes are read
-    module _ (h : length rule ≤ p) where
+    module _ (h : length rule ≤ item.place) where
       is_rule : IsRule rule (bracket a)
       is_rule = (reads rule (bracket a)).1 (ap whole t.reads ∙ rw (drop_of_length-le rule h))
 
-      all_read : ReadSays rule (answered (states_of (aPart p next e) (length rule)) row)
-      all_read = go (le_or_lt next 511)
+      all_read : Says
+      all_read = go (le_or_lt item.next 511)
         where
-          go : (next ≤ 511) ⊎ (511 < next) → ReadSays rule (answered (states_of (aPart p next e) (length rule)) row)
+          go : (item.next ≤ 511) ⊎ (511 < item.next) → Says
           go (inl few) =
-              let size : next + 1 ≡ states (bracket a) = omega (arith, length_tokens (bracket a), s.count) in
-              rw (le_false (suc p) (length rule) (omega arith), le_false 512 next (omega arith))
+              let size : item.next + 1 ≡ states (bracket a) = omega (arith, length_tokens (bracket a), s.count) in
+              rw (le_false (suc item.place) (length rule) (omega arith), le_false 512 item.next (omega arith))
               (read (bracket a) short is_rule (omega arith) (λ i. Ok (tree_of (size i) (s.written i))))
           go (inr many) =
-              rw (le_false (suc p) (length rule) (omega arith), le_true 512 next (omega arith))
+              rw (le_false (suc item.place) (length rule) (omega arith), le_true 512 item.next (omega arith))
               (too_many_states (bracket a) short is_rule (omega (arith, length_tokens (bracket a), s.count)) refl)
 
-  pub whole_says : (item : Part) → WholeSays rule (alts rule) no_tokens row item → ReadSays rule (answered (states_of item (length rule)) row)
-  whole_says (no_part p) s = not_a_rule p short (unread (ap whole s.reads)) (place_at rule p s.inside (ap left s.reads)) refl
-  whole_says (aPart p next e) (a, t, s) = go (le_or_lt (length rule) p)
+  pub whole_says : (row : List ℕ) (item : Part) → WholeSays rule (alts rule) no_tokens row item → ReadSays rule (answered (states_of item (length rule)) row)
+  whole_says row item (a, t, s) = go (le_or_lt (length rule) item.place)
     where
-      go : (length rule ≤ p) ⊎ (p < length rule) → ReadSays rule (answered (states_of (aPart p next e) (length rule)) row)
-      go (inl h) = all_read e t s h
-      go (inr h) = left_over e t s h
+      go : (length rule ≤ item.place) ⊎ (item.place < length rule) → ReadSays rule (answered (states_of item (length rule)) row)
+      go (inl h) = all_read row item t s h
+      go (inr h) = left_over row item t s h

@@ -21,7 +21,7 @@ use Rattle.model.proofs.Words.Bits.{bit_ext, bit-or}
 use Rattle.model.proofs.Words.Holds.{Near, val_below}
 use Rattle.model.proofs.Words.Operations.{near_or}
 use Rattle.rule_letters.specs.Classes.{below_word, bytes_of, span_word, words_of}
-use Rattle.rule_letters.specs.declared.Class.{Class}
+use Rattle.rule_letters.specs.declared.classes.Class.{Class}
 
 -- ---- a mask of m + n bits: the low m, and n more above them
 mask_parts : (m n : ℕ) (f : ℕ → Bool) → mask (m + n) f ≡ mask m f + 2 ^ m * mask n (λ i. f (m + i))

@@ -9,22 +9,20 @@ use Rattle.model.specs.Models.Run.{fall_words, gather_by, Masks, move_by, pass_w
 use Rattle.run.specs.Work.{cut_masks, pass_masks, rule_masks, Stepped, work_masks}
 
 module _ (M : Masks) where
-  pub rise_one : (k : ℕ) → 0 < k → (live : List ℕ) → rise_words M (k - 1) (gather_by M (k - 1) (propagate_by M k live)) ≡ rise_words M k live
+  pub rise_one : (k : ℕ) → 0 < k → (live : List ℕ) → rise_words M (k - 1) (gather_by M (k - 1) (propagate_by M (k - 1 + 1) live)) ≡ rise_words M k live
   rise_one zero h live = absurd (not-suc-le-zero h)
   rise_one (suc k) h live =
       let e : suc k - 1 ≡ k = omega arith in
-      ap (λ (j : ℕ). rise_words M j (gather_by M j (propagate_by M (suc k) live))) e
+      let f : suc k - 1 + 1 ≡ suc k = omega arith in
+      ap₂ (λ (j i : ℕ). rise_words M j (gather_by M j (propagate_by M i live))) e f
 
-  -- with n depths of d left
-  pub fall_one : (d n : ℕ) → 0 < n → n ≤ d → (live : List ℕ)
-      → fall_words M (n - 1) (d - (n - 1)) (propagate_by M (d - n + 1) (scatter_by M (d - n) live)) ≡ fall_words M n (d - n) live
-  fall_one d zero h l live = absurd (not-suc-le-zero h)
-  fall_one d (suc n) h l live =
-      let e : suc n - 1 ≡ n = omega arith in
-      let f : d - (suc n - 1) ≡ suc (d - suc n) = omega arith in
-      let g : d - suc n + 1 ≡ suc (d - suc n) = omega arith in
-      ap₂ (λ (i j : ℕ). fall_words M i j (propagate_by M (d - suc n + 1) (scatter_by M (d - suc n) live))) e f
-      ∙ ap (λ (j : ℕ). fall_words M n (suc (d - suc n)) (propagate_by M j (scatter_by M (d - suc n) live))) g
+  -- with k depths of d passed
+  pub fall_one : (d k : ℕ) → k < d → (live : List ℕ)
+      → fall_words M (d - (k + 1)) (k + 1) (propagate_by M (k + 1) (scatter_by M k live)) ≡ fall_words M (d - k) k live
+  fall_one d k h live =
+      let e : k + 1 ≡ suc k = omega arith in
+      let f : suc (d - (k + 1)) ≡ d - k = omega arith in
+      ap (λ (j : ℕ). fall_words M (d - (k + 1)) j (propagate_by M j (scatter_by M k live))) e ∙ ap (λ (n : ℕ). fall_words M n k live) f
 
 -- the passes look at no letter
 module _ (n : ℕ) (ws ws' : List ℕ) (W W' : ℕ) (table : List (List ℕ)) where

@@ -19,4 +19,4 @@ pub loop-i-preserved : goal.loop-i-preserved
 loop-i-preserved c = below_more _ _ c.loop-i.invariant c.if-a-i.false
 
 pub returns : goal.returns
-returns c = λ e. let a = c.args in words_all (λ (x y : ℕ). bit_or x y ≡ x) refl a.a.words a.b.words c.loop-i.invariant c.upto-stop.ensures (search rules) (search rules) c.loop-i-test.false
+returns c = λ e. let a = c.args in words_all (λ (x y : ℕ). bit_or x y ≡ x) refl a.a.words a.b.words c.loop-i.invariant c.upto-i-end.ensures (search rules) (search rules) c.loop-i-test.false

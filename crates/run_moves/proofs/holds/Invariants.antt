@@ -1,10 +1,6 @@
 -- `holds`: the words passed hold those of the other mask.
-use Prim.Native.Nat.{◌-◌}
 use Rattle.run_moves.specs.Sets.{Holds}
 use Rattle.run_moves.proofs.holds.Given as goal
 
 abbrev pub invariant-loop-i : goal.invariant-loop-i
 invariant-loop-i l = Holds l.i l.a.words l.b.words
-
-abbrev pub decreases-loop-i : goal.decreases-loop-i
-decreases-loop-i l = l.stop - l.i

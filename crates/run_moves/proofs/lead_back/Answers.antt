@@ -17,10 +17,6 @@ pub bounds-r-i : goal.bounds-r-i
 bounds-r-i c =
     (led_low c.loop-i.invariant c.upto-i.ensures.0 c.loop-i-test.true).0
 
-pub loop-i-smaller : goal.loop-i-smaller
-loop-i-smaller c =
-    (led_low c.loop-i.invariant c.upto-i.ensures.0 c.loop-i-test.true).1
-
 pub loop-i-preserved : goal.loop-i-preserved
 loop-i-preserved c =
     led_more c.loop-i.invariant c.upto-i.ensures.0 (search rules) (search rules) (search rules) c.loop-i-test.true c.lead_back.ensures c.first_live-above.ensures

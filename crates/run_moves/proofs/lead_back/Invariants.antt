@@ -4,6 +4,3 @@ use Rattle.run_moves.proofs.lead_back.Given as goal
 
 abbrev pub invariant-loop-i : goal.invariant-loop-i
 invariant-loop-i l = Led l.initial.i l.source.words l.target.words l.live.words l.r.words l.above l.i
-
-abbrev pub decreases-loop-i : goal.decreases-loop-i
-decreases-loop-i l = l.i

@@ -1,7 +1,9 @@
 -- THE ROWS OF THE PROPOSER'S TABLE.
 use mathlib.Core.Path.{◌≡◌, refl, sym, ap, ◌∙◌, subst}
 use mathlib.Core.Logic.{◌⊎◌, inl, inr}
-use Rattle.std.specs.Prelude.{None, Option, Some}
+use Rattle.std.specs.Prelude.{Err, None, Option, Result, Some}
+use Rattle.std.specs.Option.{ok_or}
+use Rattle.answers.specs.declared.Refusal.{Refusal}
 use mathlib.Core.List.{List, ◌++◌}
 use Prim.Native.Nat.{ℕ, ◌-◌, ◌≤◌, ◌<◌}
 use native.Mathlib.Omega.{arith}
@@ -18,6 +20,13 @@ use Rattle.image_sections.proofs.Laws.OfTree.{states_is}
 use Rattle.image_sections.proofs.Laws.Within.{own_states}
 use Rattle.spelling_propose.specs.Work.{Asked, OriginsSays, ProposeAsks, Ready, StartSays, WriteSays}
 use Rattle.spelling_propose.proofs.Laws.Back.{ready}
+
+-- what is refused where there is none is the refusal that was given for it
+pub passed_on : {A : Type 0} {o : Option A} {x given : Refusal} → o ≡ None → Err x ≡ ok_or o given → x ≡ given
+passed_on {A} {o} {x} {given} e v = its (rw e at v)
+  where
+    its : ◌≡◌ {A = Result A Refusal} (Err x) (Err given) → x ≡ given
+    its z = cc
 
 -- an end lies in the text
 pub past_text : (words text : List ℕ) (end : ℕ) (before : List ℕ) (t : Tree) → ImageOf words t → length text ≤ 65535 → length text < end

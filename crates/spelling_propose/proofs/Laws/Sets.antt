@@ -3,8 +3,8 @@ use mathlib.Core.Path.{◌≡◌, refl, sym, ap, ap₂, ◌∙◌, subst}
 use mathlib.Core.Logic.{◌⊎◌, inl, inr, ◌↔◌}
 use mathlib.Core.Bool.{◌&&◌, ◌||◌}
 use mathlib.Core.List.{List}
-use Prim.Native.Nat.{ℕ, zero, suc, ◌+◌, ◌*◌, ◌/◌, ◌%◌, ◌^◌, ◌≤◌, ◌<◌}
-use native.Mathlib.Nat.{le_refl, pow-suc}
+use Prim.Native.Nat.{ℕ, suc, ◌+◌, ◌*◌, ◌/◌, ◌%◌, ◌<◌}
+use native.Mathlib.Nat.{le_refl}
 use native.Mathlib.Omega.{arith}
 use lib.Count.{count_trailing_zeros}
 use lib.Dec.{T, eqb, eqb→eq, eqb_refl}
@@ -13,7 +13,7 @@ use lib.Seq.{take_all}
 use Rattle.model.specs.Bits.{bit}
 use Rattle.model.specs.Models.Words.{and_words, Fit, or_words, put_bit, value}
 use Rattle.model.proofs.Laws.Bits.{no_bit}
-use Rattle.model.proofs.Laws.Bool.{and_both, and_split, le_or_lt, or_left, or_right, or_split}
+use Rattle.model.proofs.Laws.Bool.{and_both, and_split, or_left, or_right, or_split}
 use Rattle.model.proofs.Words.Holds.{Near}
 use Rattle.model.proofs.Words.Operations.{near_and, near_or}
 use Rattle.model.proofs.Words.Lowest.{lowest_bit}

@@ -5,19 +5,19 @@ use Prim.Native.Nat.{ℕ, ◌+◌, ◌-◌, ◌*◌, ◌≤◌}
 use native.Mathlib.Omega.{arith}
 use lib.ListN.{drop, length, length-replicate, take}
 use lib.Seq.{sets-eq, take-append_seam}
-use Rattle.model.specs.Answers.{BuildSays, built, Counted, no_room, not_a_rule, refused_at, rule_too_long, too_deep, too_many_states}
+use Rattle.std.specs.Prelude.{Err, Ok, Result}
+use Rattle.model.specs.Answers.{BuildSays, built, Counted, no_room, not_a_rule, rule_too_long, too_deep, too_many_states}
 use Rattle.model.specs.Edges.{states}
 use Rattle.model.specs.Grammar.{IsRule}
 use Rattle.model.specs.Models.Tokens.{tokens}
 use Rattle.model.specs.Tree as tree
 use Rattle.model.proofs.Image.Tokens.{length_tokens}
-use Rattle.answers.specs.Answers.{number_of, place_of}
+use Rattle.answers.specs.Answers.{answered}
+use Rattle.answers.specs.declared.Refusal.{Refusal}
 use Rattle.tokens.specs.Rows.{row_words}
 use Rattle.rule.specs.Says as reading
 use Rattle.rule.specs.Tokens.{no_tokens, room_with}
-use Rattle.rule.specs.declared.Outcome.{Outcome}
-use Rattle.rule.specs.declared.Outcome.TheVariants.{Refused, Tree}
-use Rattle.rule.specs.declared.Reading.{Reading}
+use Rattle.rule.specs.declared.Tree.{Tree}
 use Rattle.tokens.proofs.Rows.{row_length}
 use Rattle.image.specs.Says as image
 
@@ -30,15 +30,19 @@ module _ (rule before : List ℕ) where
     pub size : m ≡ states t
     pub held : row ≡ room_with (tokens t [])
 
-  abbrev pub Answered : Outcome → List ℕ → Type 0
-  Answered (Refused x) row = BuildSays rule before (refused_at (place_of x) (number_of x) before)
-  Answered (Tree m) row = (t : tree.Tree) × TreeRead t m row
+  abbrev pub Answered : Result Tree Refusal → Type 0
+  Answered (Err x) = BuildSays rule before (answered (Err x) before)
+  Answered (Ok t) = (s : tree.Tree) × TreeRead s t.states t.tokens
 
-  pub answered : (r : Reading) → reading.ReadSays rule r → Answered r.outcome r.tokens
-  answered r (reading.too_long l e) = rw e (rule_too_long l refl)
-  answered r (reading.not_a_rule p l f P e) = rw e (not_a_rule p l f P refl)
-  answered r (reading.too_many_states t l d m e) = rw e (too_many_states t l d m refl)
-  answered r (reading.read t l d m e) = rw e (t, record { short = l; is_rule = d; few = m; size = refl; held = refl })
+  pub read_says : {r : Result Tree Refusal} → reading.ReadSays rule r → Answered r
+  read_says (reading.too_long l e) = rw e (rule_too_long l refl)
+  read_says (reading.not_a_rule p l f P e) = rw e (not_a_rule p l f P refl)
+  read_says (reading.too_many_states t l d m e) = rw e (too_many_states t l d m refl)
+  read_says (reading.read t l d m e) = rw e (t, record { short = l; is_rule = d; few = m; size = refl; held = refl })
+
+  -- a refusal of the reading is passed on
+  pub passed_on : {x y : Refusal} {r : Result ℕ Refusal} → reading.ReadSays rule (Err x) → r ≡ Err y → y ≡ x → BuildSays rule before (answered r before)
+  passed_on R e same = rw (e, same) (read_says R)
 
   -- ---- a tree that was read
   module _ {t : tree.Tree} {m : ℕ} {row : List ℕ} (T : TreeRead t m row) where

@@ -4,33 +4,28 @@ use mathlib.Core.Path.{◌≡◌, refl}
 use mathlib.Core.List.{List}
 use Prim.Native.Nat.{ℕ, ◌≤◌, ◌<◌}
 use lib.ListN.{length}
+use Rattle.std.specs.Prelude.{None, Option, Some}
 use Rattle.model.specs.Answers.{gives, matched, MatchSays, not_an_image, refused, text_too_long}
 use Rattle.model.proofs.Definitions.TreeEnds.{tree-ends, tree_ends}
 use Rattle.model.proofs.Image.Decided.{rule_full}
 use Rattle.model.proofs.Words.Run.{Bytes}
-use Rattle.image_sections.specs.Sections.{Placed}
-use Rattle.image_sections.specs.declared.Sections.{Sections}
 use Rattle.run.specs.Says.{FindSays}
 use Rattle.image_check.specs.Says.{CheckSays}
 use Rattle.image_check.specs.declared.Checked.{Checked}
-use Rattle.image_check.specs.declared.Verdict.TheVariants.{Image, Other}
 use Rattle.image_check.proofs.Laws.Found.{found, not_found}
 
-module _ (words text before : List ℕ) {r : Checked} (C : CheckSays words r) where
-  pub other : r.verdict ≡ Other → MatchSays words text before (refused 6 before)
-  other g = not_an_image (not_found words r C g) refl
+module _ {words text before : List ℕ} {r : Option Checked} (C : CheckSays words r) where
+  pub other : r ≡ None → MatchSays words text before (refused 6 before)
+  other g = not_an_image (not_found words C g) refl
 
-  module _ {p : Sections} (g : r.verdict ≡ Image p) where
-    pub placed : Placed words p
-    placed = (found words r C g).placed
-
+  module _ {c : Checked} (g : r ≡ Some c) where
     pub too_long : 65535 < length text → MatchSays words text before (refused 7 before)
-    too_long l = let F = found words r C g in text_too_long F.tree F.image_of l refl
+    too_long l = let F = found words C g in text_too_long F.tree F.image_of l refl
 
-    pub all_found : length text ≤ 65535 → Bytes text → (total : ℕ) (after : List ℕ) → FindSays words text before total after
+    pub all_found : length text ≤ 65535 → Bytes text → {total : ℕ} {after : List ℕ} → FindSays words text before total after
         → MatchSays words text before (gives total after)
-    all_found l B total after S =
-        let F = found words r C g in
+    all_found l B S =
+        let F = found words C g in
         let I = F.image_of in
         let ends = tree_ends F.tree text in
         let E = tree-ends F.tree (rule_full F.tree I.is_rule) text B in

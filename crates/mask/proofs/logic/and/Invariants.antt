@@ -1,15 +1,6 @@
--- `and`: the words made so far are those of `and_words`, and each turn makes one more.
-use Rattle.std.proofs.Common.{ℕ, ◌-◌}
+-- `and`: each word is made by `bit_and`.
 use lib.Bits.{bit_and}
-use Rattle.model.specs.Models.Words.{each_word}
-use Rattle.mask.proofs.Laws.Filled.{Filled}
 use Rattle.mask.proofs.logic.and.Given as goal
 
-abbrev pub op : ℕ → ℕ → ℕ
-op = bit_and
-
-abbrev pub invariant-loop-i : goal.invariant-loop-i
-invariant-loop-i l = Filled 8 (each_word op l.a.words l.b.words) l.r.words l.i
-
-abbrev pub decreases-loop-i : goal.decreases-loop-i
-decreases-loop-i l = l.stop - l.i
+abbrev pub ghost-each : goal.ghost-each
+ghost-each a = bit_and

@@ -1,15 +1,6 @@
--- `xor`: the words made so far are those of `xor_words`, and each turn makes one more.
-use Rattle.std.proofs.Common.{ℕ, ◌-◌}
+-- `xor`: each word is made by `bit_xor`.
 use lib.Bits.{bit_xor}
-use Rattle.model.specs.Models.Words.{each_word}
-use Rattle.mask.proofs.Laws.Filled.{Filled}
 use Rattle.mask.proofs.logic.xor.Given as goal
 
-abbrev pub op : ℕ → ℕ → ℕ
-op = bit_xor
-
-abbrev pub invariant-loop-i : goal.invariant-loop-i
-invariant-loop-i l = Filled 8 (each_word op l.a.words l.b.words) l.r.words l.i
-
-abbrev pub decreases-loop-i : goal.decreases-loop-i
-decreases-loop-i l = l.stop - l.i
+abbrev pub ghost-each : goal.ghost-each
+ghost-each a = bit_xor

@@ -1,10 +1,6 @@
--- `shift`: the words made so far are those of `shift_words`, and the carry is the top bit of the last of them; each turn makes one more.
-use Rattle.std.proofs.Common.{◌-◌}
-use Rattle.mask.proofs.Laws.Ripple.{Rippled, shift_word, top_bit}
+-- `shift`: each word is moved up by one, and hands on its top bit.
+use Rattle.mask.specs.Rows.{shift_word, top_bit}
 use Rattle.mask.proofs.sums.shift.Given as goal
 
-abbrev pub invariant-loop-i : goal.invariant-loop-i
-invariant-loop-i l = Rippled shift_word top_bit 8 l.a.words l.a.words l.r.words l.carry l.i
-
-abbrev pub decreases-loop-i : goal.decreases-loop-i
-decreases-loop-i l = l.stop - l.i
+abbrev pub ghost-ripple : goal.ghost-ripple
+ghost-ripple a = record { word = shift_word; out = top_bit }

@@ -6,16 +6,9 @@ use Prim.Native.Nat.{ℕ}
 use native.Mathlib.Omega.{arith}
 use Rattle.model.specs.Tree.{starred}
 use Rattle.rule.specs.Tokens.{enclosed}
-use Rattle.rule.proofs.Laws.Groups.{dropped_stands, option_stands, plus_stands, star_stands}
+use Rattle.rule.proofs.Laws.Groups.{option_stands, plus_stands, star_stands}
 use Rattle.rule.proofs.Laws.Stands.{stands_as}
 use Rattle.rule.proofs.groups.group.Goals as goal
-
-pub returns-in-Once : goal.returns-in-Once
-returns-in-Once c a before v e s = rw c.in-Once.is (c.unite.ensures.stands a before v e s)
-
-pub returns-then-empty : goal.returns-then-empty
-returns-then-empty c a before v e s =
-    rw c.in-Option.is (dropped_stands a (c.unite-then-empty.ensures.stands a before v e s) (sym e ∙ c.if-empty.true))
 
 pub returns-else-empty : goal.returns-else-empty
 returns-else-empty c a before v e s =

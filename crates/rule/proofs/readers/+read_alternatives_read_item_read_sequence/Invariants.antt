@@ -4,6 +4,8 @@ use mathlib.Core.List.{List}
 use Prim.Native.Nat.{ℕ, ◌+◌, ◌-◌, ◌*◌, ◌≤◌}
 use lib.ListN.{drop, length}
 use Rattle.model.specs.Models.Reader.{seq}
+use Rattle.std.proofs.Common.{Result}
+use Rattle.rule_bytes.specs.declared.Unreadable.{Unreadable}
 use Rattle.rule.specs.Parts.{PartSays, Ready}
 use Rattle.rule.specs.declared.parts.Part.{Part}
 use Rattle.rule.proofs.readers.+read_alternatives_read_item_read_sequence.Given as goal
@@ -22,10 +24,10 @@ decreases-read_sequence l = 3 * (length l.rule.now - l.at) + 2
 pub record Going (rule : List ℕ) (at : ℕ) (before : List ℕ) (n : ℕ) (now : List ℕ) (place next : ℕ) (can_be_empty : Bool) : Type 0 where
   pub ready : Ready rule place now next
   pub on : at ≤ place
-  pub goes : (final : List ℕ) (r : Part) → PartSays can_be_empty rule next (seq (drop place rule)) now final r → PartSays true rule n (seq (drop at rule)) before final r
+  pub goes : (final : List ℕ) (r : Result Part Unreadable) → PartSays can_be_empty rule next (seq (drop place rule)) now final r → PartSays true rule n (seq (drop at rule)) before final r
 
-abbrev pub invariant-read_sequence-loop-p : goal.invariant-read_sequence-loop-p
-invariant-read_sequence-loop-p l = Going l.rule l.at l.initial.tokens l.n l.tokens l.place l.next l.can_be_empty
+abbrev pub invariant-read_sequence-loop-item : goal.invariant-read_sequence-loop-item
+invariant-read_sequence-loop-item l = Going l.rule l.at l.initial.tokens l.n l.tokens l.read.place l.read.next l.read.empty
 
-abbrev pub decreases-read_sequence-loop-p : goal.decreases-read_sequence-loop-p
-decreases-read_sequence-loop-p l = length l.rule - l.place
+abbrev pub decreases-read_sequence-loop-item : goal.decreases-read_sequence-loop-item
+decreases-read_sequence-loop-item l = length l.rule - l.read.place

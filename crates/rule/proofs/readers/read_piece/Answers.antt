@@ -1,24 +1,18 @@
 -- A letter, and then its sign.
 use mathlib.Core.Bool.{true}
 use Rattle.rule.specs.Parts.{after_letter, PartSays}
+use Rattle.rule_bytes.proofs.Laws.Answers.{given_on}
 use Rattle.rule_bytes.proofs.Laws.Binds.{bind_goes, bind_stops}
 use Rattle.rule.proofs.Laws.Placed.{piece_tells}
 use Rattle.rule.proofs.readers.read_piece.Goals as goal
 
-pub read_repeated-requires : goal.read_repeated-requires
-read_repeated-requires c =
-    let t = rw c.in-Got.is at c.read_letter-letter.ensures.reads in
-    record { inside = t.inside; short = c.requires.short; room = c.requires.room; few = c.requires.few }
+pub returns-in_err-class : goal.returns-in_err-class
+returns-in_err-class c =
+    rw (given_on c.from_residual.ensures.1) (piece_tells _ _ _ _ _ c.requires.inside _ (bind_stops after_letter c.in_err-class.ensures.reads))
 
-pub returns-in-Bad : goal.returns-in-Bad
-returns-in-Bad c =
-    piece_tells _ _ _ _ _ c.requires.inside _
-    (bind_stops after_letter (rw c.in-Bad.is at c.read_letter-letter.ensures.reads))
-
-pub returns-in-Got : goal.returns-in-Got
-returns-in-Got c =
+pub returns : goal.returns
+returns c =
     let a = c.args in
-    let t = rw c.in-Got.is at c.read_letter-letter.ensures.reads in
     piece_tells _ _ _ _ _ c.requires.inside _
-    (bind_goes t after_letter (λ m. PartSays true a.rule.now a.n m a.tokens.now c.read_repeated.new.tokens c.read_repeated.result)
-    c.read_repeated.ensures)
+    (bind_goes c.in_ok-class.ensures.reads after_letter
+    (λ m. PartSays true a.rule.now a.n m a.tokens.now c.read_repeated.new.tokens c.read_repeated.result) c.read_repeated.ensures)

@@ -11,7 +11,7 @@ use Rattle.model.specs.Models.Words.{Fit}
 use Rattle.model.specs.Tree.{end, once, option, Repeat}
 use Rattle.model.proofs.Laws.Stores.{sets_append}
 use Rattle.rule_letters.specs.Classes.{bytes_of, words_of}
-use Rattle.rule_letters.specs.declared.Class.{Class}
+use Rattle.rule_letters.specs.declared.classes.Class.{Class}
 use Rattle.tokens.specs.Kinds.{repeat_kind}
 use Rattle.tokens.specs.Tokens.{repeat_of}
 use Rattle.rule.specs.Tokens.{cut, Stands, times_words}

@@ -4,15 +4,9 @@ use mathlib.Core.Bool.{true}
 use Rattle.model.specs.Bytes.{hexadecimal}
 use Rattle.model.specs.Models.Reader.{read_hex, read_hexes}
 use Rattle.rule_letters.specs.Answers.{ByteSays}
-use Rattle.rule_letters.proofs.Laws.Escapes.{hexes_go, hexes_low}
-use Rattle.rule_bytes.proofs.Laws.Places.{goes, passes, stops}
+use Rattle.rule_letters.proofs.Laws.Escapes.{hexes_go}
+use Rattle.rule_bytes.proofs.Laws.Places.{goes, passes}
 use Rattle.rule_letters.proofs.escapes.read_hexes.Goals as goal
-
-pub returns-then-h-lo : goal.returns-then-h-lo
-returns-then-h-lo c =
-    let b = c.byte_at-x in
-    stops c.args.rule.now c.args.at b.ensures (read_hexes c.args.lo) c.requires refl
-    (λ xs. hexes_low c.args.lo b.result xs c.hex_value-h.ensures.0 c.if-h-lo.true)
 
 pub returns : goal.returns
 returns c =

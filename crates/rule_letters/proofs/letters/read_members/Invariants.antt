@@ -5,8 +5,8 @@ use Rattle.rule_letters.specs.Classes.{bytes_of}
 use Rattle.rule_letters.proofs.Laws.Members.{Members}
 use Rattle.rule_letters.proofs.letters.read_members.Given as goal
 
-abbrev pub invariant-loop-more : goal.invariant-loop-more
-invariant-loop-more l = Members l.rule l.at (bytes_of l.class) l.p
+abbrev pub invariant-loop-member : goal.invariant-loop-member
+invariant-loop-member l = Members l.rule l.at (bytes_of l.class) l.p
 
-abbrev pub decreases-loop-more : goal.decreases-loop-more
-decreases-loop-more l = length l.rule - l.p
+abbrev pub decreases-loop-member : goal.decreases-loop-member
+decreases-loop-member l = length l.rule - l.p

@@ -6,9 +6,6 @@ use Rattle.model.specs.Models.Run.{fall_words}
 use Rattle.run.specs.Work.{pass_masks}
 use Rattle.run.proofs.steps.fall.Given as goal
 
-abbrev pub invariant-loop-left : goal.invariant-loop-left
-invariant-loop-left l =
-    (l.left ≤ l.depth) × (fall_words (pass_masks l.n l.table) l.left (l.depth - l.left) (take l.n l.r.words) ≡ fall_words (pass_masks l.n l.table) l.depth 0 (take l.n l.initial.r.words))
-
-abbrev pub decreases-loop-left : goal.decreases-loop-left
-decreases-loop-left l = l.left
+abbrev pub invariant-loop-k : goal.invariant-loop-k
+invariant-loop-k l =
+    (l.k ≤ l.depth) × (fall_words (pass_masks l.n l.table) (l.depth - l.k) l.k (take l.n l.r.words) ≡ fall_words (pass_masks l.n l.table) l.depth 0 (take l.n l.initial.r.words))

@@ -9,6 +9,3 @@ use Rattle.run.proofs.steps.rise.Given as goal
 abbrev pub invariant-loop-k : goal.invariant-loop-k
 invariant-loop-k l =
     (l.k ≤ l.depth) × (rise_words (pass_masks l.n l.table) l.k (take l.n l.r.words) ≡ rise_words (pass_masks l.n l.table) l.depth (take l.n l.initial.r.words))
-
-abbrev pub decreases-loop-k : goal.decreases-loop-k
-decreases-loop-k l = l.k

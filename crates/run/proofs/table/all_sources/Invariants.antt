@@ -7,6 +7,3 @@ use Rattle.run.proofs.table.all_sources.Given as goal
 
 abbrev pub invariant-loop-k : goal.invariant-loop-k
 invariant-loop-k l = (l.k ≤ l.depth) × Sources l.table l.k l.r.words × (length l.r.words ≡ 8)
-
-abbrev pub decreases-loop-k : goal.decreases-loop-k
-decreases-loop-k l = l.depth - l.k

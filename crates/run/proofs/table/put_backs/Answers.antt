@@ -13,9 +13,6 @@ loop-i-init c =
     let a = c.args in
     (omega arith, (within c.requires.0).deep, backs_begin a.image.now a.sections.width a.sections.depth a.table.now)
 
-pub overflow_mul-depth : goal.overflow_mul-depth
-overflow_mul-depth c = omega (arith, c.loop-i.invariant.1)
-
 pub overflow_mul-width : goal.overflow_mul-width
 overflow_mul-width c =
     let I = within c.requires.0 in
@@ -26,25 +23,10 @@ overflow_add-at c =
     let I = within c.requires.0 in
     omega (arith, backs_in I, I.short, part_fits c.args.sections.width {k = c.loop-i.i} {n = 2 * c.args.sections.depth} c.loop-i-test.true)
 
-pub row_at-row-requires : goal.row_at-row-requires
-row_at-row-requires c =
+pub row_at-requires : goal.row_at-requires
+row_at-requires c =
     let I = within c.requires.0 in
     (I.narrow, omega (arith, backs_in I, part_fits c.args.sections.width {k = c.loop-i.i} {n = 2 * c.args.sections.depth} c.loop-i-test.true))
-
-pub overflow_add-row : goal.overflow_add-row
-overflow_add-row c = omega (arith, c.loop-i.invariant.1, c.loop-i-test.true)
-
-pub offset_bounds-table-i : goal.offset_bounds-table-i
-offset_bounds-table-i c = omega (arith, c.loop-i.invariant.1, c.loop-i-test.true)
-
-pub bounds-table-i : goal.bounds-table-i
-bounds-table-i c = omega (arith, c.loop-i.invariant.1, c.loop-i-test.true)
-
-pub overflow_add-i : goal.overflow_add-i
-overflow_add-i c = omega (arith, c.loop-i.invariant.1, c.loop-i-test.true)
-
-pub loop-i-smaller : goal.loop-i-smaller
-loop-i-smaller c = omega (arith, c.loop-i-test.true)
 
 pub loop-i-preserved : goal.loop-i-preserved
 loop-i-preserved c =
@@ -54,7 +36,7 @@ loop-i-preserved c =
       omega (arith, t),
       l.invariant.1,
       backs_more l.invariant.2 (omega (arith, l.invariant.1, t)) c.requires.1
-          (c.row_at-row.ensures ∙ ap (λ (at : ℕ). row_at a.image.now (at + a.sections.width * l.i) a.sections.width) (back_is c.requires.0)),
+          (c.row_at.ensures ∙ ap (λ (at : ℕ). row_at a.image.now (at + a.sections.width * l.i) a.sections.width) (back_is c.requires.0)),
     )
 
 pub returns : goal.returns

@@ -5,6 +5,3 @@ use Rattle.run.proofs.table.put_backs.Given as goal
 
 abbrev pub invariant-loop-i : goal.invariant-loop-i
 invariant-loop-i l = (l.i ≤ 2 * l.depth) × (l.depth ≤ 8) × PutBacks l.i l.image l.width l.depth l.initial.table l.table
-
-abbrev pub decreases-loop-i : goal.decreases-loop-i
-decreases-loop-i l = 2 * l.depth - l.i

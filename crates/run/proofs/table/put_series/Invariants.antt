@@ -4,7 +4,4 @@ use Rattle.run.specs.Work.{PutTo}
 use Rattle.run.proofs.table.put_series.Given as goal
 
 abbrev pub invariant-loop-k : goal.invariant-loop-k
-invariant-loop-k l = (l.k ≤ 9) × PutTo l.k l.j l.masks l.initial.table l.table
-
-abbrev pub decreases-loop-k : goal.decreases-loop-k
-decreases-loop-k l = 9 - l.k
+invariant-loop-k l = (l.k ≤ 9) × PutTo l.k l.j l.row-items l.initial.table l.table

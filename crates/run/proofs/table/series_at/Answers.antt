@@ -21,8 +21,8 @@ overflow_add-at c =
     let a = c.args in
     omega (arith, within_series a.width a.count c.loop-k.k a.which c.loop-k-test.true c.requires.2)
 
-pub row_at-row-requires : goal.row_at-row-requires
-row_at-row-requires c =
+pub row_at-requires : goal.row_at-requires
+row_at-requires c =
     let a = c.args in
     (c.requires.0, omega (arith, within_series a.width a.count c.loop-k.k a.which c.loop-k-test.true c.requires.2))
 
@@ -31,7 +31,7 @@ loop-k-preserved c =
     let l = c.loop-k in
     let a = c.args in
     let k : l.k < 9 = omega (arith, c.requires.1, c.loop-k-test.true) in
-    (omega arith, ap₂ (λ (t : List (List ℕ)) (w : List ℕ). set t l.k w) l.invariant.1 c.row_at-row.ensures ∙ series_more a.image.now a.at a.width a.which l.k k)
+    (omega arith, ap₂ (λ (t : List (List ℕ)) (w : List ℕ). set t l.k w) l.invariant.1 c.row_at.ensures ∙ series_more a.image.now a.at a.width a.which l.k k)
 
 pub returns : goal.returns
 returns c =

@@ -6,6 +6,3 @@ use Rattle.run.proofs.table.series_at.Given as goal
 
 abbrev pub invariant-loop-k : goal.invariant-loop-k
 invariant-loop-k l = (l.k ≤ l.count) × (l.r ≡ series_at l.image l.at l.width l.k l.which)
-
-abbrev pub decreases-loop-k : goal.decreases-loop-k
-decreases-loop-k l = l.count - l.k

@@ -9,8 +9,8 @@ use Rattle.run.proofs.table.table.Goals as goal
 pub loop-j-init : goal.loop-j-init
 loop-j-init c = (refl, λ k i h l. absurd (omega arith))
 
-pub series-masks-requires : goal.series-masks-requires
-series-masks-requires c = (c.requires, c.loop-j-test.true)
+pub series-requires : goal.series-requires
+series-requires c = (c.requires, c.loop-j-test.true)
 
 pub put_series-requires : goal.put_series-requires
 put_series-requires c = (c.loop-j-test.true, c.loop-j.invariant.0)
@@ -20,7 +20,7 @@ loop-j-preserved c =
     let l = c.loop-j in
     let a = c.args in
     let p = c.put_series.ensures in
-    (p.long ∙ l.invariant.0, series_entered (series_row a.image.now a.sections.width a.sections.depth) l.invariant.1 c.loop-j-test.true p c.series-masks.ensures)
+    (p.long ∙ l.invariant.0, series_entered (series_row a.image.now a.sections.width a.sections.depth) l.invariant.1 c.loop-j-test.true p c.series.ensures)
 
 pub put_backs-requires : goal.put_backs-requires
 put_backs-requires c = (c.requires, c.loop-j.invariant.0)

@@ -8,6 +8,3 @@ use Rattle.run.proofs.table.table.Given as goal
 
 abbrev pub invariant-loop-j : goal.invariant-loop-j
 invariant-loop-j l = (length l.r ≡ 97) × ((k i : ℕ) → k < 9 → i < l.j → get_or l.r (9 * k + i) [] ≡ series_row l.image l.sections.width l.sections.depth i k)
-
-abbrev pub decreases-loop-j : goal.decreases-loop-j
-decreases-loop-j l = 9 - l.j

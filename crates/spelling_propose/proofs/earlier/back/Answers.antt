@@ -2,9 +2,6 @@
 use Rattle.spelling_propose.proofs.Laws.Back.{back_says}
 use Rattle.spelling_propose.proofs.earlier.back.Goals as goal
 
-pub leave-left-requires : goal.leave-left-requires
-leave-left-requires c = c.requires
-
 pub returns : goal.returns
 returns c =
     let a = c.args in

@@ -1,5 +1,5 @@
 -- `find_origins`: each turn puts one state more into the rows of what it reaches.
-use Rattle.spelling_propose.proofs.Laws.Origins.{found_all, found_more, found_none}
+use Rattle.spelling_propose.proofs.Laws.Origins.{found_none}
 use Rattle.spelling_propose.proofs.origins.find_origins.Goals as goal
 
 pub loop-q-init : goal.loop-q-init

@@ -1,6 +1,5 @@
 -- `into`: each turn takes the states of one word more.
 use mathlib.Core.Path.{◌≡◌}
-use native.Mathlib.Omega.{arith}
 use lib.ListN.{length}
 use Rattle.mask.proofs.Laws.Bits.{fit_row}
 use Rattle.spelling_propose.proofs.Laws.Origins.{gathered_all, gathered_more, gathered_none}

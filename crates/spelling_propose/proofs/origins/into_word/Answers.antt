@@ -1,6 +1,5 @@
 -- `into_word`: each turn takes the origins of the lowest state that is left of the word; at the end none is left.
-use native.Mathlib.Omega.{arith}
-use Rattle.spelling_propose.proofs.Laws.Origins.{inside, taking_all, taking_less, taking_more, taking_none}
+use Rattle.spelling_propose.proofs.Laws.Origins.{taking_all, taking_less, taking_more, taking_none}
 use Rattle.spelling_propose.proofs.origins.into_word.Goals as goal
 
 pub loop-left-init : goal.loop-left-init

@@ -7,12 +7,6 @@ use Rattle.spelling_propose.proofs.Laws.Walk.{choose_says}
 use borrow.Author.Rules.{rules}
 use Rattle.spelling_propose.proofs.write.choose.Goals as goal
 
-pub reach-from-requires : goal.reach-from-requires
-reach-from-requires c = c.requires
-
-pub enter-entered-requires : goal.enter-entered-requires
-enter-entered-requires c = c.requires.0
-
 pub returns : goal.returns
 returns c =
     let n = c.enter-entered in

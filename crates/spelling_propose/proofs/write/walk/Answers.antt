@@ -1,5 +1,5 @@
 -- `walk`: each turn writes one state more.
-use Rattle.spelling_propose.proofs.Laws.Walk.{walking_all, walking_more, walking_none}
+use Rattle.spelling_propose.proofs.Laws.Walk.{walking_all, walking_more}
 use Rattle.spelling_propose.proofs.write.walk.Goals as goal
 
 pub loop-k-preserved : goal.loop-k-preserved

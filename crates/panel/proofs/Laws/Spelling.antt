@@ -12,7 +12,7 @@ use Rattle.panel.specs.Says.{Gives, its_count, one_if_yes, StartsBefore}
 use Rattle.panel.proofs.Laws.Given.{Apart, apart, one_given}
 
 -- ---- CHECK: 1 or 0, which fits, and no place
-yes_small : (b : Bool) → one_if_yes b < 2 ^ 32
+pub yes_small : (b : Bool) → one_if_yes b < 2 ^ 32
 yes_small true = omega arith
 yes_small false = omega arith
 

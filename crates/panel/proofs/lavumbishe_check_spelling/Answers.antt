@@ -9,7 +9,8 @@ use Rattle.panel.proofs.lavumbishe_check_spelling.Goals as goal
 pub pack-requires : goal.pack-requires
 pack-requires c =
     let j = c.check_spelling-judged in
-    omega (arith, (judged_halves _ (λ x n h. search rules) j.result c.map.result c.map.ensures.cases).low, check_placeless j.ensures, yes_small (judgement j.result).given)
+    let h = judged_halves _ (λ x n h. search rules) j.result c.map.result c.map.ensures.cases in
+    omega (arith, h.low, check_placeless j.ensures, yes_small (judgement j.result).given)
 
 pub returns : goal.returns
 returns c =

@@ -85,7 +85,8 @@ fn over_fixed<const DEPTH: usize, const ANY: bool>(
     over(image, stretch, ends, from, last, reach)
 }
 
-// The same for any depth.
+// The same for any depth. This one alone, called with literals for the depth and the presence of chains, is not unfolded: a byte takes 35 instructions
+// where it takes 22 (depth 0).
 fn over_plain(
     image: &[u64],
     stretch: &[u8],

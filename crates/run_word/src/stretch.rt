@@ -1,5 +1,5 @@
-// The run over a stretch of bytes, from any live states and any place, for a rule of at most 64 states. The loop stands once: where it is called with
-// the depth and the presence of chains as literals, the compiler makes a loop of its own for them.
+// The run over a stretch of bytes, from any live states and any place, for a rule of at most 64 states. The loop stands once, and is
+// given its own part of a step as a closure: the compiler makes a loop for each of them.
 ghost use Rattle.std.specs.Prelude.{◌≡◌, ◌<◌, ◌≤◌, Bool, List, ℕ, [], ◌∷◌, slice_index};
 ghost use Rattle.model.specs.Bits.{bit};
 ghost use Rattle.model.specs.Models.Words.{value};
@@ -65,7 +65,7 @@ fn over<F: Fn(u64) -> u64>(
     }
 }
 
-// The loop of a rule without back edges for one depth, and for rules with chains or without: the compiler makes one of its own for each.
+// The loop of a rule without back edges for one depth, and for rules with chains or without.
 fn over_fixed<const DEPTH: usize, const ANY: bool>(
     image: &[u64],
     stretch: &[u8],
@@ -85,7 +85,8 @@ fn over_fixed<const DEPTH: usize, const ANY: bool>(
     over(image, stretch, ends, from, last, reach)
 }
 
-// The same for any depth.
+// The same for any depth. This one alone, called with literals for the depth and the presence of chains, is not unfolded: a byte takes 35 instructions
+// where it takes 22 (depth 0).
 fn over_plain(
     image: &[u64],
     stretch: &[u8],

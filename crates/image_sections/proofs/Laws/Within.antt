@@ -126,4 +126,3 @@ module _ {p : Sections} {n : ℕ} (I : Within p n) where
   -- and one mask past them
   pub past_gather : p.gather + 2 * p.width + 3 * p.width * p.depth ≤ n
   past_gather = omega (arith, I.gathers, propagate_fits, spread 3 p.depth, mul-add (3 * p.width) p.depth 1)
-

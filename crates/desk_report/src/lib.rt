@@ -5,9 +5,9 @@
 ghost use Rattle.std.specs.Prelude.{◌≤◌, length, take};
 ghost use Rattle.program_lines.specs.Lines.{Reports};
 ghost use Rattle.program_lines.specs.Work.{PutAt};
-ghost use Rattle.desk_report.specs.Desk.{DeskSays, found_text, Matches, ReadsBack};
+ghost use Rattle.desk_report.specs.Desk.{DeskSays, found_text, TriedSays};
 
-use answers::Answer;
+use answers::Refusal;
 use program_lines::{put_ends, put_line, put_refusal, put_total};
 use watcher::{build, match_ends, read_back};
 
@@ -21,39 +21,28 @@ fn put_found(text: &mut [u8], writing: &[u8], total: usize, ends: &[u32]) -> usi
     put_ends(text, second, ends, total)
 }
 
-// Match, with room for 1,000 ends.
-fn report_ends(image: &[u64], journal: &[u8], writing: &[u8], text: &mut [u8]) -> usize
-    requires { length writing.now ≤ 16384 }
-    ensures { Reports (Matches image.now journal.now writing.now) text.old result text.new }
+// Build with room for the longest image, read back into 16,384 bytes, match with room for 1,000 ends; and then the text. The first refusal ends it, and nothing
+// is written.
+fn try_report(rule: &[u8], journal: &[u8], text: &mut [u8]) -> Result<usize, Refusal>
+    ensures { TriedSays rule.now journal.now text.old result text.new }
 {
+    let mut words = [0u64; 4834];
+    let built = build(rule, &mut words)?;
+    let image = &words[..built];
+    let mut bytes = [0u8; 16384];
+    let written = read_back(image, &mut bytes)?;
+    let writing = &bytes[..written];
     let mut ends = [0u32; 1000];
-    let matched = match_ends(image, journal, &mut ends);
-    match matched {
-        Answer::Refused(refusal) => put_refusal(text, refusal),
-        Answer::Done(total) => put_found(text, writing, total, &ends),
-    }
-}
-
-// Read back, into 16,384 bytes.
-fn report_image(image: &[u64], journal: &[u8], text: &mut [u8]) -> usize
-    ensures { Reports (ReadsBack image.now journal.now) text.old result text.new }
-{
-    let mut writing = [0u8; 16384];
-    let written = read_back(image, &mut writing);
-    match written {
-        Answer::Refused(refusal) => put_refusal(text, refusal),
-        Answer::Done(length) => report_ends(image, journal, &writing[..length], text),
-    }
+    let total = match_ends(image, journal, &mut ends)?;
+    Ok(put_found(text, writing, total, &ends))
 }
 
 // The whole text for a rule and a journal: its length, and what fits of it in the bytes lent. No text is longer than 22,397 bytes.
 pub fn report(rule: &[u8], journal: &[u8], text: &mut [u8]) -> usize
     ensures { Reports (DeskSays rule.now journal.now) text.old result text.new }
 {
-    let mut image = [0u64; 4834];
-    let built = build(rule, &mut image);
-    match built {
-        Answer::Refused(refusal) => put_refusal(text, refusal),
-        Answer::Done(length) => report_image(&image[..length], journal, text),
+    match try_report(rule, journal, text) {
+        Ok(length) => length,
+        Err(refusal) => put_refusal(text, refusal),
     }
 }

@@ -31,7 +31,8 @@ fn show_depth(rt: &impl Print, label: &[u8], masks: &[u64]) -> io::Result<()> {
 // The masks of a rule of at most 64 states and depth 1.
 fn show_masks(rt: &impl Print, rule: &[u8]) -> io::Result<()> {
     let mut image = [0u64; 4834];
-    build(rule, &mut image);
+    // Each of these rules is built.
+    let _ = build(rule, &mut image);
     let Sections {
         scatter,
         gather,

@@ -1,5 +1,6 @@
 -- WHAT THE PROGRAM RELIES ON: how long a number can be, and that what a call of the watcher has found lies in the journal.
-use mathlib.Core.Path.{◌≡◌, ap, subst}
+use Rattle.std.specs.Prelude.{Ok, true}
+use mathlib.Core.Path.{◌≡◌, ap}
 use mathlib.Core.Bool.{cond}
 use mathlib.Core.List.{List, [], ◌∷◌}
 use Prim.Native.Nat.{ℕ, ◌+◌, ◌-◌, ◌^◌, ◌≤◌, ◌<◌}
@@ -7,17 +8,9 @@ use native.Mathlib.Omega.{arith}
 use lib.ListN.{drop, length, length-append, length-drop, length-replicate, length-take, replicate}
 use Rattle.model.specs.Spelling.{between, CheckSays, Judgement, no_end, no_room, Proposal, proposed, ProposeSays, Spelled, right, wrong}
 use Rattle.answers.specs.Answers.{judgement, proposal}
-use Rattle.answers.specs.declared.Judged.{Judged}
-use Rattle.answers.specs.declared.Judged.TheVariants.{Yes}
 use Rattle.answers.specs.declared.Proposed.{Proposed}
-use Rattle.answers.specs.declared.Proposed.TheVariants.{Done}
 use Rattle.program_lines.specs.Lines.{decimal}
 use Rattle.program_lines.proofs.Laws.Numbers.{number_short}
-use Rattle.explain.specs.Readings.{Fits, Small}
-use Rattle.explain.specs.declared.reading.Numbered.{Numbered}
-use Rattle.explain.specs.declared.reading.Numbered.TheVariants.{Of}
-use Rattle.explain.specs.declared.reading.Reading.{Reading}
-use Rattle.explain.specs.declared.reading.Reading.TheVariants as readings
 
 -- ---- HOW LONG
 pub ten_digits : (n : ℕ) → n < 2 ^ 32 → length (decimal n) ≤ 10
@@ -25,17 +18,6 @@ ten_digits n l = omega (arith, number_short 9 n (omega (arith, l)), length-appen
 
 pub room_enough : (n : ℕ) → n ≤ length {A = ℕ} (replicate n 0)
 room_enough n = omega (arith, length-replicate {A = ℕ} n 0)
-
--- ---- WHAT WAS READ
-pub small_number : {n after : ℕ} (x : Numbered) → Small x → x ≡ Of n after → n ≤ 1000000
-small_number x s e = subst Small e s
-
-module _ (room : ℕ) (x : Reading) (F : Fits room x) where
-  pub line_fits : {line : ℕ} → x ≡ readings.Unreadable line → Fits room (readings.Unreadable line)
-  line_fits e = subst (Fits room) e F
-
-  pub states_fit : {start end count : ℕ} → x ≡ readings.Proposal start end count → Fits room (readings.Proposal start end count)
-  states_fit e = subst (Fits room) e F
 
 -- ---- WHAT WAS FOUND: two places of a journal that is not too long, and as many states as there are bytes between them
 pub record Lies (journal : List ℕ) (start end count : ℕ) : Type 0 where
@@ -47,33 +29,26 @@ pub record Lies (journal : List ℕ) (start end count : ℕ) : Type 0 where
 lies : {t : _} {journal states : List ℕ} {start end : ℕ} → length journal ≤ 65535 → Spelled t journal start end states → Lies journal start end (length states)
 lies f S = record { few = f; inside = S.inside; ordered = S.ordered; each = S.each }
 
-module _ {words journal states : List ℕ} {start end : ℕ} where
-  yes_lies : CheckSays words journal start end states (judgement Yes) → Lies journal start end (length states)
-  yes_lies (CheckSays.not_an_image n e) = absurd (omega (arith, ap (λ (a : Judgement). a.number) e))
-  yes_lies (CheckSays.text_too_long t i l e) = absurd (omega (arith, ap (λ (a : Judgement). a.number) e))
-  yes_lies (right t i l S e) = lies l S
-  yes_lies (wrong t i l n e) = absurd (omega (arith, ap {B = ℕ} (λ (a : Judgement). cond a.given 0 1) e))
+pub right_lies : {words journal states : List ℕ} {start end : ℕ} → CheckSays words journal start end states (judgement (Ok true)) → Lies journal start end (length states)
+right_lies (CheckSays.not_an_image n e) = absurd (omega (arith, ap (λ (a : Judgement). a.number) e))
+right_lies (CheckSays.text_too_long t i l e) = absurd (omega (arith, ap (λ (a : Judgement). a.number) e))
+right_lies (right t i l S e) = lies l S
+right_lies (wrong t i l n e) = absurd (omega (arith, ap {B = ℕ} (λ (a : Judgement). cond a.given 0 1) e))
 
-  pub right_lies : (j : Judged) → CheckSays words journal start end states (judgement j) → j ≡ Yes → Lies journal start end (length states)
-  right_lies j C e = yes_lies (subst (λ (q : Judged). CheckSays words journal start end states (judgement q)) e C)
-
-module _ {words journal before : List ℕ} (after : List ℕ) {start end count : ℕ} where
-  done_lies : ProposeSays words journal end before (proposal (Done start count) after) → Lies journal start end count
-  done_lies (ProposeSays.not_an_image n e) = absurd (omega (arith, ap (λ (a : Proposal). a.number) e))
-  done_lies (ProposeSays.text_too_long t i l e) = absurd (omega (arith, ap (λ (a : Proposal). a.number) e))
-  done_lies (no_end t i l n e) = absurd (omega (arith, ap (λ (a : Proposal). a.number) e))
-  done_lies (no_room t s i l L n e) = absurd (omega (arith, ap (λ (a : Proposal). a.number) e))
-  done_lies (proposed t s states i l L n S e) =
-      let at = ap (λ (a : Proposal). a.given.start) e in
-      record {
-        few = l;
-        inside = S.inside;
-        ordered = omega (arith, S.ordered, at);
-        each = omega (arith, ap (λ (a : Proposal). a.given.count) e, at);
-      }
-
-  pub proposed_lies : (p : Proposed) → ProposeSays words journal end before (proposal p after) → p ≡ Done start count → Lies journal start end count
-  proposed_lies p P e = done_lies (subst (λ (q : Proposed). ProposeSays words journal end before (proposal q after)) e P)
+pub proposed_lies : {words journal before : List ℕ} (after : List ℕ) {end : ℕ} (p : Proposed) → ProposeSays words journal end before (proposal (Ok p) after)
+    → Lies journal p.start end p.count
+proposed_lies after p (ProposeSays.not_an_image n e) = absurd (omega (arith, ap (λ (a : Proposal). a.number) e))
+proposed_lies after p (ProposeSays.text_too_long t i l e) = absurd (omega (arith, ap (λ (a : Proposal). a.number) e))
+proposed_lies after p (no_end t i l n e) = absurd (omega (arith, ap (λ (a : Proposal). a.number) e))
+proposed_lies after p (no_room t s i l L n e) = absurd (omega (arith, ap (λ (a : Proposal). a.number) e))
+proposed_lies after p (proposed t s states i l L n S e) =
+    let at = ap (λ (a : Proposal). a.given.start) e in
+    record {
+      few = l;
+      inside = S.inside;
+      ordered = omega (arith, S.ordered, at);
+      each = omega (arith, ap (λ (a : Proposal). a.given.count) e, at);
+    }
 
 pub states_few : {journal : List ℕ} {start end count : ℕ} → Lies journal start end count → count ≤ 65535
 states_few L = omega (arith, L.each, L.inside, L.few)

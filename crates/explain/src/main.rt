@@ -48,7 +48,7 @@ fn confirm(
     ensures { result ≤ 2162687 }
 {
     let length = put_record(text, stretch, start, end, states);
-    if *record == text[..length] {
+    if record == &text[..length] {
         put_line(text, 0, b"yes")
     } else {
         put_line(text, 0, b"no")

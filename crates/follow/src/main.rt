@@ -27,6 +27,7 @@ fn follow(
     let mut watching = first;
     let mut stretch = [0u8; 4096];
     let mut text = [0u8; 45056];
+    // No for: where the journal ends is found on the way.
     loop {
         let count = read_some(journal, &mut stretch);
         if count == 0 {

@@ -28,6 +28,7 @@ fn same_repeat(words: &[u64], letters: usize, repeats: usize, width: usize, loop
     true
 }
 
+// The same for each byte.
 fn same_repeats(words: &[u64], sections: Sections, loops: [u64; 8]) -> bool
     requires { Within sections (length_of words.now) }
     ensures { result ≡ same_repeats words.now sections.letters sections.repeats sections.width loops }

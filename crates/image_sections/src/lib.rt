@@ -33,7 +33,7 @@ pub fn sections_of(states: usize, depth: usize) -> Sections
     requires { (states ≤ 512) × (depth ≤ 8) }
     ensures { result ≡ sections_of states depth }
 {
-    let width = (states + 63) / 64;
+    let width = states.div_ceil(64);
     let bytes = 256 * width;
     let unions = 3 * width * depth;
     let repeats = 6 + bytes;

@@ -36,7 +36,7 @@ fn read_shape(words: &[u64]) -> Option<Sections>
     if states < 2 || states > 512 {
         return None;
     }
-    if width != (states + 63) / 64 {
+    if width != states.div_ceil(64) {
         return None;
     }
     if depth > 8 {

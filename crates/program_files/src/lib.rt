@@ -13,6 +13,7 @@ pub fn read_full(reader: &mut impl Read, bytes: &mut [u8]) -> usize
     ensures { IsPrefixLen result bytes.new }
 {
     let mut done = 0;
+    // No for: the place moves on by what was read, and no read_exact: that says no count where there is less.
     while done < bytes.len() {
         let count = reader.read(&mut bytes[done..]).unwrap_or(0);
         if count == 0 {

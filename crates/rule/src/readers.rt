@@ -96,23 +96,20 @@ fn read_sequence(
     requires { Ready rule.now at tokens.old n }
     ensures { PartTells IsSeq over seq rule.now at n tokens.old tokens.new result }
 {
-    let mut read = Part {
-        place: at,
-        next: n,
-        empty: true,
-    };
+    let mut place = at;
+    let mut next = n;
+    let mut empty = true;
     // No for: the place moves on by what was read.
     loop {
-        let answer = read_item(rule, read.place, tokens, read.next);
+        let answer = read_item(rule, place, tokens, next);
         let Ok(item) = answer else {
             return answer;
         };
-        read = Part {
-            empty: read.empty & item.empty,
-            ..item
-        };
-        if is_over(rule, read.place) {
-            return Ok(read);
+        place = item.place;
+        next = item.next;
+        empty = empty & item.empty;
+        if is_over(rule, place) {
+            return Ok(Part { place, next, empty });
         }
     }
 }

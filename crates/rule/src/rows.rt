@@ -78,6 +78,8 @@ fn insert_open(tokens: &mut [u64; 2555], from: usize, to: usize)
 }
 
 // A union's open before the tokens `from` to `to` less 1, and after them its close, which shows this mark; the number of the token after it.
+// A call of its own, as `double` is: so the frames of the three readers stay small.
+#[inline(never)]
 pub fn enclose(tokens: &mut [u64; 2555], from: usize, to: usize, mark: Mark) -> usize
     requires { Numbered from to }
     ensures count { result ≡ cut (to + 2) }
@@ -88,6 +90,7 @@ pub fn enclose(tokens: &mut [u64; 2555], from: usize, to: usize, mark: Mark) -> 
 }
 
 // The tokens `from` to `to` less 1 once more, after them; the number of the token after those.
+#[inline(never)]
 pub fn double(tokens: &mut [u64; 2555], from: usize, to: usize) -> usize
     requires { Numbered from to }
     ensures count { result ≡ cut (to + (to - from)) }

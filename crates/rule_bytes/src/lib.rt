@@ -21,8 +21,8 @@ enum Kind {
     Other,
 }
 
-// The kinds of the bytes 0 to 255.
-const KINDS: [Kind; 256] = [
+// The kinds of the bytes 0 to 255. A static: a constant of enums would be written anew wherever it is looked at.
+static KINDS: [Kind; 256] = [
     // 0 to 15
     Other, Other, Other, Other, Other, Other, Other, Other, Other, Other, Other, Other, Other,
     Other, Other, Other,

@@ -5,6 +5,7 @@ ghost use Rattle.model.specs.Grammar.{dot_class, span as span_of};
 ghost use Rattle.rule_letters.specs.Classes.{bytes_of, below_word, span_word};
 
 // A set of bytes: byte b is bit b mod 64 of word b / 64.
+// No array of words: span, none, dot and or would write the four out all the same.
 #[derive(Clone, Copy)]
 pub struct Class {
     pub word0: u64,

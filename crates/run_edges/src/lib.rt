@@ -49,7 +49,7 @@ pub fn reach(image: &[u64], sections: Sections, masks: &Work, q: usize) -> Mask
     close(one, sections.depth, 8, masks)
 }
 
-// The masks of a byte.
+// The masks of a byte. Two functions and not one: the place's function and its contract as arguments would be longer than either body.
 fn letters(image: &[u64], sections: Sections, byte: u8) -> [u64; 8]
     requires { Placed image.now sections }
     ensures { result ≡ letters_of image.now byte }

@@ -1,5 +1,5 @@
-// The run over a stretch of bytes, from any live states and any place, for a rule of at most 64 states. The loop stands once: where it is called with
-// the depth and the presence of chains as literals, the compiler makes a loop of its own for them.
+// The run over a stretch of bytes, from any live states and any place, for a rule of at most 64 states. The loop stands once, and is
+// given its own part of a step as a closure: the compiler makes a loop for each of them.
 ghost use Rattle.std.specs.Prelude.{◌≡◌, ◌<◌, ◌≤◌, Bool, List, ℕ, [], ◌∷◌, slice_index};
 ghost use Rattle.model.specs.Bits.{bit};
 ghost use Rattle.model.specs.Models.Words.{value};
@@ -65,8 +65,28 @@ fn over<F: Fn(u64) -> u64>(
     }
 }
 
-// The loop of a rule without back edges: where the depth and the presence of chains are literals, one of its own for them.
-#[inline(always)]
+// The loop of a rule without back edges for one depth, and for rules with chains or without.
+fn over_fixed<const DEPTH: usize, const ANY: bool>(
+    image: &[u64],
+    stretch: &[u8],
+    ends: &mut [u32],
+    from: From,
+    last: usize,
+    table: &[u64; 81],
+) -> Ran
+    requires { Overs image.now stretch.now from last × (DEPTH ≤ 8) }
+    ensures { RanFrom (work_masks image.now ANY table.now []) DEPTH last stretch.now from
+        ends.old result ends.new }
+{
+    let reach = |live: u64| -> u64
+        requires { DEPTH ≤ 8 }
+        ensures { Passed ANY (slice_index table.entry.now 6) (slice_index table.entry.now 7) (slice_index table.entry.now 8) table.entry.now DEPTH live result }
+    { pass(live, DEPTH, ANY, table) };
+    over(image, stretch, ends, from, last, reach)
+}
+
+// The same for any depth. This one alone, called with literals for the depth and the presence of chains, is not unfolded: a byte takes 35 instructions
+// where it takes 22 (depth 0).
 fn over_plain(
     image: &[u64],
     stretch: &[u8],
@@ -128,11 +148,11 @@ fn run_plain(
 {
     let t = *table;
     match (depth, any) {
-        (0, true) => over_plain(image, stretch, ends, from, last, 0, true, &t),
-        (0, false) => over_plain(image, stretch, ends, from, last, 0, false, &t),
-        (1, true) => over_plain(image, stretch, ends, from, last, 1, true, &t),
-        (1, false) => over_plain(image, stretch, ends, from, last, 1, false, &t),
-        (2, _) => over_plain(image, stretch, ends, from, last, 2, true, &t),
+        (0, true) => over_fixed::<0, true>(image, stretch, ends, from, last, &t),
+        (0, false) => over_fixed::<0, false>(image, stretch, ends, from, last, &t),
+        (1, true) => over_fixed::<1, true>(image, stretch, ends, from, last, &t),
+        (1, false) => over_fixed::<1, false>(image, stretch, ends, from, last, &t),
+        (2, _) => over_fixed::<2, true>(image, stretch, ends, from, last, &t),
         _ => over_plain(image, stretch, ends, from, last, depth, any, &t),
     }
 }

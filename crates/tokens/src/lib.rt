@@ -146,6 +146,7 @@ fn next_frame(frame: Frame, position: usize, can_be_empty: bool) -> Frame
     }
 }
 
+// The steps stay four functions: they differ in every part of what comes next, and one for all of them would be handed its own result.
 fn after_letter(scan: Scan, frame: Frame, repeat: Repeat) -> Next
     requires { (scan.position < 511) × (scan.depth ≤ 8) }
     ensures { StepSays scan frame (a_letter 0 (repeat_of repeat)) result }

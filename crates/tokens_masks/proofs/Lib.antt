@@ -1,5 +1,5 @@
--- `OfTree` and `Told` have the results: the tables of a tree's tape in document 01's terms, and which tapes are a tree's. `Painted` has the same for any tape that is a tree's, by its tokens,
--- and `FirstWords` what of a row goes into an image. The others in the order in which they are proved.
+-- `OfTree` and `Told` have the results: the tables of a tree's tape in document 01's terms, and which tapes are a tree's. `Painted` has the same for any
+-- tape that is a tree's, by its tokens, and `FirstWords` what of a row goes into an image. The others in the order in which they are proved.
 pub mod OfTree
 pub mod Told
 pub mod Painted

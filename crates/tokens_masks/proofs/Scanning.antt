@@ -10,8 +10,8 @@ use lib.ListN.{get_or, length, length-set, set, take}
 use lib.Seq.{get_or-take, length-take-le}
 use Rattle.std.specs.Prelude.{Option, None, Some, is_some}
 use Rattle.model.specs.Models.LayOut.{begin, check, number, reach, strokes, Plane}
-use Rattle.tokens_masks.specs.Masks.{Blank, paint, table_in}
-use Rattle.tokens.specs.Scans.{Innermost, is_ended, no_frame, ReadyAt, scan_of, StepSays, with_frames}
+use Rattle.tokens_masks.specs.Masks.{Blank, MarkSays, table_in}
+use Rattle.tokens.specs.Scans.{EndSays, FitSays, Innermost, no_frame, ReadyAt, scan_of, StepSays, with_frames}
 use Rattle.tokens_masks.specs.Tables.{blank, paint_all}
 use Rattle.tokens_masks.specs.Tapes.{deeper_by, is_tree, on_tape, PlanesHold, ScanLays, tokens_of}
 use Rattle.tokens.specs.Kinds.{read_kind}
@@ -64,16 +64,16 @@ module _ {t : Tape} {ms : List ℕ} {fs : List Frame} {q : Scan} {deepest i : �
   all_on : length (kinds_on t) ≡ t.length
   all_on = length-take-le t.length t.kinds (omega (arith, S.along.whole, S.along.short))
 
-  module _ (end : length (kinds_on t) ≤ i) where
+  module _ {ended : Bool} (end : length (kinds_on t) ≤ i) (says : EndSays q ended) where
     past : t.length ≤ i
     past = omega (arith, all_on)
 
-    pub scanning_other : is_ended (with_frames q fs) ≡ false → (None ≡ on_tape t) × ScanLays t ms
-    scanning_other e = not_tree (along_end t (with_frames q fs) i S.along past ∙ e)
+    pub scanning_other : ended ≡ false → (None ≡ on_tape t) × ScanLays t ms
+    scanning_other e = not_tree (along_end t (with_frames q fs) i S.along past ∙ sym (says fs) ∙ e)
 
-    pub scanning_tree : is_ended (with_frames q fs) ≡ true → (Some deepest ≡ on_tape t) × ScanLays t ms
+    pub scanning_tree : ended ≡ true → (Some deepest ≡ on_tape t) × ScanLays t ms
     scanning_tree e =
-        let is = along_end t (with_frames q fs) i S.along past ∙ e in (
+        let is = along_end t (with_frames q fs) i S.along past ∙ sym (says fs) ∙ e in (
           sym (ap₂ (λ (b : Bool) (d : ℕ). cond b (Some d) None) is (reaching_end t (with_frames q fs) i S.along deepest S.reaching past)),
           record {
             long = S.long;
@@ -82,24 +82,32 @@ module _ {t : Tape} {ms : List ℕ} {fs : List Frame} {q : Scan} {deepest i : �
           },
         )
 
-  -- at the token y, with the innermost frame
-  module _ {y : Token} {top : Frame} (on : i < length (kinds_on t)) (kind : y ≡ read_kind (get_or (kinds_on t) i 0)) (I : Innermost q top fs) where
+  -- at the token y, with the innermost frame, which stands at place k
+  module _ {y : Token} {k : ℕ} {fitting : Bool} (on : i < length (kinds_on t)) (kind : y ≡ read_kind (get_or (kinds_on t) i 0)) (here : k ≡ q.depth - 1)
+      (says : FitSays q (get_or fs k no_frame) (token_of y) fitting) where
+    I : Innermost q (get_or fs k no_frame) fs
+    I = top_here q fs here
+
     h : i < t.length
     h = omega (arith, all_on)
 
     e : y ≡ read_kind (get_or t.kinds i 0)
     e = kind ∙ ap read_kind (get_or-take t.length t.kinds i 0 h)
 
-    pub scanning_misfit : check (token_of y) (scan_of (with_frames q fs)) ≡ false → (None ≡ on_tape t) × ScanLays t ms
-    scanning_misfit f = not_tree (along_misfit t (with_frames q fs) i S.along y h e f)
+    pub scanning_misfit : fitting ≡ false → (None ≡ on_tape t) × ScanLays t ms
+    scanning_misfit f = not_tree (along_misfit t (with_frames q fs) i S.along y h e (sym (says fs I) ∙ f))
 
-    module _ (f : check (token_of y) (scan_of (with_frames q fs)) ≡ true) where
-      pub scanning_ready : ReadyAt q top y
+    module _ (fits : fitting ≡ true) where
+      f : check (token_of y) (scan_of (with_frames q fs)) ≡ true
+      f = sym (says fs I) ∙ fits
+
+      pub scanning_ready : ReadyAt q (get_or fs k no_frame) y
       scanning_ready = record { frames = fs; top = I; ready = along_ready t (with_frames q fs) i S.along y h f }
 
-      pub scanning_step : {n : Next} {d : ℕ} {ms' : List ℕ} → StepSays q top (token_of y) n → d ≡ deeper_by deepest q.depth (token_of y)
-          → ms' ≡ paint (strokes (token_of y) (scan_of (with_frames q fs))) ms → Scanning t ms' (set fs n.place n.frame) n.scan d (i + 1)
-      scanning_step {n} {d} {ms'} N D P =
+      pub scanning_step : {n : Next} {d : ℕ} {ms' : List ℕ} → StepSays q (get_or fs k no_frame) (token_of y) n → d ≡ deeper_by deepest q.depth (token_of y)
+          → MarkSays q (get_or fs k no_frame) y ms ms' → Scanning t ms' (set fs n.place n.frame) n.scan d (i + 1)
+      scanning_step {n} {d} {ms'} N D M =
+          let P = M fs I in
           let known = with_frames q fs in
           let next = with_frames n.scan (set fs n.place n.frame) in
           let stepped = N.steps fs S.nine I in
@@ -118,7 +126,7 @@ module _ {t : Tape} {ms : List ℕ} {fs : List Frame} {q : Scan} {deepest i : �
 -- ---- what the scan told
 pub tree_told : (b : Bool) (x d : ℕ) → cond b (Some x) None ≡ Some d → T b
 tree_told true x d q = tt
-tree_told false x d q = let z : ◌≡◌ {A = ℕ} 0 1 = cc in absurd (omega arith)
+tree_told false x d q = cc
 
 none_told : (b : Bool) (x : ℕ) → is_some (cond b (Some x) None) ≡ b
 none_told true x = refl

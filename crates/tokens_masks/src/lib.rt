@@ -81,8 +81,8 @@ fn lay_planes(tape: Tape, masks: &mut [u64]) -> Option<usize>
     on_tape
 }
 
-// Lay out: how deep the tree is whose tokens are on the tape, or none where they are no tree's within 512 states and depth 8; letter places and loop places; block, source and target of each depth; and
-// source and target of its back edges.
+// Lay out: how deep the tree is whose tokens are on the tape, or none where they are no tree's within 512 states and depth 8; letter places and loop
+// places; block, source and target of each depth; and source and target of its back edges.
 pub fn lay_out(tape: Tape, masks: &mut [u64; 936]) -> Option<usize>
     ensures computed { result ≡ on_tape tape }
     ensures told { OnTapeSays tape result }

@@ -1,5 +1,5 @@
 // Planes: for each depth one mask of each, by these numbers, and where they lie in the words. Letter and loop places have depth 0 alone.
-// No enum: they are places of rows, and are counted on from a section's first mask to its second and third (`mark_edge`, `row_of(masks, depth, block + 1)`).
+// No enum: they are places of rows, and the planes of a section are counted on from its first (`mark_edge`; the crates `image` and `image_check`).
 ghost use Rattle.std.specs.Prelude.{◌≡◌, ◌<◌};
 ghost use Rattle.tokens_masks.specs.Masks.{place_of, planes};
 

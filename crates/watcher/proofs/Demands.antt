@@ -32,8 +32,8 @@ pub one_built : {rule before after later : List ℕ} (r q : Result ℕ Refusal) 
     → (r ≡ q) × (after ≡ later)
 one_built {rule} {before} {after} {later} r q B C = answered_apart r q (build_one rule before (answered r after) (answered q later) B C)
 
-pub one_written : {words before after later : List ℕ} (r q : Result ℕ Refusal) → ReadBackSays words before (answered r after) → ReadBackSays words before (answered q later)
-    → (r ≡ q) × (after ≡ later)
+pub one_written : {words before after later : List ℕ} (r q : Result ℕ Refusal) → ReadBackSays words before (answered r after)
+    → ReadBackSays words before (answered q later) → (r ≡ q) × (after ≡ later)
 one_written {words} {before} {after} {later} r q B C = answered_apart r q (read_back_one words before (answered r after) (answered q later) B C)
 
 pub one_matched : {words text before after later : List ℕ} (r q : Result ℕ Refusal) → Bytes text → MatchSays words text before (answered r after)
@@ -48,7 +48,8 @@ pub record Acceptable (rule before : List ℕ) (t : Tree) : Type 0 where
   pub shallow : depth t ≤ 8
   pub room : length (image t) ≤ length before
 
-pub accepts : {rule before : List ℕ} (r : Result ℕ Refusal) (after : List ℕ) → BuildSays rule before (answered r after) → ((n : ℕ) × (r ≡ Ok n)) ↔ ((t : Tree) × Acceptable rule before t)
+pub accepts : {rule before : List ℕ} (r : Result ℕ Refusal) (after : List ℕ) → BuildSays rule before (answered r after)
+    → ((n : ℕ) × (r ≡ Ok n)) ↔ ((t : Tree) × Acceptable rule before t)
 accepts {rule} {before} r after B = (λ d. taken (ap number_in d.1) B, λ a. done_by a.0 a.1)
   where
     taken : {a : Counted} → a.number ≡ 0 → BuildSays rule before a → (t : Tree) × Acceptable rule before t
@@ -71,7 +72,8 @@ pub record WentWrong (rule : List ℕ) (p : ℕ) : Type 0 where
   pub no_rule : (t : Tree) → IsRule rule t → ⊥
   pub place : PlaceIs rule p
 
-pub goes_wrong : {rule before : List ℕ} (r : Result ℕ Refusal) (after : List ℕ) → BuildSays rule before (answered r after) → (p : ℕ) → (r ≡ Err (NotARule p)) ↔ WentWrong rule p
+pub goes_wrong : {rule before : List ℕ} (r : Result ℕ Refusal) (after : List ℕ) → BuildSays rule before (answered r after)
+    → (p : ℕ) → (r ≡ Err (NotARule p)) ↔ WentWrong rule p
 goes_wrong {rule} {before} r after B p = (λ e. wrong B (ap number_in e) (ap place_in e), λ W. (one_built r (Err (NotARule p)) B (refusal W)).0)
   where
     refusal : WentWrong rule p → BuildSays rule before (answered (Err (NotARule p)) before)
@@ -124,7 +126,8 @@ same_image {rule} {rule'} {before} {before'} {after} {after'} {n} {n'} B C t t' 
     tables.same_image rule rule' before before' (answered (Ok n) after) (answered (Ok n') after') t t' d d' B refl C refl
 
 -- words that are no tree's image are refused by reader and matcher alike
-pub reader_refuses : {words before : List ℕ} (r : Result ℕ Refusal) (after : List ℕ) → ReadBackSays words before (answered r after) → (r ≡ Err NotAnImage) ↔ NoImage words
+pub reader_refuses : {words before : List ℕ} (r : Result ℕ Refusal) (after : List ℕ) → ReadBackSays words before (answered r after)
+    → (r ≡ Err NotAnImage) ↔ NoImage words
 reader_refuses {words} {before} r after R = (λ e. refused_by R (ap number_in e), λ n. (one_written r (Err NotAnImage) R (refusal n)).0)
   where
     refusal : NoImage words → ReadBackSays words before (answered (Err NotAnImage) before)

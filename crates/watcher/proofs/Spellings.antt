@@ -30,8 +30,8 @@ module _ {words text : List ℕ} {start end : ℕ} {states : List ℕ} where
 
 -- ---- AND THE PROPOSER'S: its case, with start and count, and every place of the list that it does not write; the states are free
 module _ {words text : List ℕ} {end : ℕ} {before : List ℕ} where
-  pub one_proposed : (r q : Result Proposed Refusal) (after later : List ℕ) → ProposeSays words text end before (proposal r after) → ProposeSays words text end before (proposal q later)
-      → (r ≡ q) × (settled (proposal r after) ≡ settled (proposal q later))
+  pub one_proposed : (r q : Result Proposed Refusal) (after later : List ℕ) → ProposeSays words text end before (proposal r after)
+      → ProposeSays words text end before (proposal q later) → (r ≡ q) × (settled (proposal r after) ≡ settled (proposal q later))
   one_proposed r q after later A B =
       let e = propose_one words text end before (proposal r after) (proposal q later) A B in
       (proposal_apart r q after later e, e)

@@ -46,7 +46,12 @@ pub fn match_ends(image: &[u64], text: &[u8], ends: &mut [u32]) -> Result<usize,
 
 // Begin a watch: the live states before any byte into the mask, place 0, and place 0 as an end if it is one. The refusals are 6 and 9; done gives the
 // total of ends at place 0.
-pub fn begin(image: &[u64], mask: &mut [u64], place: &mut u64, ends: &mut [u32]) -> Result<usize, Refusal>
+pub fn begin(
+    image: &[u64],
+    mask: &mut [u64],
+    place: &mut u64,
+    ends: &mut [u32],
+) -> Result<usize, Refusal>
     ensures { BeginSays image.now mask.old place.old ends.old
         (answered result (watch mask.new place.new ends.new)) }
 {
@@ -83,7 +88,12 @@ pub fn check_spelling(
 
 // Propose a spelling for an end of a text: the latest start, and the states in lent words. The refusals are 6, 7, 16 and 17; done gives the start and the
 // number of states.
-pub fn propose_spelling(image: &[u64], text: &[u8], end: usize, states: &mut [u32]) -> Result<Proposed, Refusal>
+pub fn propose_spelling(
+    image: &[u64],
+    text: &[u8],
+    end: usize,
+    states: &mut [u32],
+) -> Result<Proposed, Refusal>
     ensures { ProposeSays image.now text.now end states.old (proposal result states.new) }
 {
     spelling_propose::propose_spelling(image, text, end, states)

@@ -1,24 +1,6 @@
--- Build's answer is a refusal, whose line is the text, or done, and read back goes on with the image.
-use Rattle.program_lines.proofs.Laws.Puts.{reports}
-use Rattle.desk_report.proofs.Laws.Stages.{build_refused, image_first, image_goes_on}
+-- What was tried is the text, or a refusal, whose line is the text.
+use Rattle.desk_report.proofs.Laws.Stages.{put_refused}
 use Rattle.desk_report.proofs.report.Goals as goal
 
-pub slice_bounds-image-end : goal.slice_bounds-image-end
-slice_bounds-image-end c =
-    let b = c.build-built in
-    (image_first b.result b.new.image b.ensures c.in-Done.is b.auto.image).fits
-
-pub slice_bounds-report_image-end : goal.slice_bounds-report_image-end
-slice_bounds-report_image-end c =
-    let b = c.build-built in
-    (image_first b.result b.new.image b.ensures c.in-Done.is b.auto.image).counted
-
-pub returns-in-Refused : goal.returns-in-Refused
-returns-in-Refused c =
-    let b = c.build-built in
-    reports c.put_refusal.ensures.line (build_refused b.result b.new.image b.ensures c.in-Refused.is)
-
-pub returns-in-Done : goal.returns-in-Done
-returns-in-Done c =
-    let b = c.build-built in
-    image_goes_on b.result b.new.image b.ensures c.in-Done.is c.report_image.ensures
+pub returns-in-Err : goal.returns-in-Err
+returns-in-Err c = put_refused c.in-Err.refusal c.in-Err.ensures c.put_refusal.ensures.line

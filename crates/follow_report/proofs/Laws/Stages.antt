@@ -1,6 +1,6 @@
 -- FROM AN ANSWER TO THE TEXT: a refusal gives its line and stops the program; done gives a line for each end, and the program goes on with what is kept.
-use Rattle.std.specs.Prelude.{Err, Ok, Option, Result}
-use Rattle.std.proofs.Common.{◌≡◌, ℕ, ◌+◌, ◌%◌, ◌^◌, ◌<◌, Bool, List, [], ◌∷◌, ◌++◌, length, take, replicate, sym, refl, ap, ◌∙◌, subst, arith, take_at}
+use Rattle.std.specs.Prelude.{Err, Ok, Result}
+use Rattle.std.proofs.Common.{◌≡◌, ℕ, ◌+◌, ◌%◌, ◌^◌, ◌<◌, List, [], ◌∷◌, ◌++◌, length, take, replicate, sym, refl, ap, ◌∙◌, subst, arith, take_at}
 use Rattle.model.specs.Answers.{BuildSays}
 use Rattle.model.specs.Watch.{BeginSays, StepSays, watch, Watch}
 use Rattle.answers.specs.Answers.{answered, number_of, place_of}

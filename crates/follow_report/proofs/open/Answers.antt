@@ -4,20 +4,20 @@ use Rattle.follow_report.proofs.open.Goals as goal
 
 pub slice_bounds-start-end : goal.slice_bounds-start-end
 slice_bounds-start-end c =
-    let b = c.build-built in
+    let b = c.build in
     (image_first b.result b.new.image b.ensures c.in-Ok.is b.auto.image).fits
 
 pub slice_bounds-start-end-in-Ok : goal.slice_bounds-start-end-in-Ok
 slice_bounds-start-end-in-Ok c =
-    let b = c.build-built in
+    let b = c.build in
     (image_first b.result b.new.image b.ensures c.in-Ok.is b.auto.image).counted
 
 pub returns-in-Err : goal.returns-in-Err
 returns-in-Err c =
-    let b = c.build-built in
-    build_refused b.result b.new.image b.ensures c.in-Err.is c.stop-said.ensures
+    let b = c.build in
+    build_refused b.result b.new.image b.ensures c.in-Err.is c.stop.ensures
 
 pub returns-in-Ok : goal.returns-in-Ok
 returns-in-Ok c =
-    let b = c.build-built in
-    image_goes_on b.result b.new.image b.ensures c.in-Ok.is c.start-said.result c.start-said.ensures
+    let b = c.build in
+    image_goes_on b.result b.new.image b.ensures c.in-Ok.is c.start.result c.start.ensures

@@ -8,11 +8,11 @@ slice_bounds-begin-end c = (wide c.args.image.now (replicate 8 0) c.mask_words-w
 
 pub returns-in-Err : goal.returns-in-Err
 returns-in-Err c =
-    let b = c.begin-begun in
+    let b = c.begin in
     begin_refused c.args.image.now c.mask_words-width.ensures b.result b.new.mask b.new.place b.new.ends b.ensures c.in-Err.is c.stop.ensures
 
 pub returns-in-Ok : goal.returns-in-Ok
 returns-in-Ok c =
-    let b = c.begin-begun in
+    let b = c.begin in
     begin_goes c.args.image.now c.mask_words-width.ensures b.result b.new.mask b.new.place b.new.ends b.ensures
     (drop c.mask_words-width.result (replicate 8 0)) c.in-Ok.is c.go_on.ensures (omega arith) b.auto.mask

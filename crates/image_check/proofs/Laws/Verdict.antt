@@ -38,7 +38,7 @@ on_tape_tree t k e = go (is_tree t) e
   where
     go : (b : Bool) → cond b (Some (reach (tokens_of t) begin)) None ≡ Some k → T b × (reach (tokens_of t) begin ≡ k)
     go true e = (tt, cc)
-    go false e = let z : ◌≡◌ {A = ℕ} 0 1 = cc in absurd (omega arith)
+    go false e = cc
 
 pub tree_on_tape : (t : Tape) → T (is_tree t) → on_tape t ≡ Some (reach (tokens_of t) begin)
 tree_on_tape t h = ap (λ (b : Bool). cond b (Some (reach (tokens_of t) begin)) None) (is_true (is_tree t) h)

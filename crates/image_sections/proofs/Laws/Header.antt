@@ -183,11 +183,7 @@ pub record Told (b : Bool) (ws : List ℕ) (p : Sections) : Type 0 where
 
 pub told : (b : Bool) (ws : List ℕ) {answer : Option Sections} {p : Sections} → answer ≡ header_if b ws → answer ≡ Some p → Told b ws p
 told true ws e f = record { passed = tt; own = cc }
-told false ws e f = absurd (let z : ◌≡◌ {A = ℕ} 0 1 = cc in omega arith)
-
-pub not_told : (b : Bool) (ws : List ℕ) {answer : Option Sections} → answer ≡ header_if b ws → answer ≡ None → T b → ⊥
-not_told true ws e f t = let z : ◌≡◌ {A = ℕ} 0 1 = cc in omega arith
-not_told false ws e f t = t
+told false ws e f = cc
 
 -- words whose shape passed have the places told, once their length is right
 pub placed_shape : {ws : List ℕ} {p : Sections} → Told (shape_fits ws) ws p → length ws ≡ p.length → Placed ws p

@@ -120,21 +120,9 @@ module _ {p : Sections} {n : ℕ} (I : Within p n) where
   spread : (k d : ℕ) → k * p.width * d ≡ p.width * (k * d)
   spread k d = ap (λ (j : ℕ). j * d) (mul_comm k p.width) ∙ mul_assoc p.width k d
 
-  pub back_fits : p.back + 2 * p.width * p.depth ≤ n
-  back_fits = omega (arith, backs_in, spread 2 p.depth)
-
   pub propagate_fits : p.propagate + 3 * p.width * (p.depth + 1) ≤ n
   propagate_fits = omega (arith, propagates_in, spread 3 (p.depth + 1))
-
-  pub gather_fits : p.gather + 3 * p.width * p.depth ≤ n
-  gather_fits = omega (arith, gathers_in, spread 3 p.depth)
-
-  pub scatter_fits : p.scatter + 3 * p.width * p.depth ≤ n
-  scatter_fits = omega (arith, scatters_in, spread 3 p.depth)
 
   -- and one mask past them
   pub past_gather : p.gather + 2 * p.width + 3 * p.width * p.depth ≤ n
   past_gather = omega (arith, I.gathers, propagate_fits, spread 3 p.depth, mul-add (3 * p.width) p.depth 1)
-
-  pub past_scatter : p.scatter + p.width + 3 * p.width * p.depth ≤ n
-  past_scatter = omega (arith, I.scatters, past_gather, spread 3 p.depth)

@@ -1,4 +1,5 @@
 -- The proposer's answer is the table's, and its number and count are packed.
+use borrow.Author.Rules.{rules}
 use native.Mathlib.Omega.{arith}
 use Rattle.answers.specs.Answers.{proposed_number, proposed_place, proposed_stretch}
 use Rattle.panel.proofs.Laws.Counted.{proposed_halves}
@@ -9,12 +10,12 @@ pub pack-requires : goal.pack-requires
 pack-requires c =
     let p = c.propose_spelling-proposed in
     let k = proposed_small p.ensures in
-    omega (arith, (proposed_halves p.result c.map.result c.map.ensures.cases).low, k.0, k.1)
+    omega (arith, (proposed_halves _ (λ x n h. search rules) p.result c.map.result c.map.ensures.cases).low, k.0, k.1)
 
 pub returns : goal.returns
 returns c =
     let p = c.propose_spelling-proposed in
-    let h = proposed_halves p.result c.map.result c.map.ensures.cases in
+    let h = proposed_halves _ (λ x n h. search rules) p.result c.map.result c.map.ensures.cases in
     record {
       number = proposed_number p.result;
       place = proposed_place p.result;

@@ -12,7 +12,7 @@ use Rattle.model.specs.Grammar.{bracket, cycle, grouped}
 use Rattle.model.specs.Models.Reader.{bind, got, past, Read, read_mark}
 use Rattle.model.specs.Models.Tokens.{a_close, an_open, several, shown, Token}
 use Rattle.model.specs.Tree.{Alts, can_skip, end, last, more, once, option, optional, plus, Repeat, star, starred, union, unmarked}
-use Rattle.model.proofs.Image.Groups.{empty_bracket, empty_glue, option_dropped, option_tokens, plus_tokens, star_tokens}
+use Rattle.model.proofs.Image.Groups.{empty_bracket, empty_glue, option_tokens, plus_tokens, star_tokens}
 use Rattle.std.proofs.Common.{Ok}
 use Rattle.rule_bytes.specs.Places.{Stopped, Took}
 use Rattle.rule.specs.Groups.{closed}
@@ -21,7 +21,7 @@ use Rattle.rule.specs.Tokens.{between, copied, cut, enclosed, Numbered, Stands}
 use Rattle.rule.specs.declared.parts.Alternatives.{Alternatives}
 use Rattle.rule_bytes.proofs.Laws.Binds.{bind_stops}
 use Rattle.rule_bytes.proofs.Laws.Places.{inside}
-use Rattle.rule.proofs.Laws.Cycle.{past_one, past_other}
+use Rattle.rule.proofs.Laws.Cycle.{past_one}
 use Rattle.rule.proofs.Laws.Rows.{alts_onto, tokens_onto}
 use Rattle.rule.proofs.Laws.Stands.{as_union, stands_again, stands_append, stands_union}
 
@@ -63,9 +63,6 @@ module _ (a : Alts) {before now : List ℕ} {n next : ℕ} (s : Stands before no
 
 -- ---- and where those of its brackets stand
 module _ (a : Alts) {before now : List ℕ} {n next : ℕ} (s : Stands before now n next (seq_tokens (bracket a))) where
-  pub dropped_stands : alts_empty a ≡ true → Stands before now n next (seq_tokens (grouped a option))
-  dropped_stands h = rw (option_dropped a (rw h tt)) s
-
   cycle_tokens : seq_tokens (cycle a) ≡ as_union (seq_tokens (bracket a)) starred
   cycle_tokens = star_tokens a [] ∙ ap (λ (l : List Token). an_open ∷ l) (tokens_onto (bracket a) (a_close starred ∷ []))
 
@@ -90,9 +87,6 @@ module _ (rule : List ℕ) (n : ℕ) (m : Read Alts) (before : List ℕ) where
   close_stops h = bind_stops (λ a r. bind (past (byte ")") r) (λ y r'. bind (read_mark r') (λ k r''. got (grouped a k) r''))) h
 
   module _ {now : List ℕ} {a : Alts} {p next : ℕ} {e : Bool} (w : Wrote between alts_empty rule n m before now a p next e) {x : ℕ} (g : x ≡ get_or rule p 0) where
-    pub close_other : (x ≡ byte ")" → ⊥) → Stopped rule (closed m) p
-    close_other o = record { reads = rw (w.took.reads, past_other rule p g (byte ")") w.took.inside o); inside = w.took.inside }
-
     pub close_here : x ≡ byte ")" → (k : Repeat) {q : ℕ} → Took rule (read_mark (drop (p + 1) rule)) k q → {after : List ℕ} {to : ℕ}
         → Stands before after n to (seq_tokens (grouped a k)) → {f : Bool} → f ≡ can_skip k
         → PartSays true rule n (closed m) before after (Ok (record { place = q; next = to; empty = f || e }))

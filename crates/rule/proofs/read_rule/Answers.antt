@@ -43,7 +43,7 @@ module _ {A E D : Type 0} (Q : E → D → Type 0) where
       (x, refl, subst (Q x) q p.2)
 
 pub read_alternatives-read-requires : goal.read_alternatives-read-requires
-read_alternatives-read-requires c = record { inside = omega arith; short = c.if-rule-gt1024.false; room = length-replicate {A = ℕ} 2555 0; few = omega arith }
+read_alternatives-read-requires c = record { inside = omega arith; short = (omega arith); room = length-replicate {A = ℕ} 2555 0; few = omega arith }
 
 read : (c : In_ok-alternatives) → AlternativesSay c.args.rule.now 0 (alts c.args.rule.now) no_tokens c.read_alternatives-read.new.tokens (Ok c.in_ok-alternatives.alternatives)
 read c = let r = c.read_alternatives-read in rw (as_read _ r.result c.map_err.ensures.cases c.in_ok-alternatives.was) at r.ensures.reads
@@ -53,7 +53,7 @@ returns-in_err-alternatives c =
     let r = c.read_alternatives-read in
     let p = as_refused _ r.result c.map_err.ensures.cases c.in_err-alternatives.was in
     let q : c.in_err-alternatives.field-0.0 ≡ NotARule p.0.0 = (let z = p.2 in search rules) in
-    rw (given_on c.from_residual.ensures.1, q) (stopped_says c.args.rule.now c.if-rule-gt1024.false (rw p.1 at r.ensures.reads))
+    rw (given_on c.from_residual.ensures.1, q) (stopped_says c.args.rule.now (omega arith) (rw p.1 at r.ensures.reads))
 
 pub bracket-whole-requires : goal.bracket-whole-requires
 bracket-whole-requires c =
@@ -66,12 +66,12 @@ returns-in_err-states c =
     let rule = c.args.rule.now in
     let b = c.bracket-whole in
     rw (given_on c.from_residual-in_err-states.ensures.1)
-    (says rule b.new.tokens b.result (Err c.in_err-states.field-0.0) c.if-rule-gt1024.false
+    (says rule b.new.tokens b.result (Err c.in_err-states.field-0.0) (omega arith)
     (b.ensures rule (alts rule) no_tokens (read (goal.at.returns-in_err-states c).In_ok-alternatives)) c.in_err-states.ensures)
 
 pub returns : goal.returns
 returns c =
     let rule = c.args.rule.now in
     let b = c.bracket-whole in
-    says rule b.new.tokens b.result (Ok c.in_ok-states.states) c.if-rule-gt1024.false
+    says rule b.new.tokens b.result (Ok c.in_ok-states.states) (omega arith)
     (b.ensures rule (alts rule) no_tokens (read (goal.at.returns c).In_ok-alternatives)) c.in_ok-states.ensures

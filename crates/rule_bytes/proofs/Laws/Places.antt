@@ -7,7 +7,7 @@ use mathlib.Core.List.{List, [], ◌∷◌}
 use Prim.Native.Nat.{ℕ, suc, ◌+◌, ◌≤◌, ◌<◌}
 use native.Mathlib.Numerals.{add-one}
 use native.Mathlib.Omega.{arith}
-use lib.ListN.{drop, drop_of_length-le, get_or, length, get_or-eq_default}
+use lib.ListN.{drop, get_or, length, get_or-eq_default}
 use lib.Seq.{drop-cons, drop-length}
 use Rattle.model.specs.Models.Reader.{bad, got, Read}
 use Rattle.model.proofs.Laws.Bool.{le_or_lt}
@@ -15,14 +15,6 @@ use Rattle.rule_bytes.specs.Places.{Stopped, Took}
 
 at_end : (rule : List ℕ) (at : ℕ) → at ≡ length rule → drop at rule ≡ []
 at_end rule at e = ap (λ (p : ℕ). drop p rule) e ∙ drop-length rule
-
--- from the rule's end on nothing is left
-module _ (rule : List ℕ) (at : ℕ) (h : length rule ≤ at) {A : Type 0} (f : List ℕ → Read A) where
-  pub over_stops : f [] ≡ bad [] → Stopped rule (f (drop at rule)) (length rule)
-  over_stops n = record { reads = ap f (drop_of_length-le rule h) ∙ n ∙ ap bad (sym (drop-length rule)); inside = omega arith }
-
-  pub over_leaves : (a : A) → f [] ≡ got a [] → Took rule (f (drop at rule)) a (length rule)
-  over_leaves a n = record { reads = ap f (drop_of_length-le rule h) ∙ n ∙ ap (got a) (sym (drop-length rule)); inside = omega arith }
 
 -- the same value in other words
 pub took_as : {A : Type 0} {rule : List ℕ} {m : Read A} {a b : A} {p : ℕ} → b ≡ a → Took rule m a p → Took rule m b p

@@ -13,20 +13,6 @@ use Rattle.model.proofs.Words.RowBits.{shifted}
 use Rattle.run_back.proofs.Laws.Ahead.{lowest}
 use Rattle.run_back.proofs.first_live.Goals as goal
 
-pub returns-then-source-eq0 : goal.returns-then-source-eq0
-returns-then-source-eq0 c =
-    let a = c.args in
-    sym (ap (λ (s : ℕ). ahead 64 a.above (bit s) (bit a.live) 0) c.if-source-eq0.true ∙ ahead_none 64 a.above (bit 0) (bit a.live) 0 (λ y h k t. no_bit y t))
-
-pub overflow_cast-result : goal.overflow_cast-result
-overflow_cast-result c = record { fits = omega (arith, trailing_le 64 c.args.source) }
-
-pub overflow_shr-result : goal.overflow_shr-result
-overflow_shr-result c =
-    let a = c.args in
-    let some : 0 < a.source = omega (arith, c.if-source-eq0.false) in
-    (lowest 64 a.above a.source a.live some c.ranges.source.fits).0
-
 pub returns : goal.returns
 returns c =
     let a = c.args in

@@ -8,12 +8,6 @@ use Rattle.run_edges.proofs.Laws.Reached.{enter_whole}
 use borrow.Author.Rules.{rules}
 use Rattle.run_edges.proofs.enter.Goals as goal
 
-pub letters-l-requires : goal.letters-l-requires
-letters-l-requires c = c.requires
-
-pub repeats-p-requires : goal.repeats-p-requires
-repeats-p-requires c = c.requires
-
 pub returns : goal.returns
 returns c =
     let a = c.args in

@@ -12,9 +12,6 @@ use Rattle.run.proofs.Laws.Table.{close_eight}
 use borrow.Author.Rules.{rules}
 use Rattle.run_edges.proofs.reach.Goals as goal
 
-pub close-requires : goal.close-requires
-close-requires c = (within c.requires.0).deep
-
 pub returns : goal.returns
 returns c =
     let o = c.with_bit-one in

@@ -11,9 +11,6 @@ use Rattle.run_edges.proofs.Laws.Back.{back_at, back_length, back-word}
 use borrow.Author.Rules.{rules}
 use Rattle.run_edges.proofs.unshift.Goals as goal
 
-pub loop-i-init : goal.loop-i-init
-loop-i-init c = (omega arith, filled_none (search rules))
-
 pub loop-i-preserved : goal.loop-i-preserved
 loop-i-preserved c =
     let a = c.args.a in

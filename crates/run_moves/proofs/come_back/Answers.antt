@@ -17,11 +17,6 @@ returns-then-holds c =
     sym (return_held a.n a.source.words a.target.words a.first.words a.live.words (s ∙ sym l) (t ∙ sym l) (f ∙ sym l)
     (fit_row a.live.words (λ i. search rules)) (c.holds.ensures c.if-holds.true))
 
-pub returns : goal.returns
-returns c =
-    let a = c.args in
-    c.or.ensures ∙ ap (or_words (take a.n a.live.words)) c.lead_back-targets.ensures
-
 pub returns-then-not-meet : goal.returns-then-not-meet
 returns-then-not-meet c =
     let a = c.args in

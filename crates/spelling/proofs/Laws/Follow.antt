@@ -53,8 +53,8 @@ module _ {image bytes list : List ℕ} where
     going_stops h t I f = let g = G.left t I in subst T h ((entered_from I g.0 R b on E r).1 (g.1.0 f).0)
 
   -- nothing is left: the last state reaches the accepting one, or does not
-  pub going_ends : {q last : ℕ} {bs rs row : List ℕ} → Going image bytes list q bs rs → (bs ≡ []) ⊎ (rs ≡ []) → ReachSays image q row → (v : Bool) → v ≡ bit (value row) last
-      → (t : Tree) → ImageOf image t → last ≡ accepting t → T v ↔ Follow t 0 bytes list
+  pub going_ends : {q last : ℕ} {bs rs row : List ℕ} → Going image bytes list q bs rs → (bs ≡ []) ⊎ (rs ≡ []) → ReachSays image q row
+      → (v : Bool) → v ≡ bit (value row) last → (t : Tree) → ImageOf image t → last ≡ accepting t → T v ↔ Follow t 0 bytes list
   going_ends {q} {bs = bs} {rs} {row} G none R v e t I a =
       let g = G.left t I in
       let look : v ≡ bit (value row) (accepting t) = e ∙ ap (bit (value row)) a in

@@ -1,14 +1,14 @@
 -- `scan_tape`: each turn is a step of the scan, which marks what the token marks; at the end the scan tells what the tape is.
 use Rattle.std.proofs.Common.{rules}
 use mathlib.Core.Bool.{Bool, cond}
-use mathlib.Core.Path.{refl, sym, ap, ◌∙◌, subst}
+use mathlib.Core.Path.{refl, sym, ap, subst}
 use native.Mathlib.Omega.{arith}
 use lib.Dec.{T}
 use lib.ListN.{replicate}
 use Rattle.std.specs.Prelude.{None, Some}
 use Rattle.model.specs.Models.LayOut.{begin, reach}
 use Rattle.tokens_masks.proofs.Along.{too_long}
-use Rattle.tokens_masks.proofs.Scanning.{scanning_begin, scanning_depth, scanning_misfit, scanning_other, scanning_ready, scanning_step, scanning_tree, top_here}
+use Rattle.tokens_masks.proofs.Scanning.{scanning_begin, scanning_depth, scanning_misfit, scanning_other, scanning_ready, scanning_step, scanning_tree}
 use Rattle.tokens_masks.specs.Tapes.{tokens_of}
 use Rattle.tokens_masks.proofs.scan_tape.Goals as goal
 
@@ -32,41 +32,31 @@ bounds-frames-innermost c = omega (arith, scanning_depth c.loop-kind.invariant, 
 
 pub returns-then-not-fits : goal.returns-then-not-fits
 returns-then-not-fits c =
-    let l = c.loop-kind in
-    let I = top_here l.scan l.frames c.innermost.ensures in
-    let said = scanning_misfit l.invariant c.loop-kind-test.true c.read_kind-token.ensures I (sym (c.fits.ensures l.frames I) ∙ c.if-not-fits.true) in
+    let said = scanning_misfit c.loop-kind.invariant c.loop-kind-test.true c.read_kind-token.ensures c.innermost.ensures c.fits.ensures c.if-not-fits.true in
     record { told = said.0; masks = said.1 }
 
 pub mark_token-requires-clause-ready : goal.mark_token-requires-clause-ready
 mark_token-requires-clause-ready c =
-    let l = c.loop-kind in
-    let I = top_here l.scan l.frames c.innermost.ensures in
-    scanning_ready l.invariant c.loop-kind-test.true c.read_kind-token.ensures I (sym (c.fits.ensures l.frames I) ∙ c.if-not-fits.false)
+    scanning_ready c.loop-kind.invariant c.loop-kind-test.true c.read_kind-token.ensures c.innermost.ensures c.fits.ensures c.if-not-fits.false
 
 pub deeper-deepest-requires : goal.deeper-deepest-requires
 deeper-deepest-requires c = omega (arith, scanning_depth c.loop-kind.invariant)
 
 pub step_over-next-requires : goal.step_over-next-requires
 step_over-next-requires c =
-    let l = c.loop-kind in
-    let I = top_here l.scan l.frames c.innermost.ensures in
-    scanning_ready l.invariant c.loop-kind-test.true c.read_kind-token.ensures I (sym (c.fits.ensures l.frames I) ∙ c.if-not-fits.false)
+    scanning_ready c.loop-kind.invariant c.loop-kind-test.true c.read_kind-token.ensures c.innermost.ensures c.fits.ensures c.if-not-fits.false
 
 pub loop-kind-preserved : goal.loop-kind-preserved
 loop-kind-preserved c =
-    let l = c.loop-kind in
-    let I = top_here l.scan l.frames c.innermost.ensures in
-    scanning_step l.invariant c.loop-kind-test.true c.read_kind-token.ensures I (sym (c.fits.ensures l.frames I) ∙ c.if-not-fits.false)
-    c.step_over-next.ensures c.deeper-deepest.ensures (c.mark_token.ensures l.frames I)
+    scanning_step c.loop-kind.invariant c.loop-kind-test.true c.read_kind-token.ensures c.innermost.ensures c.fits.ensures c.if-not-fits.false
+    c.step_over-next.ensures c.deeper-deepest.ensures c.mark_token.ensures
 
 pub returns-then-is_ended : goal.returns-then-is_ended
 returns-then-is_ended c =
-    let l = c.loop-kind in
-    let said = scanning_tree l.invariant c.loop-kind-test.false (sym (c.is_ended.ensures l.frames) ∙ c.if-is_ended.true) in
+    let said = scanning_tree c.loop-kind.invariant c.loop-kind-test.false c.is_ended.ensures c.if-is_ended.true in
     record { told = said.0; masks = said.1 }
 
 pub returns-else-is_ended : goal.returns-else-is_ended
 returns-else-is_ended c =
-    let l = c.loop-kind in
-    let said = scanning_other l.invariant c.loop-kind-test.false (sym (c.is_ended.ensures l.frames) ∙ c.if-is_ended.false) in
+    let said = scanning_other c.loop-kind.invariant c.loop-kind-test.false c.is_ended.ensures c.if-is_ended.false in
     record { told = said.0; masks = said.1 }

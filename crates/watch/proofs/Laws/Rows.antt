@@ -110,7 +110,8 @@ module _ {ws : List ℕ} {r : Option Checked} {c : Checked} (C : CheckSays ws r)
       M : IsMask (states t) mask
       M = is.0 (subst T (sym (not-false b passed)) tt)
 
-      pub step_past : {place : ℕ} {stretch ends : List ℕ} → length stretch ≤ 65535 → 4294967295 - length stretch < place → StepSays ws mask place stretch ends (stays 10 mask place ends)
+      pub step_past : {place : ℕ} {stretch ends : List ℕ} → length stretch ≤ 65535 → 4294967295 - length stretch < place
+          → StepSays ws mask place stretch ends (stays 10 mask place ends)
       step_past small l = text_too_long t I small M (omega arith) refl
 
       module _ {place : ℕ} {stretch : List ℕ} (small : length stretch ≤ 65535) (near : place ≤ 4294967295 - length stretch) where
@@ -125,8 +126,10 @@ module _ {ws : List ℕ} {r : Option Checked} {c : Checked} (C : CheckSays ws r)
             (ap₂ (λ (n : ℕ) (l : List ℕ). gives n (watch new (place + length stretch) l)) R.counted R.stored
             ∙ ap (λ (m : List ℕ). goes_on m (place + length stretch) R.found ends) (laid ∙ ap (λ (n : ℕ). take n words) width_is))
 
-pub begin_other : {ws mask : List ℕ} {place : ℕ} {ends : List ℕ} {r : Option Checked} → CheckSays ws r → r ≡ None → BeginSays ws mask place ends (stays 6 mask place ends)
+pub begin_other : {ws mask : List ℕ} {place : ℕ} {ends : List ℕ} {r : Option Checked} → CheckSays ws r → r ≡ None
+    → BeginSays ws mask place ends (stays 6 mask place ends)
 begin_other {ws} C g = not_an_image (not_found ws C g) refl
 
-pub step_other : {ws mask : List ℕ} {place : ℕ} {stretch ends : List ℕ} {r : Option Checked} → CheckSays ws r → r ≡ None → StepSays ws mask place stretch ends (stays 6 mask place ends)
+pub step_other : {ws mask : List ℕ} {place : ℕ} {stretch ends : List ℕ} {r : Option Checked} → CheckSays ws r → r ≡ None
+    → StepSays ws mask place stretch ends (stays 6 mask place ends)
 step_other {ws} C g = not_an_image (not_found ws C g) refl

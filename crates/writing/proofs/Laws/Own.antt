@@ -3,7 +3,7 @@
 use mathlib.Core.Path.{◌≡◌, refl, sym, ap, ap₂, ◌∙◌, subst}
 use mathlib.Core.Bool.{Bool, true, false, ◌||◌}
 use mathlib.Core.List.{List, [], ◌∷◌, ◌++◌, append-nil}
-use Prim.Native.Nat.{ℕ, ◌+◌, ◌≤◌, ◌<◌}
+use Prim.Native.Nat.{ℕ, ◌+◌, ◌-◌, ◌≤◌, ◌<◌}
 use native.Mathlib.Numerals.{add-one}
 use native.Mathlib.Omega.{arith}
 use lib.Dec.{T, leb, leb→le}
@@ -14,7 +14,7 @@ use Rattle.model.specs.Models.LayOut as model
 use Rattle.model.specs.Models.Tokens.{a_close, kept}
 use Rattle.model.specs.Models.Tokens as tokens
 use Rattle.model.proofs.Laws.Bool.{and_split}
-use Rattle.tokens.specs.Scans.{Innermost, Ready, ReadyAt, scan_of, StepSays, stack_of, with_frames}
+use Rattle.tokens.specs.Scans.{Innermost, no_frame, Ready, ReadyAt, scan_of, StepSays, stack_of, with_frames}
 use Rattle.tokens.specs.Tokens.{mark_of, token_of}
 use Rattle.tokens.specs.Kinds.{read_kind}
 use Rattle.tokens.specs.declared.Frame.{Frame}
@@ -72,8 +72,14 @@ module _ {t : Tape} (is : T (is_tree t)) where
               ∙ O.marks;
         }
 
-    -- at the token y, with the innermost frame
-    module _ {y : Token} {top : Frame} (h : i < t.length) (e : y ≡ read_kind (get_or t.kinds i 0)) (I : Innermost q top fs) where
+    -- at the token y, with the innermost frame, which stands at k
+    module _ {y : Token} {k : ℕ} (h : i < t.length) (e : y ≡ read_kind (get_or t.kinds i 0)) (here : k ≡ q.depth - 1) where
+      abbrev top : Frame
+      top = get_or fs k no_frame
+
+      I : Innermost q top fs
+      I = λ d. ap (λ (n : ℕ). get_or fs n no_frame) (sym here)
+
       fits : check (token_of y) (scan_of (with_frames q fs)) ≡ true
       fits = go (check (token_of y) (scan_of (with_frames q fs))) refl
         where
@@ -84,25 +90,25 @@ module _ {t : Tape} (is : T (is_tree t)) where
       ready : Ready (with_frames q fs) y
       ready = along_ready t (with_frames q fs) i O.along y h fits
 
-      pub owning_ready : ReadyAt q top y
+      pub owning_ready : ReadyAt q (get_or fs k no_frame) y
       owning_ready = record { frames = fs; top = I; ready = ready }
 
-      pub owning_step : {n : Next} (k : ℕ) → StepSays q top (token_of y) n
-          → token_of (read_kind k) ≡ own (token_of (read_kind (get_or t.kinds i 0))) (top.empty_before || q.can_be_empty)
-          → Owning t (set kinds i k) (set fs n.place n.frame) n.scan (i + 1)
-      owning_step {n} k N K =
+      pub owning_step : {n : Next} (own_kind : ℕ) → StepSays q (get_or fs k no_frame) (token_of y) n
+          → token_of (read_kind own_kind) ≡ own (token_of (read_kind (get_or t.kinds i 0))) ((get_or fs k no_frame).empty_before || q.can_be_empty)
+          → Owning t (set kinds i own_kind) (set fs n.place n.frame) n.scan (i + 1)
+      owning_step {n} own_kind N K =
           let known = with_frames q fs in
           let next = with_frames n.scan (set fs n.place n.frame) in
           let stepped = N.steps fs O.nine I in
           let rest = from t (i + 1) in
           record {
             nine = length-set fs n.place n.frame ∙ O.nine;
-            room = length-set kinds i k ∙ O.room;
+            room = length-set kinds i own_kind ∙ O.room;
             along = along_step t known i O.along y h e next fits stepped;
             marks =
                 ap (λ (l : List ℕ). read_kinds l ++ owns rest (scan_of next))
-                (ap (λ (m : ℕ). take m (set kinds i k)) (add-one i) ∙ take-suc-set kinds i k (omega (arith, O.room, O.along.short)))
-                ∙ read_more (take i kinds) k (owns rest (scan_of next))
+                (ap (λ (m : ℕ). take m (set kinds i own_kind)) (add-one i) ∙ take-suc-set kinds i own_kind (omega (arith, O.room, O.along.short)))
+                ∙ read_more (take i kinds) own_kind (owns rest (scan_of next))
                 ∙ ap₂ (λ (x : tokens.Token) (z : model.Scan). read_kinds (take i kinds) ++ (x ∷ owns rest z))
                 (K ∙ ap (λ (z : Token). own (token_of z) (top.empty_before || q.can_be_empty)) (sym e) ∙ own_here q fs top y I ready) stepped
                 ∙ ap (λ (l : List tokens.Token). read_kinds (take i kinds) ++ owns l (scan_of known)) (sym (from_cons t known i O.along y h e))

@@ -10,7 +10,7 @@ use Rattle.model.specs.Image.{join}
 use Rattle.image_classes.specs.Classes.{class_in, class_to, ColumnOf}
 use Rattle.tokens.specs.Kinds.{read_kind}
 use Rattle.tokens.specs.declared.token.Token.{Token}
-use Rattle.writing_letters.proofs.Laws.Texts.{Writes, writes_as, writes_none, writes_then}
+use Rattle.writing_letters.proofs.Laws.Texts.{Writes, writes_as, writes_then}
 use Rattle.writing.specs.Work.{token_text}
 use Rattle.writing.proofs.Laws.Tokens.{token_short}
 
@@ -30,11 +30,6 @@ pub record Wrote (g : ℕ → List ℕ) (before : List ℕ) (at from i : ℕ) (a
   pub bound : place ≤ 4096 * i
 
 module _ (g : ℕ → List ℕ) (before : List ℕ) (at from : ℕ) where
-  pub wrote_none : at ≤ 4096 * from → Wrote g before at from from before at
-  wrote_none h =
-      let e : 0 ≡ from - from = omega arith in
-      record { since = omega arith; text = writes_as before at (ap (λ (n : ℕ). join n from g) e) (writes_none before at); bound = h }
-
   wrote_one : {after : List ℕ} {q : ℕ} → at ≤ 4096 * from → length (g from) ≤ 4096 → Writes before at (g from) after q
       → Wrote g before at from (from + 1) after q
   wrote_one h l w =

@@ -32,7 +32,8 @@ module _ (ws loops : List ℕ) (letters W : ℕ) (narrow : W ≤ length loops) (
       each-word bit_and (words_at ws letters W) loops j (omega arith) (omega arith)
       ∙ ap (λ (x : ℕ). bit_and x (get_or loops j 0)) (word_there ws letters W j h)
 
-  pub repeat_same : (repeats : ℕ) → repeats + W ≤ length ws → ((j : ℕ) → j < W → get_or ws (repeats + j) 0 ≡ bit_and (get_or ws (letters + j) 0) (get_or loops j 0))
+  pub repeat_same : (repeats : ℕ) → repeats + W ≤ length ws
+      → ((j : ℕ) → j < W → get_or ws (repeats + j) 0 ≡ bit_and (get_or ws (letters + j) 0) (get_or loops j 0))
       → true ≡ same_words (words_at ws repeats W) (and_words (words_at ws letters W) loops)
   repeat_same repeats repeats_fit same =
       sym
@@ -41,7 +42,8 @@ module _ (ws loops : List ℕ) (letters W : ℕ) (narrow : W ≤ length loops) (
       (λ j l. let h : j < W = omega (arith, length_there ws repeats W repeats_fit, l) in
       word_there ws repeats W j h ∙ same j h ∙ sym (looped_word j h))))
 
-  pub repeat_differs : (repeats : ℕ) → repeats + W ≤ length ws → (j : ℕ) → j < W → (get_or ws (repeats + j) 0 ≡ bit_and (get_or ws (letters + j) 0) (get_or loops j 0) → ⊥)
+  pub repeat_differs : (repeats : ℕ) → repeats + W ≤ length ws
+      → (j : ℕ) → j < W → (get_or ws (repeats + j) 0 ≡ bit_and (get_or ws (letters + j) 0) (get_or loops j 0) → ⊥)
       → false ≡ same_words (words_at ws repeats W) (and_words (words_at ws letters W) loops)
   repeat_differs repeats repeats_fit j h differs =
       sym

@@ -3,7 +3,7 @@ use mathlib.Core.Path.{sym, ap, ◌∙◌}
 use Rattle.model.specs.Models.Tokens.{shown}
 use Rattle.model.specs.Tree.{unmarked}
 use Rattle.rule.specs.Tokens.{enclosed}
-use Rattle.rule.proofs.Laws.Groups.{one_stands, union_stands}
+use Rattle.rule.proofs.Laws.Groups.{union_stands}
 use Rattle.rule.proofs.Laws.Stands.{stands_as}
 use Rattle.rule.proofs.groups.unite.Goals as goal
 
@@ -15,6 +15,3 @@ returns-then-several-clause-stands c a before v e s =
     (r.written ∙ ap (enclosed g.tokens.now g.n g.next) (c.shown.ensures ∙ ap (shown unmarked) e))
     r.count
     (union_stands a s (sym v ∙ c.if-several.true))
-
-pub returns-clause-stands : goal.returns-clause-stands
-returns-clause-stands c a before v e s = one_stands a s (sym v ∙ c.if-several.false)

@@ -49,22 +49,22 @@ read_sequence-returns-in_default t c =
     let e = c.in_default.is in
     sequence_tells _ _ _ _ _ c.requires.inside _
     (l.invariant.goes r.new.tokens r.result
-    (subst (PartSays l.read.empty rule l.read.next (seq (drop l.read.place rule)) l.tokens r.new.tokens) (sym e)
-    (sequence_stops rule l.read.place c.in_default.ensures.reads)))
+    (subst (PartSays l.empty rule l.next (seq (drop l.place rule)) l.tokens r.new.tokens) (sym e)
+    (sequence_stops rule l.place c.in_default.ensures.reads)))
 
 pub read_sequence-returns-then-is_over : goal.read_sequence-returns-then-is_over
 read_sequence-returns-then-is_over t c =
     let l = c.loop-item in
     let i = c.in-Ok.item in
     sequence_tells _ _ _ _ _ c.requires.inside _
-    (l.invariant.goes c.read_item-answer.new.tokens (Ok (record { place = i.place; next = i.next; empty = l.read.empty && i.empty }))
-    (sequence_ends c.args.rule.now l.read.place l.read.next c.in-Ok.ensures.reads.1 l.read.empty (sym c.is_over.ensures ∙ c.if-is_over.true)))
+    (l.invariant.goes c.read_item-answer.new.tokens (Ok (record { place = i.place; next = i.next; empty = l.empty && i.empty }))
+    (sequence_ends c.args.rule.now l.place l.next c.in-Ok.ensures.reads.1 l.empty (sym c.is_over.ensures ∙ c.if-is_over.true)))
 
 pub read_sequence-loop-item-smaller : goal.read_sequence-loop-item-smaller
 read_sequence-loop-item-smaller t c =
     let l = c.loop-item in
     let w = c.in-Ok.ensures.reads.1 in
-    omega (arith, item_on c.args.rule.now l.read.place l.read.next w, w.took.inside)
+    omega (arith, item_on c.args.rule.now l.place l.next w, w.took.inside)
 
 pub read_sequence-loop-item-preserved : goal.read_sequence-loop-item-preserved
 read_sequence-loop-item-preserved t c =
@@ -74,8 +74,8 @@ read_sequence-loop-item-preserved t c =
     let o = sym c.is_over.ensures ∙ c.if-is_over.false in
     record {
       ready = record { inside = w.took.inside; short = l.invariant.ready.short; room = room_after w.stands; few = omega (arith, w.stands.count) };
-      on = omega (arith, l.invariant.on, item_on rule l.read.place l.read.next w);
-      goes = λ final q s. l.invariant.goes final q (sequence_goes rule l.read.place l.read.next w l.read.empty o final q s);
+      on = omega (arith, l.invariant.on, item_on rule l.place l.next w);
+      goes = λ final q s. l.invariant.goes final q (sequence_goes rule l.place l.next w l.empty o final q s);
     }
 
 -- ---- alternatives

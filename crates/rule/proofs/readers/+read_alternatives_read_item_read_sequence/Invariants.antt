@@ -27,7 +27,7 @@ pub record Going (rule : List ℕ) (at : ℕ) (before : List ℕ) (n : ℕ) (now
   pub goes : (final : List ℕ) (r : Result Part Unreadable) → PartSays can_be_empty rule next (seq (drop place rule)) now final r → PartSays true rule n (seq (drop at rule)) before final r
 
 abbrev pub invariant-read_sequence-loop-item : goal.invariant-read_sequence-loop-item
-invariant-read_sequence-loop-item l = Going l.rule l.at l.initial.tokens l.n l.tokens l.read.place l.read.next l.read.empty
+invariant-read_sequence-loop-item l = Going l.rule l.at l.initial.tokens l.n l.tokens l.place l.next l.empty
 
 abbrev pub decreases-read_sequence-loop-item : goal.decreases-read_sequence-loop-item
-decreases-read_sequence-loop-item l = length l.rule - l.read.place
+decreases-read_sequence-loop-item l = length l.rule - l.place

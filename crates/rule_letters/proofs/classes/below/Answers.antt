@@ -2,7 +2,6 @@
 use mathlib.Core.Path.{sym, ap, ◌∙◌}
 use Prim.Native.Nat.{ℕ, ◌-◌}
 use native.Mathlib.Omega.{arith}
-use lib.Pow.{pow_pos}
 use Rattle.rule_letters.proofs.Laws.Classes.{below_all, below_none, below_some, power_fits}
 use Rattle.rule_letters.proofs.classes.below.Goals as goal
 
@@ -11,9 +10,6 @@ returns-then-n-base c = let a = c.args in sym (below_none a.n a.base c.if-n-base
 
 pub returns-then-base-n : goal.returns-then-base-n
 returns-then-base-n c = let a = c.args in sym (below_all a.n a.base c.if-base-n.true)
-
-pub overflow_sub-result-2 : goal.overflow_sub-result-2
-overflow_sub-result-2 c = let a = c.args in let k = a.n - a.base in rw (power_fits k (omega arith)) (pow_pos k)
 
 pub returns : goal.returns
 returns c =

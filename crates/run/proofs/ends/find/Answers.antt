@@ -11,9 +11,6 @@ use Rattle.run.proofs.Image.Ends.{find_says}
 use Rattle.run.proofs.Laws.One.{one_same}
 use Rattle.run.proofs.ends.find.Goals as goal
 
-pub find-requires : goal.find-requires
-find-requires c = (c.requires.0, c.if-sections-le64.true, c.requires.1)
-
 pub returns-then-sections-le64 : goal.returns-then-sections-le64
 returns-then-sections-le64 c =
     let r = c.find in
@@ -25,9 +22,6 @@ returns-then-sections-le64 c =
     find_says ws text a.ends.now r.result r.new.ends (ends_with (one_masks ws) a.sections.depth (a.sections.states - 1) text) bs
     (ap₂ (λ (i k : ℕ). ends_with (one_masks ws) i (k - 1) text) (own_depth P) (own_states P)
     ∙ one_same ws text (own_placed P) (omega (arith, own_states P, c.if-sections-le64.true)) bs) r.ensures
-
-pub find_words-requires : goal.find_words-requires
-find_words-requires c = (c.requires.0, omega (arith, c.if-sections-le64.false), c.requires.1)
 
 pub returns : goal.returns
 returns c =

@@ -12,12 +12,6 @@ use Rattle.run.specs.Work.{masks_of}
 use Rattle.run.proofs.Laws.Table.{tabled_of, work_ends}
 use Rattle.run.proofs.ends.find_words.Goals as goal
 
-pub table-masks-requires : goal.table-masks-requires
-table-masks-requires c = c.requires.0
-
-pub note_ends-requires : goal.note_ends-requires
-note_ends-requires c = record { placed = c.requires.0; many = c.requires.1; small = c.requires.2; tabled = c.table-masks.ensures }
-
 pub returns : goal.returns
 returns c =
     let r = c.note_ends in

@@ -8,15 +8,6 @@ use Rattle.run.proofs.Laws.Backs.{whole_backs}
 use Rattle.run.proofs.Laws.Table.{tabled_of}
 use Rattle.run.proofs.ends.go_on_words.Goals as goal
 
-pub overflow_sub-last : goal.overflow_sub-last
-overflow_sub-last c = let P = c.requires.0.placed in omega (arith, own_states P, P.some)
-
-pub table-masks-requires : goal.table-masks-requires
-table-masks-requires c = c.requires.0.placed
-
-pub row_at-first-requires : goal.row_at-first-requires
-row_at-first-requires c = ((within c.requires.0.placed).narrow, omega (arith, c.requires.0.long))
-
 pub run_over-requires : goal.run_over-requires
 run_over-requires c =
     let t = c.table-masks in

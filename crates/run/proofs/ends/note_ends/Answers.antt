@@ -12,20 +12,7 @@ use Rattle.run_word.proofs.Laws.Stretch.{begun, noted_few}
 use Rattle.run.specs.Work.{rule_masks}
 use Rattle.run.proofs.Laws.Backs.{whole_backs}
 use Rattle.run.proofs.Laws.Table.{close_wide, tabled_of}
-use borrow.Author.Rules.{rules}
 use Rattle.run.proofs.ends.note_ends.Goals as goal
-
-pub overflow_sub-last : goal.overflow_sub-last
-overflow_sub-last c = let P = c.requires.placed in omega (arith, own_states P, P.some)
-
-pub close-first-requires : goal.close-first-requires
-close-first-requires c = (within c.requires.placed).deep
-
-pub is_live-requires : goal.is_live-requires
-is_live-requires c =
-    let P = c.requires.placed in
-    let eight : length c.close-first.result.words ≡ 8 = search rules in
-    omega (arith, eight, own_states P, P.some, P.few)
 
 pub run_over-ran-requires : goal.run_over-ran-requires
 run_over-ran-requires c =

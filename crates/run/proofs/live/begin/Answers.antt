@@ -10,9 +10,6 @@ use Rattle.run.proofs.Laws.Widths.{close_whole}
 use borrow.Author.Rules.{rules}
 use Rattle.run.proofs.live.begin.Goals as goal
 
-pub close_of-requires : goal.close_of-requires
-close_of-requires c = c.requires
-
 pub returns : goal.returns
 returns c =
     let f = c.start-first in

@@ -5,17 +5,11 @@ use native.Mathlib.Omega.{arith}
 use lib.ListN.{length, take}
 use Rattle.mask.proofs.Laws.Bits.{fit_row}
 use Rattle.model.specs.Models.Run.{close_words}
-use Rattle.image_sections.proofs.Laws.Within.{own_depth, own_placed, within}
+use Rattle.image_sections.proofs.Laws.Within.{own_depth, own_placed}
 use Rattle.run.specs.Work.{masks_of}
 use Rattle.run.proofs.Laws.Table.{close_eight, tabled_of}
 use borrow.Author.Rules.{rules}
 use Rattle.run.proofs.live.close_of.Goals as goal
-
-pub table-masks-requires : goal.table-masks-requires
-table-masks-requires c = c.requires
-
-pub close-requires : goal.close-requires
-close-requires c = (within c.requires).deep
 
 pub returns : goal.returns
 returns c =

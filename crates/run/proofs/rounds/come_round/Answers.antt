@@ -5,12 +5,6 @@ use borrow.Author.Rules.{rules}
 use Rattle.run.proofs.Laws.Rounds.{returns_none}
 use Rattle.run.proofs.rounds.come_round.Goals as goal
 
-pub returns-requires : goal.returns-requires
-returns-requires c = c.requires.0
-
-pub returns-then-meet : goal.returns-then-meet
-returns-then-meet c = c.returns.ensures
-
 pub returns : goal.returns
 returns c =
     let a = c.args in

@@ -1,15 +1,12 @@
 -- `returns`: what is left of the depths below k gives what all of them give.
-use mathlib.Core.Path.{◌≡◌, refl, ap, ◌∙◌}
+use mathlib.Core.Path.{ap, ◌∙◌}
 use native.Mathlib.Omega.{arith}
 use lib.ListN.{take}
-use Prim.Native.Nat.{ℕ, ◌-◌}
+use Prim.Native.Nat.{◌-◌}
 use Rattle.model.specs.Models.Run.{returns_words}
 use Rattle.run.specs.Work.{pass_masks}
 use Rattle.run.proofs.Laws.Rounds.{returns_one}
 use Rattle.run.proofs.rounds.returns.Goals as goal
-
-pub loop-k-init : goal.loop-k-init
-loop-k-init c = (omega arith, refl)
 
 pub loop-k-preserved : goal.loop-k-preserved
 loop-k-preserved c =
@@ -18,10 +15,3 @@ loop-k-preserved c =
     let M = pass_masks a.n a.table.now in
     let f = take a.n a.first.words in
     (omega arith, ap (returns_words M (l.k - 1) f) c.return_at-r.ensures ∙ returns_one M l.k c.loop-k-test.true f (take a.n l.r.words) ∙ l.invariant.1)
-
-pub returns : goal.returns
-returns c =
-    let l = c.loop-k in
-    let a = c.args in
-    let e : 0 ≡ l.k = omega arith in
-    ap (λ (k : ℕ). returns_words (pass_masks a.n a.table.now) k (take a.n a.first.words) (take a.n l.r.words)) e ∙ l.invariant.1

@@ -22,12 +22,14 @@ loop-byte-init c =
 pub returns-then-not-has_bit : goal.returns-then-not-has_bit
 returns-then-not-has_bit c = λ t I a. (
   λ f. absurd f,
-  going_stops c.loop-byte.invariant c.in-Some.ensures.steps c.reach-from.ensures.reached c.enter-entered.ensures.entered (sym c.has_bit.ensures ∙ c.if-not-has_bit.true) t I,
+  going_stops c.loop-byte.invariant c.in-Some.ensures.steps c.reach-from.ensures.reached c.enter-entered.ensures.entered
+      (sym c.has_bit.ensures ∙ c.if-not-has_bit.true) t I,
 )
 
 pub loop-byte-preserved : goal.loop-byte-preserved
 loop-byte-preserved c =
-    going_more c.loop-byte.invariant c.in-Some.ensures.steps c.reach-from.ensures.reached c.enter-entered.ensures.entered (subst T (sym (c.if-not-has_bit.false) ∙ c.has_bit.ensures) tt)
+    going_more c.loop-byte.invariant c.in-Some.ensures.steps c.reach-from.ensures.reached c.enter-entered.ensures.entered
+    (subst T (sym (c.if-not-has_bit.false) ∙ c.has_bit.ensures) tt)
 
 pub returns : goal.returns
 returns c =

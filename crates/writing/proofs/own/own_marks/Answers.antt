@@ -7,7 +7,6 @@ use lib.ListN.{replicate}
 use Rattle.tokens.specs.Scans.{with_frames}
 use Rattle.tokens.specs.declared.Frame.{Frame}
 use Rattle.tokens_masks.proofs.Along.{along_depth}
-use Rattle.tokens_masks.proofs.Scanning.{top_here}
 use Rattle.writing.proofs.Laws.Own.{owning_begin, owning_end, owning_ready, owning_step}
 use Rattle.writing.proofs.own.own_marks.Goals as goal
 
@@ -30,13 +29,12 @@ bounds-frames-innermost c =
 pub step_over-next-requires : goal.step_over-next-requires
 step_over-next-requires c =
     let l = c.loop-i in
-    owning_ready c.requires l.invariant c.loop-i-test.true c.read_kind.ensures (top_here l.scan l.frames c.innermost.ensures)
+    owning_ready c.requires l.invariant c.loop-i-test.true c.read_kind.ensures c.innermost.ensures
 
 pub loop-i-preserved : goal.loop-i-preserved
 loop-i-preserved c =
     let l = c.loop-i in
-    owning_step c.requires l.invariant c.loop-i-test.true c.read_kind.ensures
-    (top_here l.scan l.frames c.innermost.ensures) _ c.step_over-next.ensures c.own_kind.ensures
+    owning_step c.requires l.invariant c.loop-i-test.true c.read_kind.ensures c.innermost.ensures _ c.step_over-next.ensures c.own_kind.ensures
 
 pub returns : goal.returns
 returns c = owning_end c.requires c.loop-i.invariant c.loop-i-test.false

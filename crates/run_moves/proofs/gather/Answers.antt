@@ -1,5 +1,0 @@
--- `gather` is what its steps give, put together.
-use Rattle.run_moves.proofs.gather.Goals as goal
-
-pub returns : goal.returns
-returns c = cc

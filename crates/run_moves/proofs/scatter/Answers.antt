@@ -1,5 +1,0 @@
--- `scatter` is what its steps give, put together.
-use Rattle.run_moves.proofs.scatter.Goals as goal
-
-pub returns : goal.returns
-returns c = cc

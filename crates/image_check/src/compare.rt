@@ -16,9 +16,15 @@ use tokens_masks::plane::{
 use tokens_masks::row_of;
 
 // Whether a byte's mask of the repeats is its mask of the letters at the loops' places.
-fn same_repeat(words: &[u64], letters: usize, repeats: usize, width: usize, loops: [u64; 8]) -> bool
+fn same_repeat(
+    words: &[u64],
+    letters: usize,
+    repeats: usize,
+    width: usize,
+    loops: &[u64; 8],
+) -> bool
     requires { (width ≤ 8) × (letters + width ≤ length_of words.now) × (repeats + width ≤ length_of words.now) }
-    ensures { result ≡ same_words (words_at words.now repeats width) (and_words (words_at words.now letters width) loops) }
+    ensures { result ≡ same_words (words_at words.now repeats width) (and_words (words_at words.now letters width) loops.now) }
 {
     for j in 0..width {
         if words[repeats + j] != words[letters + j] & loops[j] {
@@ -29,9 +35,9 @@ fn same_repeat(words: &[u64], letters: usize, repeats: usize, width: usize, loop
 }
 
 // The same for each byte.
-fn same_repeats(words: &[u64], sections: Sections, loops: [u64; 8]) -> bool
+fn same_repeats(words: &[u64], sections: Sections, loops: &[u64; 8]) -> bool
     requires { Within sections (length_of words.now) }
-    ensures { result ≡ same_repeats words.now sections.letters sections.repeats sections.width loops }
+    ensures { result ≡ same_repeats words.now sections.letters sections.repeats sections.width loops.now }
 {
     let width = sections.width;
     for byte in 0..256 {
@@ -94,7 +100,7 @@ pub fn agrees(words: &[u64], sections: Sections, letters: [u64; 8], masks: &[u64
     let width = sections.width;
     let depth = sections.depth;
     same_rows(letters, row_of(masks, 0, LETTER_PLACE))
-        && same_repeats(words, sections, row_of(masks, 0, LOOP_PLACE))
+        && same_repeats(words, sections, &row_of(masks, 0, LOOP_PLACE))
         && same_masks::<3>(words, sections.scatter, width, depth, SCATTER_BLOCK, masks)
         && same_masks::<3>(words, sections.gather, width, depth, GATHER_BLOCK, masks)
         && same_masks::<3>(

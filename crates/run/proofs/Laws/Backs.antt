@@ -1,4 +1,4 @@
--- THE BACK EDGES' MASKS: as they lie they have no bit past the width, for zeros stand above; and how all their
+-- THE BACK EDGES' MASKS: as they lie they have no bit past the width, for zeros stand above; how they are put into the table row by row; and how all their
 -- sources come into one row.
 use mathlib.Core.Path.{◌≡◌, refl, sym, ap, ap₂, ◌∙◌}
 use mathlib.Core.Logic.{inl, inr}
@@ -47,6 +47,23 @@ masks_low ws S n h = record {
     T : Within (sections_in ws) (length ws)
     T = within S
 
+-- ---- put into the table
+pub backs_begin : (ws : List ℕ) (W d : ℕ) (table : List (List ℕ)) → PutBacks 0 ws W d table table
+backs_begin ws W d table = record { here = λ i h. absurd (omega arith); there = λ i h. refl; long = refl }
+
+pub backs_more : {c W d : ℕ} {ws : List ℕ} {table new : List (List ℕ)} → PutBacks c ws W d table new → c < 16 → length table ≡ 97 → {row : List ℕ}
+    → row ≡ row_at ws (back_at W d + W * c) W → PutBacks (c + 1) ws W d table (set new (81 + c) row)
+backs_more {c} {W} {d} {ws} {table} {new} P h long {row} e = record {
+  here = below_more (λ (i : ℕ). get_or (set new (81 + c) row) (81 + i) [] ≡ row_at ws (back_at W d + W * i) W) c
+      (λ i m. get_or-set_other new (81 + c) (81 + i) row [] (λ q. let f : 81 + i ≡ 81 + c = q in absurd (omega arith)) ∙ P.here i m)
+      (get_or-set_same new (81 + c) row [] (omega (arith, P.long)) ∙ e);
+  there = λ i m. get_or-set_other new (81 + c) i row [] (λ q. let f : i ≡ 81 + c = q in absurd (omega arith)) ∙ P.there i m;
+  long = length-set new (81 + c) row ∙ P.long;
+}
+
+pub tabled : {ws : List ℕ} {W d : ℕ} {table new : List (List ℕ)} → Entered ws W d table → PutBacks (2 * d) ws W d table new → Tabled ws W d new
+tabled I P = record { passes = λ k j h l. P.there (9 * k + j) (omega arith) ∙ I k j h l; backs = P.here }
+
 -- each is a whole mask
 pub whole_backs : {ws : List ℕ} {p : Sections} (table : List (List ℕ)) → Placed ws p → Tabled ws p.width p.depth table → Whole table p.depth
 whole_backs {ws} {p} table P E i h =
@@ -56,6 +73,20 @@ whole_backs {ws} {p} table P E i h =
     (omega (arith, T.backs, back_is P, part_fits p.width {k = i} {n = 2 * p.depth} h))
 
 -- ---- all sources in one row: none yet; and those of a depth more, for what is apart from both of two masks is apart from each
+pub sources_none : (table : List (List ℕ)) (row : List ℕ) → Sources table 0 row
+sources_none table row n live A k h = absurd (omega arith)
+
+-- what is apart from both of two words is apart from the first
+apart_first : (a b l : ℕ) → bit_or a b < 2 ^ 64 → bit_and (bit_or a b) l ≡ 0 → bit_and a l ≡ 0
+apart_first a b l f e =
+    bit_ext 64 (bit_and a l) 0 (omega (arith, and_le_l a l, and_le_r a b, or_add_and a b)) (omega arith)
+    (λ i h. bit-and i a l ∙ go (bit a i) (bit b i) (bit l i)
+    (sym (bit-and i (bit_or a b) l ∙ ap (λ (z : Bool). z && bit l i) (bit-or i a b)) ∙ ap (λ (n : ℕ). bit n i) e ∙ bit_zero i) ∙ sym (bit_zero i))
+  where
+    go : (x y z : Bool) → ((x || y) && z) ≡ false → (x && z) ≡ false
+    go true y z e = e
+    go false y z e = refl
+
 pub sources_more : (table : List (List ℕ)) (k : ℕ) (row new : List ℕ) → Sources table k row → length row ≡ 8 → length (get_or table (81 + 2 * k) []) ≡ 8
     → ((i : ℕ) → Fits w64 (get_or new i 0)) → take 8 new ≡ or_words (take 8 row) (take 8 (get_or table (81 + 2 * k) [])) → Sources table (k + 1) new
 sources_more table k row new S hr hs f e n live A =

@@ -75,3 +75,13 @@ module _ {n : ℕ} {ws : List ℕ} {b d : ℕ} {table : List (List ℕ)} {live f
 
   pub once_made : Whole table d → NoBack table d → SteppedOn n ws b d table live first
   once_made W none = twice_made first (second_none n table d (replicate 8 0) W none first S.eight (λ i h. ap (λ (x : ℕ). bit_and x (get_or first i 0)) (no_word 8 i))) S.eight
+
+  -- with what the back edges add to the first round: nothing, or the passes once more
+  module _ (more : List ℕ) (e : let f = take n first in take n more ≡ returns_words (pass_masks n table) d f f) where
+    pub turn_once : same_words (take n more) (take n first) ≡ true → SteppedOn n ws b d table live first
+    turn_once t = twice_made first (no_more (pass_masks n table) d (take n first) (take n more) e t) S.eight
+
+    pub turn_twice : same_words (take n more) (take n first) ≡ false → (up second : List ℕ) → take n up ≡ rise_words (pass_masks n table) d (take n more)
+        → take n second ≡ fall_words (pass_masks n table) d 0 (take n up) → length second ≡ 8 → SteppedOn n ws b d table live second
+    turn_twice t up second r f long =
+        twice_made second (f ∙ ap (fall_words (pass_masks n table) d 0) r ∙ one_more (pass_masks n table) d (take n first) (take n more) e t) long

@@ -128,3 +128,5 @@ module _ (ws : List ℕ) (at W j : ℕ) where
       one = omega arith
 
 -- ---- each lies within the section
+pub within_series : (W n k j : ℕ) → k < n → j < 3 → W * (3 * k + j) + W ≤ W * (3 * n)
+within_series W n k j h l = part_fits W {k = 3 * k + j} {n = 3 * n} (omega arith)

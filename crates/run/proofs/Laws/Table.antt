@@ -121,6 +121,28 @@ module _ (ws : List ℕ) (fits : Fit ws) (S : Placed ws (sections_in ws)) (table
       ∙ sym (ends_cut W d (masks_of ws) (N W) (work_cut W) (back_cut W (le_refl W)) (state_word ws - 1) (omega (arith, S.some)) text B)
 
 -- ---- the table made: a series put, one mask more and one series more
+pub put_begin : (j : ℕ) (masks table : List (List ℕ)) → PutTo 0 j masks table table
+put_begin j masks table = record { here = λ k h. absurd (not-suc-le-zero h); there = λ k i h q. refl; long = refl }
+
+pub put_more : {c j : ℕ} {masks table new : List (List ℕ)} → PutTo c j masks table new → c < 9 → j < 9 → length table ≡ 97
+    → PutTo (c + 1) j masks table (set new (9 * c + j) (get_or masks c []))
+put_more {c} {j} {masks} {table} {new} P h l long = record {
+  here = below_more (λ (k : ℕ). get_or (set new (9 * c + j) v) (9 * k + j) [] ≡ get_or masks k []) c
+      (λ k m. get_or-set_other new (9 * c + j) (9 * k + j) v [] (λ q. let e : 9 * k + j ≡ 9 * c + j = q in absurd (omega arith)) ∙ P.here k m)
+      (get_or-set_same new (9 * c + j) v [] (omega (arith, P.long, long)));
+  there = λ k i m q. get_or-set_other new (9 * c + j) (9 * k + i) v [] (λ e. q (let f : 9 * k + i ≡ 9 * c + j = e in omega arith)) ∙ P.there k i m q;
+  long = length-set new (9 * c + j) v ∙ P.long;
+}
+  where
+    v : List ℕ
+    v = get_or masks c []
+
+pub series_entered : {c : ℕ} (rows : ℕ → ℕ → List ℕ) {masks table new : List (List ℕ)} → ((k j : ℕ) → k < 9 → j < c → get_or table (9 * k + j) [] ≡ rows j k) → c < 9 → Put c masks table new
+    → ((k : ℕ) → k < 9 → get_or masks k [] ≡ rows c k) → (k j : ℕ) → k < 9 → j < c + 1 → get_or new (9 * k + j) [] ≡ rows j k
+series_entered {c} rows {masks} {table} {new} I h P M k j l =
+    below_more (λ (i : ℕ). get_or new (9 * k + i) [] ≡ rows i k) c
+    (λ i m. P.there k i (omega arith) (λ q. let e : i ≡ c = q in absurd (omega arith)) ∙ I k i l m) (P.here k l ∙ M k l) j
+
 -- the table that code has made, by the places
 pub tabled_of : {ws : List ℕ} {p : Sections} (table : List (List ℕ)) → Placed ws p → Tabled ws p.width p.depth table → Tabled ws (width_of ws) (depth_word ws) table
 tabled_of {ws} {p} table P I =

@@ -1,4 +1,4 @@
--- `put_backs`: each turn puts one row more, and the section is whole.
+-- `put_backs`: each turn puts one row more (`backs_more`), and the section is whole.
 use Prim.Native.Nat.{◌*◌}
 use native.Mathlib.Omega.{arith}
 use Rattle.model.proofs.Image.Address.{part_fits}

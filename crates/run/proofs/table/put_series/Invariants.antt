@@ -1,4 +1,4 @@
--- `put_series`: each turn puts one mask more.
+-- `put_series`: each turn puts one mask more (`put_more`).
 use Prim.Native.Nat.{◌≤◌}
 use Rattle.run.specs.Work.{PutTo}
 use Rattle.run.proofs.table.put_series.Given as goal

@@ -1,4 +1,4 @@
--- `table`: the series put so far are there, and each turn puts one more; then the back edges' masks.
+-- `table`: the series put so far are there, and each turn puts one more (`series_entered`); then the back edges' masks (`tabled`).
 use mathlib.Core.Path.{◌≡◌}
 use mathlib.Core.List.{[]}
 use Prim.Native.Nat.{ℕ, ◌+◌, ◌*◌, ◌<◌}

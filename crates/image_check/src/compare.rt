@@ -10,7 +10,7 @@ ghost use Rattle.image_check.specs.Work.{same_laid, same_masks, same_repeats};
 use image_sections::Sections;
 use mask::bits::same_rows;
 use tokens_masks::plane::{
-    BACK_SOURCE, GATHER_BLOCK, LETTER_PLACE, LOOP_PLACE, PROPAGATE_BLOCK, SCATTER_BLOCK, place_of,
+    BACK_SOURCE, GATHER_BLOCK, LETTER_PLACE, LOOP_PLACE, PROPAGATE_BLOCK, SCATTER_BLOCK,
 };
 use tokens_masks::row_of;
 
@@ -66,8 +66,9 @@ fn same_masks<const N: usize>(
     'search: for k in 0..depths {
         for which in 0..N {
             let from = at + (N * k + which) * width;
+            let row = row_of(masks, k, first + which);
             for j in 0..width {
-                if words[from + j] != masks[place_of(k, first + which, j)] {
+                if words[from + j] != row[j] {
                     same = false;
                     break 'search;
                 }

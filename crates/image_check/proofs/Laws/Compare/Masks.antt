@@ -8,8 +8,8 @@ use native.Mathlib.Nat.{add-mul, mul_comm, mul_right_comm}
 use native.Mathlib.Omega.{arith}
 use lib.ListN.{get_or, length, take}
 use lib.Seq.{get_or-take}
-use Rattle.tokens_masks.specs.Masks.{place_of, planes, row_in, row_number}
-use Rattle.tokens_masks.proofs.InWords.{row_long, row_word}
+use Rattle.tokens_masks.specs.Masks.{planes, row_in, row_number}
+use Rattle.tokens_masks.proofs.InWords.{row_long}
 use Rattle.image.specs.Work.{depth_masks}
 use Rattle.image.proofs.Laws.Lengths.{length_row, masks_long}
 use Rattle.image_apart.specs.Work.{words_at}
@@ -35,8 +35,8 @@ pub record SameDepths (ws ms : List ℕ) (at W depths first count k : ℕ) : Typ
 abbrev pub SamePlanes : (ws ms : List ℕ) (at W first count k which : ℕ) → Type 0
 SamePlanes ws ms at W first count k which = SameTo ws (at + count * W * k) (count * W) W count (plane_mask W first ms k) which
 
-abbrev pub SameWords : (ws ms : List ℕ) (from plane k j : ℕ) → Type 0
-SameWords ws ms from plane k j = (i : ℕ) → i < j → get_or ws (from + i) 0 ≡ get_or ms (place_of k plane i) 0
+abbrev pub SameWords : (ws row : List ℕ) (from j : ℕ) → Type 0
+SameWords ws row from j = (i : ℕ) → i < j → get_or ws (from + i) 0 ≡ get_or row i 0
 
 pub depths_none : {ws ms : List ℕ} {at W depths first count : ℕ} → W ≤ 8 → depths ≤ 9 → first + count ≤ planes → length ms ≡ 936
     → at + count * W * depths ≤ length ws → SameDepths ws ms at W depths first count 0
@@ -58,11 +58,6 @@ module _ {ws ms : List ℕ} {at W depths first count k : ℕ} (S : SameDepths ws
         let row = row_number k (first + i) in
         length_row (row_in ms row) S.narrow (row_long ms row (omega (arith, S.few, S.in_planes, S.sized)))
 
-    plane_word : (i j : ℕ) → i < count → j < W → get_or (plane_mask W first ms k i) j 0 ≡ get_or ms (place_of k (first + i) j) 0
-    plane_word i j h l =
-        let row = row_number k (first + i) in
-        get_or-take W (row_in ms row) j 0 l ∙ row_word ms row j (omega (arith, S.narrow))
-
     pub planes_none : SamePlanes ws ms at W first count k 0
     planes_none = same_none (mul_comm count W) plane_long (part_in S.same depth)
 
@@ -75,22 +70,22 @@ module _ {ws ms : List ℕ} {at W depths first count k : ℕ} (S : SameDepths ws
       same = passes S.same depth (sym (same-all P h)) refl;
     }
 
-    module _ {which : ℕ} (P : SamePlanes ws ms at W first count k which) (plane : which < count) where
+    module _ {which : ℕ} (P : SamePlanes ws ms at W first count k which) (plane : which < count) {row : List ℕ}
+        (its : row ≡ row_in ms (row_number k (first + which))) where
       place : at + count * W * k + W * which ≡ mask_at at W count k which
       place = omega (arith, add-mul (count * k) which W, mul_right_comm count k W, mul_comm which W)
 
-      mask_in : mask_at at W count k which + W ≤ length ws
-      mask_in = omega (arith, place, part_in P plane)
+      word : (i : ℕ) → i < W → get_or (plane_mask W first ms k which) i 0 ≡ get_or row i 0
+      word i l = get_or-take W (row_in ms (row_number k (first + which))) i 0 l ∙ ap (λ (us : List ℕ). get_or us i 0) (sym its)
 
-      pub mask_same : {j : ℕ} → SameWords ws ms (mask_at at W count k which) (first + which) k j → W ≤ j → SamePlanes ws ms at W first count k (which + 1)
+      pub mask_same : {j : ℕ} → SameWords ws row (mask_at at W count k which) j → W ≤ j → SamePlanes ws ms at W first count k (which + 1)
       mask_same {j} E h =
           same_more P plane
           (ap (λ (x : ℕ). words_at ws x W) place
-          ∙ words_alike ws (mask_at at W count k which) W (plane_mask W first ms k which) mask_in (plane_long which plane)
-          (λ i l. E i (omega arith) ∙ sym (plane_word which i plane l)))
+          ∙ words_alike ws (mask_at at W count k which) W (plane_mask W first ms k which) (omega (arith, place, part_in P plane)) (plane_long which plane)
+          (λ i l. E i (omega arith) ∙ sym (word i l)))
 
-      pub mask_differs : {j : ℕ} → j < W → (get_or ws (mask_at at W count k which + j) 0 ≡ get_or ms (place_of k (first + which) j) 0 → ⊥)
-          → false ≡ same_masks ws at W depths first count ms
+      pub mask_differs : {j : ℕ} → j < W → (get_or ws (mask_at at W count k which + j) 0 ≡ get_or row j 0 → ⊥) → false ≡ same_masks ws at W depths first count ms
       mask_differs {j} l differs =
           fails S.same depth
           (sym
@@ -98,5 +93,5 @@ module _ {ws ms : List ℕ} {at W depths first count k : ℕ} (S : SameDepths ws
           (λ e. differs
           (sym (word_there ws (mask_at at W count k which) W j l)
           ∙ ap (λ (us : List ℕ). get_or us j 0) (ap (λ (x : ℕ). words_at ws x W) (sym place) ∙ e)
-          ∙ plane_word which j plane l))))
+          ∙ word j l))))
           refl

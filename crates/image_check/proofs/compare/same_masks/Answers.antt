@@ -1,7 +1,5 @@
 -- `compare::same_masks`: at the first word that differs the sections do, and where none does they are the same.
-use mathlib.Core.Path.{refl, sym, ap, ◌∙◌}
-use Prim.Native.Nat.{ℕ}
-use lib.ListN.{get_or}
+use mathlib.Core.Path.{refl, ◌∙◌}
 use Rattle.image_check.proofs.Laws.Compare.Masks.{depths_all, depths_none, mask_differs, mask_same, planes_all, planes_none}
 use Rattle.image_check.proofs.compare.same_masks.Goals as goal
 
@@ -12,8 +10,10 @@ pub loop-which-init : goal.loop-which-init
 loop-which-init g c = (c.search.invariant.0, planes_none c.search.invariant.1 c.search-test.true)
 
 pub loop-which-preserved : goal.loop-which-preserved
-loop-which-preserved g c =
-    (c.loop-j.invariant.0, mask_same c.search.invariant.1 c.search-test.true c.loop-which.invariant.1 c.loop-which-test.true c.loop-j.invariant.1 c.loop-j-test.false)
+loop-which-preserved g c = (
+  c.loop-j.invariant.0,
+  mask_same c.search.invariant.1 c.search-test.true c.loop-which.invariant.1 c.loop-which-test.true c.row_of-row.ensures c.loop-j.invariant.1 c.loop-j-test.false,
+)
 
 pub search-preserved : goal.search-preserved
 search-preserved g c = (c.loop-which.invariant.0, planes_all c.search.invariant.1 c.search-test.true c.loop-which.invariant.1 c.loop-which-test.false)
@@ -23,5 +23,4 @@ returns-after-search g c = c.search.invariant.0 ∙ depths_all c.search.invarian
 
 pub returns-then-words-from : goal.returns-then-words-from
 returns-then-words-from g c =
-    mask_differs c.search.invariant.1 c.search-test.true c.loop-which.invariant.1 c.loop-which-test.true c.loop-j-test.true
-    (λ e. c.if-words-from.true (e ∙ ap (λ (i : ℕ). get_or c.args.masks.now i 0) (sym c.place_of.ensures)))
+    mask_differs c.search.invariant.1 c.search-test.true c.loop-which.invariant.1 c.loop-which-test.true c.row_of-row.ensures c.loop-j-test.true c.if-words-from.true

@@ -21,7 +21,8 @@ use image_check::check;
 use image_sections::Sections;
 use tokens_masks::Tape;
 
-// The writing of an image, from its tape with each union's own mark.
+// The writing of an image, from its tape with each union's own mark. Not inlined, so that its column of classes is off the stack while the image is checked.
+#[inline(never)]
 fn write(words: &[u64], sections: Sections, tape: Tape, bytes: &mut [u8]) -> Result<usize, Refusal>
     requires { Placed words.now sections × (tape.length < sections.states) }
     ensures answer { result ≡ written_if (range_text words.now sections.width tape.kinds tape.length 0) bytes.old }

@@ -23,6 +23,8 @@ fn own_kind(kind: u8, empty: bool) -> u8
 }
 
 // A tree's tape, each close with its union's own mark: the scan knows at a close whether an alternative can be empty.
+// Not inlined, so that its frames are off the stack while the image is checked.
+#[inline(never)]
 pub fn own_marks(tape: Tape) -> Tape
     requires { T (is_tree tape) }
     ensures { OwnMarks tape result }

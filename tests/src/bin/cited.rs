@@ -1,5 +1,6 @@
 //! What the documents cite, against the repository: paths, our own names in backticks, must-fail edits, links with their anchors, and the lines of the
-//! files that are believed; and that README's map has every crate. docs/landings/ and docs/PORT*.md are left out: those notes say how things stood.
+//! files that are believed; and that README's map has every crate. docs/landings/, docs/PORT*.md and docs/DESIGN-PASS.md are left out: those notes
+//! say how things stood.
 //! Usage: cited, from the repository's root
 
 use std::collections::HashSet;
@@ -381,7 +382,7 @@ fn main() {
     let mut documents: Vec<String> = ["README.md", "tests/README.md", "vectors/README.md", "include/lavumbishe.h"].map(String::from).to_vec();
     let docs = fs::read_dir("docs").expect("docs").map(|entry| entry.expect("an entry").path());
     let cited = docs.filter(|path| path.is_file()).map(|path| path.to_str().expect("a name").to_string());
-    documents.extend(cited.filter(|path| !path.starts_with("docs/PORT")));
+    documents.extend(cited.filter(|path| !path.starts_with("docs/PORT") && path != "docs/DESIGN-PASS.md"));
     documents.sort();
     for document in &documents {
         // What is in backticks in these is mostly rules and texts.

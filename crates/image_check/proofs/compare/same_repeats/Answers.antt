@@ -6,7 +6,7 @@ use Rattle.image_check.proofs.Laws.Compare.Repeats.{repeats_none}
 use Rattle.image_check.proofs.compare.same_repeats.Goals as goal
 
 pub loop-byte-init : goal.loop-byte-init
-loop-byte-init c = repeats_none c.args.words.now c.args.loops c.requires (search rules)
+loop-byte-init c = repeats_none c.args.words.now c.args.loops.now c.requires (search rules)
 
 pub returns-then-not-same_repeat : goal.returns-then-not-same_repeat
 returns-then-not-same_repeat c = fails c.loop-byte.invariant c.loop-byte-test.true c.same_repeat.ensures c.if-not-same_repeat.true

@@ -1,11 +1,10 @@
 // What the masks show: the states that some of them have, and by these the tape. Anything odd is a bar: the comparison with what is laid out will tell.
 ghost use Rattle.std.specs.Prelude.{◌≡◌, ◌+◌, ◌*◌, ◌≤◌, ◌<◌, length as length_of};
 ghost use Rattle.model.specs.Models.Apart.{mark_of, repeat_of};
-ghost use Rattle.image_sections.specs.Sections.{Within};
 ghost use Rattle.tokens.specs.Kinds.{mark_kind, repeat_kind};
 ghost use Rattle.image_apart.specs.Work.{ShownBy, entered_row, entered_words, kind_at, marks_of, or_first, some_row, some_word};
 
-use image_sections::Sections;
+use image_sections::Image;
 use mask::bits::row_has_bit;
 use tokens::kind::{
     BAR, CLOSE_OPTIONAL, CLOSE_STARRED, CLOSE_UNMARKED, ONCE, OPEN, OPTION, PLUS, STAR,
@@ -70,10 +69,11 @@ fn entered_row(words: &[u64], at: usize, width: usize, count: usize) -> [u64; 8]
 }
 
 // Each row once over all depths: a token then asks one bit of it, however deep the tree is.
-pub fn marks_of(words: &[u64], sections: Sections) -> Marks
-    requires { Within sections (length_of words.now) }
-    ensures { result ≡ marks_of words.now sections }
+pub fn marks_of(image: &Image) -> Marks
+    ensures { result ≡ marks_of image.now.words.now image.now.sections }
 {
+    let words = image.words;
+    let sections = image.sections;
     let width = sections.width;
     let depth = sections.depth;
     Marks {

@@ -25,18 +25,22 @@ pub fn check(words: &[u64]) -> Option<Checked>
     ensures { CheckSays words.now result }
 {
     let parts = take_apart(words)?;
-    let sections = parts.sections;
     let tape = parts.tape;
     let mut masks = [0u64; 936];
     let deepest = lay_out(tape, &mut masks)?;
-    if deepest != sections.depth {
+    if deepest != parts.image.sections.depth {
         return None;
     }
-    if !agrees(words, sections, parts.letters, &masks) {
+    if !agrees(
+        parts.image.words,
+        parts.image.sections,
+        parts.letters,
+        &masks,
+    ) {
         return None;
     }
     Some(Checked {
-        image: Image { words, sections },
+        image: parts.image,
         tape,
     })
 }

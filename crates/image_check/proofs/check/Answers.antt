@@ -1,7 +1,7 @@
 -- Each way out is one of the laws of Laws/Answers, for what was taken from the words so far.
 use mathlib.Core.Path.{refl, sym, ◌∙◌}
 use Rattle.image_check.specs.Says.{is_other}
-use Rattle.image_check.proofs.Laws.Answers.{image_found, no_tree, not_headed, other_depth, room_taken, words_differ}
+use Rattle.image_check.proofs.Laws.Answers.{image_found, no_tree, not_headed, other_depth, words_differ}
 use Rattle.image_check.proofs.check.Goals as goal
 
 pub returns-in_err-parts : goal.returns-in_err-parts
@@ -12,13 +12,10 @@ returns-in_err-deepest c =
     is_other (no_tree c.type_inv.words c.take_apart.ensures c.in_ok-parts.was c.in_err-deepest.ensures.computed)
     c.from_residual-in_err-deepest.ensures
 
-pub returns-then-deepest-sections : goal.returns-then-deepest-sections
-returns-then-deepest-sections c =
+pub returns-then-deepest-parts : goal.returns-then-deepest-parts
+returns-then-deepest-parts c =
     is_other
-    (other_depth c.type_inv.words c.take_apart.ensures c.in_ok-parts.was _ c.in_ok-deepest.ensures.computed c.if-deepest-sections.true) refl
-
-pub agrees-requires : goal.agrees-requires
-agrees-requires c = room_taken c.type_inv.words c.take_apart.ensures c.in_ok-parts.was
+    (other_depth c.type_inv.words c.take_apart.ensures c.in_ok-parts.was _ c.in_ok-deepest.ensures.computed c.if-deepest-parts.true) refl
 
 pub returns-then-not-agrees : goal.returns-then-not-agrees
 returns-then-not-agrees c =
@@ -27,5 +24,5 @@ returns-then-not-agrees c =
 
 pub returns : goal.returns
 returns c =
-    image_found c.type_inv.words c.take_apart.ensures c.in_ok-parts.was _ c.in_ok-deepest.ensures.computed c.if-deepest-sections.false
-    c.in_ok-deepest.ensures.laid (sym c.if-not-agrees.false ∙ c.agrees.ensures) refl refl refl
+    image_found c.type_inv.words c.take_apart.ensures c.in_ok-parts.was _ c.in_ok-deepest.ensures.computed c.if-deepest-parts.false
+    c.in_ok-deepest.ensures.laid (sym c.if-not-agrees.false ∙ c.agrees.ensures) refl refl

@@ -2,7 +2,6 @@
 ghost use Rattle.std.specs.Prelude.{◌≡◌, ◌+◌, ◌*◌, ◌≤◌, ◌<◌, length as length_of};
 ghost use Rattle.model.specs.Models.Verdict.{same_words};
 ghost use Rattle.model.specs.Models.Words.{and_words};
-ghost use Rattle.image.specs.Work.{depth_masks};
 ghost use Rattle.image_apart.specs.Work.{words_at};
 ghost use Rattle.image_sections.specs.Sections.{Within};
 ghost use Rattle.tokens_masks.specs.Masks.{planes};
@@ -44,29 +43,7 @@ fn same_repeats(words: &[u64], sections: Sections, loops: [u64; 8]) -> bool
     true
 }
 
-// Whether the words from a place on are, of one depth, the masks laid out of `N` planes, from `first` on.
-fn same_depth<const N: usize>(
-    words: &[u64],
-    at: usize,
-    width: usize,
-    depth: usize,
-    first: usize,
-    masks: &[u64],
-) -> bool
-    requires { (width ≤ 8) × (depth < 9) × (at + N * width ≤ length_of words.now) × (first + N ≤ planes) × (length_of masks.now ≡ 936) }
-    ensures { result ≡ same_words (words_at words.now at (N * width)) (depth_masks width first N masks.now depth) }
-{
-    for j in 0..N {
-        let from = at + width * j;
-        let row = row_of(masks, depth, first + j);
-        if words[from..from + width] != row[..width] {
-            return false;
-        }
-    }
-    true
-}
-
-// The same for each of the first depths.
+// Whether the words from a place on are, for each of the first depths, the masks laid out of `N` planes, from `first` on.
 fn same_masks<const N: usize>(
     words: &[u64],
     at: usize,
@@ -78,12 +55,21 @@ fn same_masks<const N: usize>(
     requires { (width ≤ 8) × (depths ≤ 9) × (at + N * width * depths ≤ length_of words.now) × (first + N ≤ planes) × (length_of masks.now ≡ 936) }
     ensures { result ≡ same_masks words.now at width depths first N masks.now }
 {
-    for k in 0..depths {
-        if !same_depth::<N>(words, at + N * width * k, width, k, first, masks) {
-            return false;
+    // Document 01, "Required forms by place": nested loops over depths, masks and words, left from inside by a label at the first difference.
+    let mut same = true;
+    'search: for k in 0..depths {
+        for which in 0..N {
+            let from = at + (N * k + which) * width;
+            let row = row_of(masks, k, first + which);
+            for j in 0..width {
+                if words[from + j] != row[j] {
+                    same = false;
+                    break 'search;
+                }
+            }
         }
     }
-    true
+    same
 }
 
 // Whether the words are what is laid out in the masks: `letters` are the states that some letter's mask has.

@@ -47,6 +47,14 @@ module _ (ws loops : List ℕ) (letters W : ℕ) (narrow : W ≤ length loops) (
       (same_false (words_at ws repeats W) (and_words (words_at ws letters W) loops)
       (λ e. differs (sym (word_there ws repeats W j h) ∙ ap (λ (us : List ℕ). get_or us j 0) e ∙ looped_word j h)))
 
+-- where the masks of a byte lie
+module _ {n : ℕ} {p : Sections} (I : Within p n) {b : ℕ} (h : b < 256) where
+  pub letters_fit : p.letters + p.width * b + p.width ≤ n
+  letters_fit = omega (arith, part_fits p.width h, I.letters, I.repeats, scatters_in I)
+
+  pub repeats_fit : p.repeats + p.width * b + p.width ≤ n
+  repeats_fit = omega (arith, part_fits p.width h, I.repeats, scatters_in I)
+
 -- of all bytes
 abbrev pub looped_row : List ℕ → (letters W : ℕ) → List ℕ → ℕ → List ℕ
 looped_row ws letters W loops b = and_words (words_at ws (letters + W * b) W) loops
@@ -56,5 +64,5 @@ pub repeats_none : (ws : List ℕ) {p : Sections} (loops : List ℕ) → Within 
 repeats_none ws {p} loops I e =
     same_none refl
     (λ b h. looped_long ws loops (p.letters + p.width * b) p.width (omega (arith, I.narrow, e))
-    (omega (arith, part_fits p.width h, I.letters, I.repeats, scatters_in I)))
+    (letters_fit I h))
     (omega (arith, I.repeats, scatters_in I))

@@ -1,4 +1,5 @@
 // The strokes of one token: each a run of states in the mask of one plane and depth, most often a single state.
+// The state and the depth are two numbers: a struct of both, made anew for each kind of token, takes more lines than the four clauses that it saves.
 ghost use Rattle.std.specs.Prelude.{◌≡◌, ◌<◌};
 ghost use Rattle.model.specs.Models.LayOut.{bar_strokes, close_strokes, letter_strokes, open_strokes};
 ghost use Rattle.tokens_masks.specs.Masks.{MarkSays, paint};

@@ -10,7 +10,10 @@ use Rattle.image_apart.proofs.take_apart.Goals as goal
 pub invariant_of-image : goal.invariant_of-image
 invariant_of-image c =
     let ws = c.args.words.now in
-    record { placed = placed (told (header_fits ws) ws c.read_header.ensures c.in_ok-sections.was) }
+    record {
+      placed = placed (told (header_fits ws) ws c.read_header.ensures c.in_ok-sections.was);
+      fit = λ i. (c.type_inv.words i).fits;
+    }
 
 pub returns : goal.returns
 returns c =

@@ -1,4 +1,5 @@
 // Masks in a row of words, eight for each: state i is bit i mod 64 of word i/64. For each of nine depths there is one of each plane (`plane`).
+// Plane and depth are two numbers: a struct of both, made anew for each mask that is marked or read, takes more lines than the clauses that it saves.
 ghost use Rattle.std.specs.Prelude.{◌≡◌, suc, ◌+◌, ◌≤◌, ◌<◌};
 ghost use Rattle.tokens_masks.specs.Masks.{edge_in, Joined, planes, run_in};
 

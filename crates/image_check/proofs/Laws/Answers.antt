@@ -44,7 +44,8 @@ record Taken (ws : List ℕ) (a : Apart) : Type 0 where
   shown : ShownTape ws a.tape
 
 taken_of : {ws : List ℕ} {r : Option Apart} {a : Apart} → ApartSays ws r → r ≡ Some a → Taken ws a
-taken_of {ws} {r} {a} (taken H b e words own L S) f = subst (Taken ws) (same (sym e ∙ f)) (record { headed = H; words-are = words; own = own; letters-of = L; shown = S })
+taken_of {ws} {r} {a} (taken H b e words own L S) f =
+    subst (Taken ws) (same (sym e ∙ f)) (record { headed = H; words-are = words; own = own; letters-of = L; shown = S })
   where
     same : Some b ≡ Some a → b ≡ a
     same z = cc
@@ -79,15 +80,13 @@ module _ {ws : List ℕ} {r : Option Apart} {a : Apart} (words : (i : ℕ) → F
   other_depth k e n s I = n (sym (on_tape_tree a.tape k (sym e)).1 ∙ image_deep ws fit s I K.letters-of K.shown ∙ sym depth_is)
 
   pub words_differ : {ms : List ℕ} → Laid a.tape ms → false ≡ same_laid a.image.words.now a.image.sections a.letters ms → NoImage ws
-  words_differ {ms} L e s I =
-      subst T (sym (e ∙ laid_is L)) (image_same ws fit s I K.letters-of K.shown)
+  words_differ {ms} L e s I = subst T (sym (e ∙ laid_is L)) (image_same ws fit s I K.letters-of K.shown)
 
   -- ---- YES
-  pub image_found : {ms : List ℕ} (k : ℕ) → Some k ≡ on_tape a.tape → k ≡ a.image.sections.depth → Laid a.tape ms → true ≡ same_laid a.image.words.now a.image.sections a.letters ms
-      → {c : Checked} → c.image ≡ a.image → c.tape ≡ a.tape → CheckSays ws (Some c)
+  pub image_found : {ms : List ℕ} (k : ℕ) → Some k ≡ on_tape a.tape → k ≡ a.image.sections.depth → Laid a.tape ms
+      → true ≡ same_laid a.image.words.now a.image.sections a.letters ms → {c : Checked} → c.image ≡ a.image → c.tape ≡ a.tape → CheckSays ws (Some c)
   image_found {ms} k e n L same {c} image-is tape-is =
       let q = on_tape_tree a.tape k (sym e) in
-      let y = yes ws fit K.headed K.letters-of K.shown q.0 (q.1 ∙ n ∙ depth_is)
-      (subst T (same ∙ laid_is L) tt) in
+      let y = yes ws fit K.headed K.letters-of K.shown q.0 (q.1 ∙ n ∙ depth_is) (subst T (same ∙ laid_is L) tt) in
       is_image y.0 y.1 c refl (ap (λ (z : Image). z.words.now) image-is ∙ K.words-are)
       (ap (λ (z : Image). z.sections) image-is ∙ K.own ∙ sym (image_placed ws y.0 y.1).own) (subst (TapeOf y.0) (sym tape-is) y.2)

@@ -31,7 +31,8 @@ mark_close-requires c =
     let q = with_frames c.args.scan c.requires.frames in
     let R = c.requires.ready in
     let inner = ready_close q c.args.token R c.in-Close.shown c.in-Close.is in
-    let top = subst (λ (f : Frame). (f.alternative < 511) × (f.start < 511)) (c.requires.top inner) (ready_top q c.args.token R c.in-Close.shown c.in-Close.is) in
+    let top =
+    subst (λ (f : Frame). (f.alternative < 511) × (f.start < 511)) (c.requires.top inner) (ready_top q c.args.token R c.in-Close.shown c.in-Close.is) in
     (R.below, omega (arith, shallow c.requires), top.0, top.1)
 
 pub returns-in-Letter : goal.returns-in-Letter

@@ -1,10 +1,12 @@
 -- `compare::same_masks`: at the first word that differs the sections do, and where none does they are the same.
 use mathlib.Core.Path.{refl, ◌∙◌}
+use Rattle.std.proofs.Common.{rules}
+use Rattle.image_sections.proofs.Laws.Within.{within}
 use Rattle.image_check.proofs.Laws.Compare.Masks.{depths_all, depths_none, mask_differs, mask_same, planes_all, planes_none}
 use Rattle.image_check.proofs.compare.same_masks.Goals as goal
 
 pub search-init : goal.search-init
-search-init g c = let r = c.requires in (refl, depths_none r.0 r.1 r.3 r.4 r.2)
+search-init g c = let r = c.requires in (refl, depths_none (within c.args.image.now.placed).narrow r.0 r.2 (search rules) r.1)
 
 pub loop-which-init : goal.loop-which-init
 loop-which-init g c = (c.search.invariant.0, planes_none c.search.invariant.1 c.search-test.true)

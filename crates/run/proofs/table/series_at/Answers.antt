@@ -4,6 +4,7 @@ use mathlib.Core.List.{List}
 use native.Mathlib.Omega.{arith}
 use Prim.Native.Nat.{ℕ, ◌<◌}
 use lib.ListN.{set}
+use Rattle.mask.proofs.Laws.Bits.{fit_row}
 use Rattle.run.proofs.Laws.Rows.{series_more}
 use Rattle.run.proofs.table.series_at.Goals as goal
 
@@ -13,3 +14,6 @@ loop-k-preserved c =
     let a = c.args in
     let k : l.k < 9 = omega (arith, c.requires.1, c.loop-k-test.true) in
     (omega arith, ap₂ (λ (t : List (List ℕ)) (w : List ℕ). set t l.k w) l.invariant.1 c.row_at.ensures ∙ series_more a.image.now a.at a.width a.which l.k k)
+
+pub returns-clause-words : goal.returns-clause-words
+returns-clause-words c = fit_row c.args.image.now c.type_inv.image

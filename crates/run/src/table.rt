@@ -1,8 +1,7 @@
 // The masks of work: from the image's words series by series, and then laid side by side, so that one index steps through all that a depth needs; and the
 // masks of the back edges after them.
 ghost use Rattle.std.specs.Prelude.{◌≡◌, ◌+◌, ◌*◌, ◌≤◌, ◌<◌, length};
-ghost use Rattle.model.specs.Models.Words.{Fit};
-ghost use Rattle.run.specs.Work.{Lessened, Put, PutBacks, series_at, SeriesOf, Sources, Tabled, Whole};
+ghost use Rattle.run.specs.Work.{AreWords, Lessened, Put, PutBacks, series_at, SeriesOf, Sources, Tabled, Whole};
 
 use crate::rows::row_at;
 use image_sections::Image;
@@ -20,7 +19,7 @@ pub type Table = [[u64; 8]; 97];
 // here, for a slice within a record does not show it.
 fn series_at(image: &[u64], at: usize, width: usize, count: usize, which: usize) -> Series
     requires { (width ≤ 8) × (count ≤ 9) × (which < 3) × (at + width * (3 * count) ≤ length image.now) }
-    ensures words { Fit image.now }
+    ensures words { AreWords image.now }
     ensures series { result ≡ series_at image.now at width count which }
 {
     let none = [0u64; 8];
@@ -41,7 +40,7 @@ fn less_ones(source: Series) -> Series
 // Series j of the nine: scatter's three, gather's three, propagate's three with the source less one.
 fn series(image: &Image, j: usize) -> Series
     requires { j < 9 }
-    ensures words { Fit image.now.words.now }
+    ensures words { AreWords image.now.words.now }
     ensures series { SeriesOf image.now.words.now image.now.sections.width image.now.sections.depth j result }
 {
     let width = image.sections.width;
@@ -107,7 +106,7 @@ pub fn all_sources(table: &Table, depth: usize) -> Mask
 }
 
 pub fn table(image: &Image) -> Table
-    ensures words { Fit image.now.words.now }
+    ensures words { AreWords image.now.words.now }
     ensures tabled { Tabled image.now.words.now image.now.sections.width image.now.sections.depth result }
 {
     let none = [0u64; 8];

@@ -13,6 +13,7 @@ use Rattle.run_word.proofs.Laws.Cut.{take_bit}
 use Rattle.run_word.proofs.Laws.Stretch.{begun, noted_few}
 use Rattle.run.specs.Work.{masks_of, rule_masks}
 use Rattle.run.proofs.Laws.Backs.{whole_backs}
+use Rattle.run.proofs.Laws.Rows.{words_fit}
 use Rattle.run.proofs.Laws.Table.{close_wide, tabled_of, work_ends}
 use Rattle.run.proofs.ends.find_words.Goals as goal
 
@@ -40,7 +41,7 @@ returns c =
     let ws = a.image.now.words.now in
     let text = a.text.now in
     let table = c.table-masks.result in
-    let fits = c.table-masks.ensures.words in
+    let fits = words_fit ws c.table-masks.ensures.words in
     let M = rule_masks ws w table in
     let live = take w q.result.words in
     let P = a.image.now.placed in

@@ -4,7 +4,6 @@ use mathlib.Core.List.{List}
 use native.Mathlib.Omega.{arith}
 use Prim.Native.Nat.{ℕ, ◌<◌}
 use lib.ListN.{set}
-use Rattle.mask.proofs.Laws.Bits.{fit_row}
 use Rattle.run.proofs.Laws.Rows.{series_more}
 use Rattle.run.proofs.table.series_at.Goals as goal
 
@@ -16,4 +15,4 @@ loop-k-preserved c =
     (omega arith, ap₂ (λ (t : List (List ℕ)) (w : List ℕ). set t l.k w) l.invariant.1 c.row_at.ensures ∙ series_more a.image.now a.at a.width a.which l.k k)
 
 pub returns-clause-words : goal.returns-clause-words
-returns-clause-words c = fit_row c.args.image.now c.type_inv.image
+returns-clause-words c = λ i. (c.type_inv.image i).fits

@@ -120,12 +120,14 @@ impl Work {
         ensures tabled { Tabled image.now.words.now image.now.sections.width image.now.sections.depth result.table }
     {
         let none = [0u64; 8];
-        let mut table = [none; 97];
+        let mut r = Work {
+            table: [none; 97],
+            depth: image.sections.depth,
+        };
         for j in 0..9 {
-            put_series(&mut table, j, series(image, j));
+            put_series(&mut r.table, j, series(image, j));
         }
-        put_backs(&mut table, image);
-        let depth = image.sections.depth;
-        Work { table, depth }
+        put_backs(&mut r.table, image);
+        r
     }
 }

@@ -58,8 +58,10 @@ impl<'a> Edges<'a> {
     pub fn of(image: Image<'a>) -> Edges<'a>
         ensures { result.image ≡ image.entry }
     {
-        let masks = Work::of(&image);
-        Edges { image, masks }
+        Edges {
+            image,
+            masks: Work::of(&image),
+        }
     }
 
     // All that a state reaches without a letter.

@@ -7,8 +7,6 @@ use Rattle.model.specs.Models.Words.{value}
 use Rattle.model.specs.Tree.{Tree}
 use Rattle.model.specs.Models.Leads.{Chain, Leads}
 use Rattle.model.specs.Spelling.{between, Follow, Reaches}
-use Rattle.image_sections.specs.Sections.{Placed}
-use Rattle.image_sections.specs.declared.Sections.{Sections}
 use Rattle.run_edges.specs.Reach.{EnterSays, ReachSays, reach_words}
 use Rattle.run.specs.Says.{StatesAre}
 
@@ -154,10 +152,9 @@ pub record WriteSays (image : List ℕ) (origins : List (List ℕ)) (last : ℕ)
   pub follows : (t : Tree) → Ready image origins last t → KeptFrom t text end start kept → Leads t (between text start end) 0
       → Follow t 0 (between text start end) (take (end - start) after)
 
--- ---- the whole: a tree's image with its places, and an end in a text that is not too long
-pub record ProposeAsks (image : List ℕ) (p : Sections) (text : List ℕ) (end : ℕ) : Type 0 where
+-- ---- the whole: a tree's image, and an end in a text that is not too long
+pub record ProposeAsks (image text : List ℕ) (end : ℕ) : Type 0 where
   pub tree : Tree
   pub image_of : ImageOf image tree
-  pub placed : Placed image p
   pub inside : end ≤ length text
   pub short : length text ≤ 65535

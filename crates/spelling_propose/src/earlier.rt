@@ -1,13 +1,11 @@
 // The sets of earlier places, which go back from an end place.
 ghost use Rattle.std.specs.Prelude.{◌<◌};
-ghost use Rattle.image_sections.specs.Sections.{Placed};
 ghost use Rattle.spelling_propose.specs.Work.{BackSays, EndingSays};
 
 use crate::origins::{Origins, into};
 use crate::sets::with_state;
-use image_sections::Sections;
 use mask::Mask;
-use run_edges::leave;
+use run_edges::Edges;
 
 // The states that reach the accepting state without a letter.
 pub fn ending(origins: &Origins, last: usize) -> [u64; 8]
@@ -19,16 +17,9 @@ pub fn ending(origins: &Origins, last: usize) -> [u64; 8]
 }
 
 // One byte back.
-pub fn back(
-    image: &[u64],
-    sections: Sections,
-    origins: &Origins,
-    set: [u64; 8],
-    byte: u8,
-) -> [u64; 8]
-    requires { Placed image.now sections }
-    ensures { BackSays image.now origins.now set byte result }
+pub fn back(edges: &Edges, origins: &Origins, set: [u64; 8], byte: u8) -> [u64; 8]
+    ensures { BackSays edges.now.image.words.now origins.now set byte result }
 {
-    let left = leave(image, sections, Mask { words: set }, byte);
+    let left = edges.leave(Mask { words: set }, byte);
     into(origins, left.words)
 }

@@ -1,14 +1,11 @@
 // For each state the states that reach it without a letter, made once in a call by a pass from every state. Going back along such edges is then to gather
 // the origins of a set's states: no pass goes the other way.
 ghost use Rattle.std.specs.Prelude.{◌≡◌, ◌+◌, ◌≤◌, ◌<◌, length};
-ghost use Rattle.image_sections.specs.Sections.{Placed};
-ghost use Rattle.run_edges.specs.Reach.{WorkOf};
 ghost use Rattle.spelling_propose.specs.Work.{IntoSays, IntoWordSays, NoteSays, OriginsSays};
 
 use crate::sets::{either, with_state};
-use image_sections::Sections;
 use mask::bits::row_has_bit;
-use run_edges::{Work, reach};
+use run_edges::Edges;
 
 // Row p has the states that reach state p.
 pub type Origins = [[u64; 8]; 512];
@@ -26,20 +23,14 @@ fn note(origins: &mut Origins, q: usize, reached: [u64; 8], count: usize)
 }
 
 // Into lent rows, whatever they hold: as a result they would be copied twice, which takes 64 KB of stack.
-pub fn find_origins(
-    image: &[u64],
-    sections: Sections,
-    masks: &Work,
-    count: usize,
-    origins: &mut Origins,
-)
-    requires { Placed image.now sections × WorkOf image.now masks.now × (count ≤ 512) }
-    ensures { OriginsSays image.now count origins.new }
+pub fn find_origins(edges: &Edges, origins: &mut Origins)
+    ensures { OriginsSays edges.now.image.words.now edges.now.image.sections.states origins.new }
 {
+    let count = edges.image.sections.states;
     let none = [0u64; 8];
     *origins = [none; 512];
     for q in 0..count {
-        let reached = reach(image, sections, masks, q);
+        let reached = edges.reach(q);
         note(origins, q, reached.words, count);
     }
 }

@@ -15,6 +15,11 @@ use Rattle.model.proofs.Laws.Bool.{le_or_lt}
 use Rattle.model.specs.Models.Leads.{Leads}
 use Rattle.model.specs.Spelling.{between, Latest, no_end, no_room, Proposal, proposed, proposes, proposes_none, ProposeSays, Spelled}
 use Rattle.model.proofs.Spelling.Ends.{spelled_end, spelled_leads}
+use Rattle.image_sections.specs.Sections.{Placed}
+use Rattle.image_sections.specs.declared.image.Image.{Image}
+use Rattle.image_check.specs.Says.{CheckSays}
+use Rattle.image_check.specs.declared.Checked.{Checked}
+use Rattle.image_check.proofs.Laws.Found.{words_found}
 use Rattle.image_sections.specs.declared.Sections.{Sections}
 use Rattle.image_sections.proofs.Laws.OfTree.{states_is}
 use Rattle.image_sections.proofs.Laws.Within.{own_states}
@@ -28,6 +33,10 @@ passed_on {A} {o} {x} {given} e v = its (rw e at v)
     its : ◌≡◌ {A = Result A Refusal} (Err x) (Err given) → x ≡ given
     its z = cc
 
+-- the edges are of the words that were checked
+pub its_words : {words : List ℕ} {r : Option Checked} {c : Checked} {i : Image} → CheckSays words r → r ≡ Some c → i ≡ c.image → i.words.now ≡ words
+its_words {words} C g e = ap (λ (x : Image). x.words.now) e ∙ words_found words C g
+
 -- an end lies in the text
 pub past_text : (words text : List ℕ) (end : ℕ) (before : List ℕ) (t : Tree) → ImageOf words t → length text ≤ 65535 → length text < end
     → ProposeSays words text end before (proposes_none 16 before)
@@ -35,10 +44,10 @@ past_text words text end before t I short h =
     no_end t I short (λ e. let s = (spelled_end t I.is_rule text end).1 e in omega (arith, s.2.inside)) refl
 
 -- what the search and the writing ask
-pub asked : {words : List ℕ} {p : Sections} {text : List ℕ} {end : ℕ} → ProposeAsks words p text end → Asked text end (p.states - 1)
-asked A = record { inside = A.inside; short = A.short; state = omega (arith, own_states A.placed, A.placed.few) }
+pub asked : {words : List ℕ} {p : Sections} {text : List ℕ} {end : ℕ} → Placed words p → ProposeAsks words text end → Asked text end (p.states - 1)
+asked P A = record { inside = A.inside; short = A.short; state = omega (arith, own_states P, P.few) }
 
-module _ {words : List ℕ} {p : Sections} {text : List ℕ} {end : ℕ} (A : ProposeAsks words p text end) (before : List ℕ) where
+module _ {words : List ℕ} {p : Sections} {text : List ℕ} {end : ℕ} (P : Placed words p) (A : ProposeAsks words text end) (before : List ℕ) where
   abbrev t : Tree
   t = A.tree
 
@@ -54,7 +63,7 @@ module _ {words : List ℕ} {p : Sections} {text : List ℕ} {end : ℕ} (A : Pr
   module _ {origins : List (List ℕ)} (O : OriginsSays words p.states origins) {kept : List (List ℕ)} {r : Option ℕ}
       (S : StartSays words origins last text end kept r) where
     R : Ready words origins last t
-    R = ready words origins p.states t I (own_states A.placed ∙ states_is words t I) O
+    R = ready words origins p.states t I (own_states P ∙ states_is words t I) O
 
     pub nowhere : r ≡ None → Says (proposes_none 16 before)
     nowhere e = no_end t I A.short (λ d. go (subst (StartSays words origins last text end kept) e S) ((spelled_end t I.is_rule text end).1 d)) refl

@@ -6,4 +6,4 @@ pub returns : goal.returns
 returns c =
     let a = c.args in
     let l = c.leave-left in
-    back_says a.image.now a.origins.now a.set l.result.words c.into.result a.byte l.ensures.left c.into.ensures
+    back_says a.edges.now.image.words.now a.origins.now a.set l.result.words c.into.result a.byte l.ensures.left c.into.ensures

@@ -1,11 +1,10 @@
 // The masks of work: from the image's words series by series, and then laid side by side, so that one index steps through all that a depth needs; and the
 // masks of the back edges after them.
 ghost use Rattle.std.specs.Prelude.{◌≡◌, ◌+◌, ◌*◌, ◌≤◌, ◌<◌, length};
-ghost use Rattle.image_sections.specs.Sections.{Placed};
-ghost use Rattle.run.specs.Work.{Lessened, Put, PutBacks, series_at, SeriesOf, Sources, Tabled, Whole};
+ghost use Rattle.run.specs.Work.{AreWords, Lessened, Put, PutBacks, series_at, SeriesOf, Sources, Tabled, Whole};
 
 use crate::rows::row_at;
-use image_sections::Sections;
+use image_sections::Image;
 use mask::Mask;
 use mask::logic::or;
 use run_moves::less_one;
@@ -16,10 +15,12 @@ pub type Series = [[u64; 8]; 9];
 // Nine series, nine masks to a depth; then the source and the target of the back edges of depths 0 to 7.
 pub type Table = [[u64; 8]; 97];
 
-// Mask `which` of the three of each depth below count, from a section's first word on.
+// Mask `which` of the three of each depth below count, from a section's first word on. That the words are of 64 bits is told
+// here, for a slice within a record does not show it.
 fn series_at(image: &[u64], at: usize, width: usize, count: usize, which: usize) -> Series
     requires { (width ≤ 8) × (count ≤ 9) × (which < 3) × (at + width * (3 * count) ≤ length image.now) }
-    ensures { result ≡ series_at image.now at width count which }
+    ensures words { AreWords image.now }
+    ensures series { result ≡ series_at image.now at width count which }
 {
     let none = [0u64; 8];
     let mut r = [none; 9];
@@ -37,19 +38,26 @@ fn less_ones(source: Series) -> Series
 }
 
 // Series j of the nine: scatter's three, gather's three, propagate's three with the source less one.
-fn series(image: &[u64], sections: Sections, j: usize) -> Series
-    requires { Placed image.now sections × (j < 9) }
-    ensures { SeriesOf image.now sections.width sections.depth j result }
+fn series(image: &Image, j: usize) -> Series
+    requires { j < 9 }
+    ensures words { AreWords image.now.words.now }
+    ensures series { SeriesOf image.now.words.now image.now.sections.width image.now.sections.depth j result }
 {
-    let width = sections.width;
-    let depth = sections.depth;
+    let width = image.sections.width;
+    let depth = image.sections.depth;
     if j < 3 {
-        return series_at(image, sections.scatter, width, depth, j);
+        return series_at(image.words, image.sections.scatter, width, depth, j);
     }
     if j < 6 {
-        return series_at(image, sections.gather, width, depth, j - 3);
+        return series_at(image.words, image.sections.gather, width, depth, j - 3);
     }
-    let masks = series_at(image, sections.propagate, width, depth + 1, j - 6);
+    let masks = series_at(
+        image.words,
+        image.sections.propagate,
+        width,
+        depth + 1,
+        j - 6,
+    );
     if j == 7 {
         return less_ones(masks);
     }
@@ -67,15 +75,15 @@ fn put_series(table: &mut Table, j: usize, masks: Series)
 }
 
 // The masks of the back edges into theirs.
-fn put_backs(table: &mut Table, image: &[u64], sections: Sections)
-    requires { Placed image.now sections × (length table.old ≡ 97) }
-    ensures { PutBacks (2 * sections.depth) image.now sections.width sections.depth table.old table.new }
+fn put_backs(table: &mut Table, image: &Image)
+    requires { length table.old ≡ 97 }
+    ensures { PutBacks (2 * image.now.sections.depth) image.now.words.now image.now.sections.width image.now.sections.depth table.old table.new }
 {
-    let at = sections.back;
-    let width = sections.width;
-    let depth = sections.depth;
+    let at = image.sections.back;
+    let width = image.sections.width;
+    let depth = image.sections.depth;
     for i in 0..2 * depth {
-        table[81 + i] = row_at(image, at + width * i, width);
+        table[81 + i] = row_at(image.words, at + width * i, width);
     }
 }
 
@@ -97,15 +105,15 @@ pub fn all_sources(table: &Table, depth: usize) -> Mask
     r
 }
 
-pub fn table(image: &[u64], sections: Sections) -> Table
-    requires { Placed image.now sections }
-    ensures { Tabled image.now sections.width sections.depth result }
+pub fn table(image: &Image) -> Table
+    ensures words { AreWords image.now.words.now }
+    ensures tabled { Tabled image.now.words.now image.now.sections.width image.now.sections.depth result }
 {
     let none = [0u64; 8];
     let mut r = [none; 97];
     for j in 0..9 {
-        put_series(&mut r, j, series(image, sections, j));
+        put_series(&mut r, j, series(image, j));
     }
-    put_backs(&mut r, image, sections);
+    put_backs(&mut r, image);
     r
 }

@@ -1,22 +1,26 @@
 // The table of work: the masks of scatter, gather and propagate for each depth, from the image's words; and beside it those of the back edges.
 ghost use Rattle.std.specs.Prelude.{◌≡◌, ◌<◌, ◌≤◌, length};
+ghost use Rattle.model.specs.Models.Sections.{back_at, image_length};
+ghost use Rattle.model.specs.Models.Words.{Fit};
 ghost use Rattle.image_sections.specs.Sections.{Single};
 ghost use Rattle.run_word.specs.One.{Backs, Entered, entry_at, NoBack, NoChain};
 
-use image_sections::Sections;
+use image_sections::Image;
 
 // Word j of the nine of depth k.
-fn entry(image: &[u64], sections: Sections, k: usize, j: usize) -> u64
-    requires { Single sections (length image.now) × (k ≤ sections.depth) × (j < 9) }
-    ensures { result ≡ entry_at image.now sections.depth k j }
+fn entry(image: &Image, k: usize, j: usize) -> u64
+    requires { Single image.now.sections (length image.now.words.now) × (k ≤ image.now.sections.depth) × (j < 9) }
+    ensures { result ≡ entry_at image.now.words.now image.now.sections.depth k j }
 {
+    let words = image.words;
+    let sections = image.sections;
     if j < 3 {
-        return image[sections.scatter + 3 * k + j - 3];
+        return words[sections.scatter + 3 * k + j - 3];
     }
     if j < 6 {
-        return image[sections.gather + 3 * k + j - 6];
+        return words[sections.gather + 3 * k + j - 6];
     }
-    let word = image[sections.propagate + 3 * k + j - 6];
+    let word = words[sections.propagate + 3 * k + j - 6];
     if j == 7 {
         return word.wrapping_sub(1);
     }
@@ -24,14 +28,14 @@ fn entry(image: &[u64], sections: Sections, k: usize, j: usize) -> u64
 }
 
 // The words of depths 0 to d, zeros after.
-pub fn table(image: &[u64], sections: Sections) -> [u64; 81]
-    requires { Single sections (length image.now) }
-    ensures { Entered image.now sections.depth result }
+pub fn table(image: &Image) -> [u64; 81]
+    requires { Single image.now.sections (length image.now.words.now) }
+    ensures { Entered image.now.words.now image.now.sections.depth result }
 {
-    let depth = sections.depth;
+    let depth = image.sections.depth;
     let mut r = [0u64; 81];
     for i in 0..9 * (depth + 1) {
-        r[i] = entry(image, sections, i / 9, i % 9);
+        r[i] = entry(image, i / 9, i % 9);
     }
     r
 }
@@ -49,15 +53,16 @@ pub fn any_chain(table: &[u64; 81], depth: usize) -> bool
     false
 }
 
-// Source and target of the back edges of each depth below d, zeros after.
-pub fn backs(image: &[u64], sections: Sections) -> [u64; 16]
-    requires { Single sections (length image.now) }
-    ensures { Backs image.now sections.depth result }
+// Source and target of the back edges of each depth below d, from the words at their section's place, zeros after. That the words are of 64 bits is
+// told here: a slice within a record does not show it.
+pub fn backs(words: &[u64], at: usize, depth: usize) -> [u64; 16]
+    requires { (at ≡ back_at 1 depth) × (depth ≤ 8) × (length words.now ≡ image_length 1 depth) }
+    ensures words { Fit words.now }
+    ensures edges { Backs words.now depth result }
 {
-    let at = sections.back;
-    let count = 2 * sections.depth;
+    let count = 2 * depth;
     let mut r = [0u64; 16];
-    r[..count].copy_from_slice(&image[at..at + count]);
+    r[..count].copy_from_slice(&words[at..at + count]);
     r
 }
 

@@ -2,7 +2,7 @@
 use Rattle.std.proofs.Common.{◌≡◌, ℕ, zero, suc, ◌+◌, ◌*◌, ◌%◌, ◌^◌, ◌<◌, ◌≤◌, Bool, false, leb, List, [], ◌∷◌, length, get_or, take, set, sym, refl, ap, ◌∙◌, subst, le_of_suc-le-suc, not-suc-le-zero, add-one, arith}
 use Rattle.model.specs.Bits.{digit}
 use Rattle.model.specs.Models.Words.{ripple, shift_words}
-use Rattle.mask.proofs.Laws.Filled.{Filled, filled_none, filled_more, filled_take}
+use Rattle.mask.proofs.Laws.Filled.{Filled, filled_more, filled_take}
 use Rattle.mask.proofs.Laws.Take.{take_ripple}
 use Rattle.mask.specs.Rows.{shift_word, top_bit, Upto}
 
@@ -37,9 +37,6 @@ module _ (word : ℕ → ℕ → Bool → ℕ) (out : ℕ → ℕ → Bool → B
   pub record Rippled (n : ℕ) (xs ys row : List ℕ) (d i : ℕ) : Type 0 where
     pub words : Filled n (ripple word out xs ys false) row i
     pub handed : d ≡ digit (into_word out xs ys false i)
-
-  pub rippled_none : {n : ℕ} {xs ys row : List ℕ} → length row ≡ n → Rippled n xs ys row 0 0
-  rippled_none e = record { words = filled_none e; handed = refl }
 
   module _ {n : ℕ} {xs ys row : List ℕ} {d i : ℕ} (R : Rippled n xs ys row d i) (hx : length xs ≡ n) (hy : length ys ≡ n) where
     -- one word more: t is stored and e is handed on, whatever truth b the number d stands for

@@ -1,19 +1,16 @@
 -- THE BACK STEP, WORD BY WORD FROM THE HIGHEST DOWN: what a row gives from word i on is made of its words from i on, and what goes down from there is
 -- whether their first source is live. Where no source is live, or every target is, nothing is added.
-use mathlib.Core.Path.{◌≡◌, refl, sym, ap, ap₂, ◌∙◌, subst}
-use mathlib.Core.Logic.{inl, inr}
+use mathlib.Core.Path.{◌≡◌, refl, sym, ap, ap₂, ◌∙◌}
 use mathlib.Core.Bool.{Bool, false}
 use mathlib.Core.List.{List, [], ◌∷◌}
 use Prim.Native.Nat.{ℕ, zero, suc, ◌-◌, ◌≤◌, ◌<◌}
 use native.Mathlib.Omega.{arith}
 use lib.Bits.{bit_or}
-use lib.ListN.{drop, get_or, length, length-set, get_or-eq_default, set, take}
-use lib.Seq.{drop-set-lt, get_or-set_same, slice, slice-cons, slice_empty, take_all, take-set-lt}
+use lib.ListN.{drop, get_or, length, length-set, set, take}
+use lib.Seq.{drop-set-lt, get_or-set_same, slice, slice-cons, take-set-lt}
 use Rattle.model.specs.Bits.{bit}
 use Rattle.model.specs.Models.Run.{ahead, back_word, first_live, return_words}
 use Rattle.model.specs.Models.Words.{Fit, or_words}
-use Rattle.model.proofs.Laws.Bool.{le_or_lt}
-use Rattle.mask.specs.Rows.{Upto}
 use Rattle.run_back.proofs.Laws.Adds.{adds_held, adds_none, no_source}
 use Rattle.run_moves.specs.Sets.{Apart, Holds}
 
@@ -24,25 +21,12 @@ pub record Led (m : ℕ) (ss ts ls row : List ℕ) (above : Bool) (i : ℕ) : Ty
   pub made : slice i m row ≡ return_words (slice i m ss) (slice i m ts) (slice i m ls)
   pub handed : above ≡ first_live (slice i m ss) (slice i m ls)
 
-module _ {m : ℕ} {ss ts ls row : List ℕ} where
-  pub led_none : length row ≡ 8 → Led m ss ts ls row false m
-  led_none e = record {
-    within = omega arith;
-    long = e;
-    made = slice_empty m row ∙ ap (λ (l : List ℕ). return_words l (slice m m ts) (slice m m ls)) (sym (slice_empty m ss));
-    handed = ap (λ (l : List ℕ). first_live l (slice m m ls)) (sym (slice_empty m ss));
-  }
-
 -- the words from j on, with word j stored
 stored : (m j v : ℕ) (row : List ℕ) → j < m → m ≤ length row → slice j m (set row j v) ≡ v ∷ slice (suc j) m row
 stored m j v row h k =
     slice-cons j m (set row j v) 0 h (omega (arith, length-set row j v))
     ∙ ap₂ (λ (x : ℕ) (l : List ℕ). x ∷ l) (get_or-set_same row j v 0 (omega arith))
     (ap (drop (suc j)) (take-set-lt m row j v h) ∙ drop-set-lt (suc j) (take m row) j v (omega arith))
-
--- where word i - 1 goes
-pub led_low : {m : ℕ} {ss ts ls row : List ℕ} {above : Bool} {i : ℕ} → Led m ss ts ls row above i → m ≤ 8 → 0 < i → (i - 1 < 8) × (i - 1 < i)
-led_low L few h = (omega (arith, L.within), omega arith)
 
 module _ {m : ℕ} {ss ts ls row : List ℕ} {above : Bool} {i : ℕ} (L : Led m ss ts ls row above i) (few : m ≤ 8)
     (hs : length ss ≡ 8) (ht : length ts ≡ 8) (hl : length ls ≡ 8) where
@@ -80,33 +64,6 @@ module _ {m : ℕ} {ss ts ls row : List ℕ} {above : Bool} {i : ℕ} (L : Led m
 
       hands : above ≡ first_live (slice (suc j) m ss) (slice (suc j) m ls)
       hands = L.handed ∙ ap (λ (k : ℕ). first_live (slice k m ss) (slice k m ls)) (sym next)
-
-  -- all words, where the loop began at n or at the end of a row of eight
-  pub led_take : {n : ℕ} → i ≡ 0 → Upto n m → take n row ≡ return_words (take n ss) (take n ts) (take n ls)
-  led_take {n} z u =
-      same row L.long ∙ whole
-      ∙ sym (ap₂ (λ (x y : List ℕ). return_words x y (take n ls)) (same ss hs) (same ts ht) ∙ ap (return_words (take m ss) (take m ts)) (same ls hl))
-    where
-      whole : take m row ≡ return_words (take m ss) (take m ts) (take m ls)
-      whole = ap (λ (k : ℕ). slice k m row) (sym z) ∙ L.made ∙ ap (λ (k : ℕ). return_words (slice k m ss) (slice k m ts) (slice k m ls)) z
-
-      same : (xs : List ℕ) → length xs ≡ 8 → take n xs ≡ take m xs
-      same xs e = elim u.1 [
-        | inl q ↦ ap (λ (k : ℕ). take k xs) (sym q)
-        | inr q ↦ take_all n xs (omega (arith, u.2)) ∙ sym (take_all m xs (omega arith))
-      ]
-
--- ---- two rows word by word: what holds of the words passed holds of all, where the loop ran to n or to the end of two rows of eight
-pub words_all : (P : ℕ → ℕ → Type 0) → P 0 0 → (xs ys : List ℕ) {i n stop : ℕ} → ((k : ℕ) → k < i → P (get_or xs k 0) (get_or ys k 0))
-    → Upto n stop → length xs ≡ 8 → length ys ≡ 8 → stop ≤ i → (k : ℕ) → k < n → P (get_or xs k 0) (get_or ys k 0)
-words_all P none xs ys {i} {n} A u hx hy h k l = elim (le_or_lt i k) [
-  | inr m ↦ A k m
-  | inl m ↦ elim u.1 [
-    | inl q ↦ absurd (omega arith)
-    | inr q ↦ subst (λ (x : ℕ). P x (get_or ys k 0)) (sym (get_or-eq_default xs 0 (omega arith)))
-        (subst (P 0) (sym (get_or-eq_default ys 0 (omega arith))) none)
-  ]
-]
 
 -- ---- NOTHING IS ADDED without a live source
 first_none : (n : ℕ) (ss ls : List ℕ) → Apart n ss ls → first_live (take n ss) (take n ls) ≡ false

@@ -1,7 +1,6 @@
 -- `come_back`: where a test ends it nothing is added (`return_none`, `return_held`).
-use mathlib.Core.Path.{◌≡◌, sym, ap, ◌∙◌}
-use lib.ListN.{length, take}
-use Rattle.model.specs.Models.Words.{or_words}
+use mathlib.Core.Path.{◌≡◌, sym, ◌∙◌}
+use lib.ListN.{length}
 use Rattle.mask.proofs.Laws.Bits.{fit_row}
 use Rattle.run_moves.proofs.Laws.Back.{return_held, return_none}
 use borrow.Author.Rules.{rules}

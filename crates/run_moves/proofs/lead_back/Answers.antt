@@ -1,9 +1,6 @@
 -- `lead_back`: the words from i on are made and hand down whether their first source is live, and each turn makes the word below (`led_more`).
-use Prim.Native.Nat.{◌-◌}
-use native.Mathlib.Omega.{arith}
-use lib.Dec.{lit<}
-use Rattle.run_moves.proofs.Laws.Back.{led_low, led_more, led_none, led_take}
-use borrow.Author.Rules.{rules, scaled_Fits}
+use Rattle.run_moves.proofs.Laws.Back.{led_more}
+use borrow.Author.Rules.{rules}
 use Rattle.run_moves.proofs.lead_back.Goals as goal
 
 pub loop-i-preserved : goal.loop-i-preserved

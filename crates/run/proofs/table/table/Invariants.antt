@@ -3,8 +3,8 @@ use mathlib.Core.Path.{◌≡◌}
 use mathlib.Core.List.{[]}
 use Prim.Native.Nat.{ℕ, ◌+◌, ◌*◌, ◌<◌}
 use lib.ListN.{get_or, length}
-use Rattle.run.specs.Work.{series_row}
+use Rattle.run.specs.Work.{AreWords, series_row}
 use Rattle.run.proofs.table.table.Given as goal
 
 abbrev pub invariant-loop-j : goal.invariant-loop-j
-invariant-loop-j l = (length l.r ≡ 97) × ((k i : ℕ) → k < 9 → i < l.j → get_or l.r (9 * k + i) [] ≡ series_row l.image l.sections.width l.sections.depth i k)
+invariant-loop-j l = (length l.r ≡ 97) × (0 < l.j → AreWords l.image.words.now) × ((k i : ℕ) → k < 9 → i < l.j → get_or l.r (9 * k + i) [] ≡ series_row l.image.words.now l.image.sections.width l.image.sections.depth i k)

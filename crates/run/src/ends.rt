@@ -47,7 +47,7 @@ pub fn find(image: &Image, text: &[u8], ends: &mut [u32]) -> u64
     ensures { FindSays image.now.words.now text.now ends.old result ends.new }
 {
     if image.sections.states <= 64 {
-        return run_word::ends::find(image.words, image.sections, text, ends);
+        return run_word::ends::find(image, text, ends);
     }
     find_words(image, text, ends)
 }
@@ -82,7 +82,7 @@ fn go_on_word(image: &Image, mask: &[u64], place: u64, stretch: &[u8], ends: &mu
     ensures { GoOnSays image.now.words.now mask.now place stretch.now ends.old result.words result.total ends.new }
 {
     let first = mask[0];
-    let ran = run_word::ends::go_on(image.words, image.sections, first, place, stretch, ends);
+    let ran = run_word::ends::go_on(image, first, place, stretch, ends);
     let mut words = [0u64; 8];
     words[0] = ran.live;
     Ran {

@@ -45,6 +45,7 @@ fn repeats(image: &Image, byte: u8) -> [u64; 8]
 
 // An image with the masks of work made once from it, to go along many edges. That its words are of 64 bits stands here, for a slice within a record does
 // not show it.
+#[derive(Drop)]
 pub struct Edges<'a> {
     pub image: Image<'a>,
     pub masks: Table,

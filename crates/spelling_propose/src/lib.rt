@@ -15,7 +15,7 @@ ghost use Rattle.model.specs.Spelling.{ProposeSays};
 ghost use Rattle.answers.specs.Answers.{proposal};
 ghost use Rattle.spelling_propose.specs.Work.{ProposeAsks};
 
-use crate::origins::find_origins;
+use crate::origins::{Origins, find_origins};
 use crate::search::find_start;
 use crate::write::write;
 use answers::{Proposed, Refusal};
@@ -47,17 +47,17 @@ fn propose(edges: &Edges, text: &[u8], end: usize, states: &mut [u32]) -> Result
     requires { ProposeAsks edges.now.image.words.now text.now end }
     ensures { ProposeSays edges.now.image.words.now text.now end states.old (proposal result states.new) }
 {
-    let last = edges.image.sections.states - 1;
     let none = [0u64; 8];
-    let mut origins = [none; 512];
-    find_origins(edges, &mut origins);
+    let mut rows = [none; 512];
+    find_origins(edges, &mut rows);
+    let origins = Origins { edges, rows: &rows };
     let mut kept = [none; 256];
-    let found = find_start(edges, text, end, last, &origins, &mut kept);
+    let found = find_start(&origins, text, end, &mut kept);
     let start = found.ok_or(Refusal::NotAnEnd)?;
     let count = end - start;
     if states.len() < count {
         return Err(Refusal::NoRoomForStates);
     }
-    write(edges, text, start, end, last, &origins, &kept, states);
+    write(&origins, text, start, end, &kept, states);
     Ok(Proposed { start, count })
 }

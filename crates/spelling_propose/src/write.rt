@@ -11,22 +11,14 @@ use mask::logic::and;
 use run_edges::Edges;
 
 // The sets of the places after lo up to hi, from that of hi.
-fn fill(
-    edges: &Edges,
-    text: &[u8],
-    lo: usize,
-    hi: usize,
-    origins: &Origins,
-    set: [u64; 8],
-    sets: &mut Kept,
-)
+fn fill(origins: &Origins, text: &[u8], lo: usize, hi: usize, set: [u64; 8], sets: &mut Kept)
     requires { Stretch text.now lo hi × (length sets.old ≡ 256) }
-    ensures { FillSays edges.now.image.words.now origins.now text.now lo hi set sets.new }
+    ensures { FillSays origins.now.edges.now.image.words.now text.now lo hi set sets.new }
 {
     let mut here = set;
     for k in (lo..hi).rev() {
         sets[k - lo] = here;
-        let before = back(edges, origins, here, text[k]);
+        let before = back(origins, here, text[k]);
         here = before;
     }
 }
@@ -73,29 +65,27 @@ fn stop_after(k: usize, end: usize) -> usize
 }
 
 // The set of a place at which a stretch stops.
-fn set_at(end: usize, last: usize, origins: &Origins, kept: &Kept, stop: usize) -> [u64; 8]
-    requires { (stop ≤ 65535) × (last < 512) }
-    ensures { SetSays origins.now last end kept.now stop result }
+fn set_at(origins: &Origins, end: usize, kept: &Kept, stop: usize) -> [u64; 8]
+    requires { stop ≤ 65535 }
+    ensures { SetSays origins.now.edges.now.image.words.now end kept.now stop result }
 {
     if stop == end {
-        return ending(origins, last);
+        return ending(origins);
     }
     kept[stop / 256]
 }
 
 // The states of the spelling from start to end, into the first words of the list.
 pub fn write(
-    edges: &Edges,
+    origins: &Origins,
     text: &[u8],
     start: usize,
     end: usize,
-    last: usize,
-    origins: &Origins,
     kept: &Kept,
     states: &mut [u32],
 )
-    requires { WriteAsks text.now start end last states.old }
-    ensures { WriteSays edges.now.image.words.now origins.now last text.now start end kept.now states.old states.new }
+    requires { WriteAsks text.now start end states.old }
+    ensures { WriteSays origins.now.edges.now.image.words.now text.now start end kept.now states.old states.new }
 {
     let none = [0u64; 8];
     let mut sets = [none; 256];
@@ -104,9 +94,9 @@ pub fn write(
     // No for: a stretch goes to the next 256th place, so the first and the last may be shorter.
     while k < end {
         let stop = stop_after(k, end);
-        let set = set_at(end, last, origins, kept, stop);
-        fill(edges, text, k, stop, origins, set, &mut sets);
-        at = walk(edges, text, k, stop, &sets, at, start, states);
+        let set = set_at(origins, end, kept, stop);
+        fill(origins, text, k, stop, set, &mut sets);
+        at = walk(origins.edges, text, k, stop, &sets, at, start, states);
         k = stop;
     }
 }

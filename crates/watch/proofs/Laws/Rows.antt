@@ -82,7 +82,7 @@ module _ {ws : List ℕ} {r : Option Checked} {c : Checked} (C : CheckSays ws r)
         ∙ ap (λ (m : List ℕ). goes_on m 0 (noted hit 0) ends) (laid ∙ ap (λ (n : ℕ). take n words) width_is))
       where
         A : run.StatesAre t words (Before t)
-        A = (rw own at B) t I
+        A = subst (λ (xs : List ℕ). run.BeginSays xs words) own B t I
 
         last_is : p.states - 1 ≡ accepting t
         last_is = omega (arith, states_are)
@@ -125,7 +125,7 @@ module _ {ws : List ℕ} {r : Option Checked} {c : Checked} (C : CheckSays ws r)
         pub step_done : {ends words : List ℕ} {total : ℕ} {after new : List ℕ} → run.GoOnSays c.image.words.now mask place stretch ends words total after → new ≡ take p.width words
             → StepSays ws mask place stretch ends (gives total (watch new (place + length stretch) after))
         step_done {ends} {words} {total} {after} {new} G laid =
-            let R = (rw own at G) t I M in
+            let R = subst (λ (xs : List ℕ). run.GoOnSays xs mask place stretch ends words total after) own G t I M in
             stepped t (take (width (states t)) words) R.found I small M (omega arith) R.live R.ends
             (ap₂ (λ (n : ℕ) (l : List ℕ). gives n (watch new (place + length stretch) l)) R.counted R.stored
             ∙ ap (λ (m : List ℕ). goes_on m (place + length stretch) R.found ends) (laid ∙ ap (λ (n : ℕ). take n words) width_is))

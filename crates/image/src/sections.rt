@@ -29,9 +29,9 @@ fn put_depth<const N: usize>(
     width: usize,
     depth: usize,
     first: usize,
-    masks: &[u64],
+    masks: &[u64; 936],
 )
-    requires { (width ≤ 8) × (depth < 9) × (at + N * width ≤ length_of words.old) × (first + N ≤ planes) × (length_of masks.now ≡ 936) }
+    requires { (width ≤ 8) × (depth < 9) × (at + N * width ≤ length_of words.old) × (first + N ≤ planes) }
     ensures { words.new ≡ sets words.old at (depth_masks width first N masks.now depth) }
 {
     for j in 0..N {
@@ -58,9 +58,9 @@ fn put_tables<const N: usize>(
     width: usize,
     depths: usize,
     first: usize,
-    masks: &[u64],
+    masks: &[u64; 936],
 )
-    requires { (width ≤ 8) × (depths ≤ 9) × (1 ≤ at) × (at + N * width * depths ≤ length_of words.old) × (first + N ≤ planes) × (length_of masks.now ≡ 936) }
+    requires { (width ≤ 8) × (depths ≤ 9) × (1 ≤ at) × (at + N * width * depths ≤ length_of words.old) × (first + N ≤ planes) }
     ensures { words.new ≡ sets words.old (at - 1) (section (join depths 0 (depth_masks width first N masks.now))) }
 {
     words[at - 1] = (N * width * depths) as u64;

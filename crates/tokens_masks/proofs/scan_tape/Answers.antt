@@ -35,8 +35,8 @@ returns-then-not-fits c =
     let said = scanning_misfit c.loop-kind.invariant c.loop-kind-test.true c.read_kind-token.ensures c.innermost.ensures c.fits.ensures c.if-not-fits.true in
     record { told = said.0; masks = said.1 }
 
-pub mark_token-requires-clause-ready : goal.mark_token-requires-clause-ready
-mark_token-requires-clause-ready c =
+pub mark_token-requires : goal.mark_token-requires
+mark_token-requires c =
     scanning_ready c.loop-kind.invariant c.loop-kind-test.true c.read_kind-token.ensures c.innermost.ensures c.fits.ensures c.if-not-fits.false
 
 pub deeper-deepest-requires : goal.deeper-deepest-requires

@@ -6,7 +6,6 @@ use Prim.Native.Nat.{ℕ, ◌+◌, ◌*◌, ◌≤◌, ◌<◌}
 use native.Mathlib.Omega.{arith}
 use lib.Bits.{bit_and}
 use lib.ListN.{get_or, length}
-use lib.Seq.{ext_get_or}
 use Rattle.model.specs.Models.Verdict.{same_words}
 use Rattle.model.specs.Models.Words.{and_words}
 use Rattle.mask.proofs.Laws.Each.{each-word}
@@ -17,7 +16,7 @@ use Rattle.image_sections.specs.Sections.{Within}
 use Rattle.image_sections.specs.declared.Sections.{Sections}
 use Rattle.image_sections.proofs.Laws.Within.{scatters_in}
 use Rattle.image_apart.specs.Work.{words_at}
-use Rattle.image_check.proofs.Laws.Compare.{length_there, same_none, SameTo, word_there}
+use Rattle.image_check.proofs.Laws.Compare.{length_there, same_none, SameTo, word_there, words_alike}
 
 -- of one byte, word by word
 module _ (ws loops : List ℕ) (letters W : ℕ) (narrow : W ≤ length loops) (letters_fit : letters + W ≤ length ws) where
@@ -38,9 +37,7 @@ module _ (ws loops : List ℕ) (letters W : ℕ) (narrow : W ≤ length loops) (
   repeat_same repeats repeats_fit same =
       sym
       (same_true (words_at ws repeats W) (and_words (words_at ws letters W) loops)
-      (ext_get_or 0 (words_at ws repeats W) (and_words (words_at ws letters W) loops) (length_there ws repeats W repeats_fit ∙ sym looped_long)
-      (λ j l. let h : j < W = omega (arith, length_there ws repeats W repeats_fit, l) in
-      word_there ws repeats W j h ∙ same j h ∙ sym (looped_word j h))))
+      (words_alike ws repeats W (and_words (words_at ws letters W) loops) repeats_fit looped_long (λ j h. same j h ∙ sym (looped_word j h))))
 
   pub repeat_differs : (repeats : ℕ) → repeats + W ≤ length ws
       → (j : ℕ) → j < W → (get_or ws (repeats + j) 0 ≡ bit_and (get_or ws (letters + j) 0) (get_or loops j 0) → ⊥)
@@ -49,6 +46,14 @@ module _ (ws loops : List ℕ) (letters W : ℕ) (narrow : W ≤ length loops) (
       sym
       (same_false (words_at ws repeats W) (and_words (words_at ws letters W) loops)
       (λ e. differs (sym (word_there ws repeats W j h) ∙ ap (λ (us : List ℕ). get_or us j 0) e ∙ looped_word j h)))
+
+-- where the masks of a byte lie
+module _ {n : ℕ} {p : Sections} (I : Within p n) {b : ℕ} (h : b < 256) where
+  pub letters_fit : p.letters + p.width * b + p.width ≤ n
+  letters_fit = omega (arith, part_fits p.width h, I.letters, I.repeats, scatters_in I)
+
+  pub repeats_fit : p.repeats + p.width * b + p.width ≤ n
+  repeats_fit = omega (arith, part_fits p.width h, I.repeats, scatters_in I)
 
 -- of all bytes
 abbrev pub looped_row : List ℕ → (letters W : ℕ) → List ℕ → ℕ → List ℕ
@@ -59,5 +64,5 @@ pub repeats_none : (ws : List ℕ) {p : Sections} (loops : List ℕ) → Within 
 repeats_none ws {p} loops I e =
     same_none refl
     (λ b h. looped_long ws loops (p.letters + p.width * b) p.width (omega (arith, I.narrow, e))
-    (omega (arith, part_fits p.width h, I.letters, I.repeats, scatters_in I)))
+    (letters_fit I h))
     (omega (arith, I.repeats, scatters_in I))

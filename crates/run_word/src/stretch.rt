@@ -35,6 +35,7 @@ pub fn is_live(live: u64, state: usize) -> bool
 }
 
 // A step for each byte: the move by it, and all that `reach` leads to from there. Its place in the whole text is noted if the accepting state is then live.
+// The words and the bytes are lent as they are, not in a record: a slice within one does not show that what it holds are words and bytes.
 #[inline(always)]
 fn over<F: Fn(u64) -> u64>(
     image: &[u64],
@@ -92,6 +93,7 @@ fn over_plain(image: &[u64], stretch: &[u8], ends: &mut [u32], from: From, work:
     ensures { RanFrom (work_masks image.now work.now.any work.now.table []) work.now.depth work.now.last stretch.now from
         ends.old result ends.new }
 {
+    // Read once: a byte takes 136 instructions where it takes 131 (depth 3) if each step asks the record for them.
     let depth = work.depth;
     let any = work.any;
     let reach = |live: u64| -> u64

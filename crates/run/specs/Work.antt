@@ -1,6 +1,6 @@
 -- THE MASKS OF WORK: as they lie in the words of an image, with words of zeros above; in series; and in one table the nine series side by side, then the back
 -- edges' masks.
-use Rattle.std.specs.Prelude.{◌≡◌, ◌≢◌, true, List, [], ◌∷◌, ◌++◌, ℕ, zero, suc, ◌+◌, ◌-◌, ◌*◌, ◌^◌, ◌≤◌, ◌<◌, drop, get_or, length, replicate, take}
+use Rattle.std.specs.Prelude.{◌≡◌, ◌≢◌, true, List, [], ◌∷◌, ◌++◌, ℕ, zero, suc, ◌+◌, ◌-◌, ◌*◌, ◌≤◌, ◌<◌, drop, get_or, length, replicate, take}
 use Rattle.model.specs.Models.Sections.{back_at, depth_word, gather_at, letter_place, propagate_at, repeat_place, scatter_at, three_place, two_place}
 use Rattle.model.specs.Models.Run.{Masks, move_by, pass_words, step_words}
 use Rattle.image_sections.specs.Sections.{Placed, width_of}
@@ -13,10 +13,6 @@ use Rattle.run_word.specs.One.{of_nine}
 -- "A mask is one record of eight 64-bit words in work, and in the image its first W words"
 abbrev pub row_at : List ℕ → ℕ → ℕ → List ℕ
 row_at ws at W = take W (drop at ws) ++ replicate (8 - W) 0
-
--- each is a word of 64 bits
-abbrev pub AreWords : List ℕ → Type 0
-AreWords ws = (i : ℕ) → get_or ws i 0 < 2 ^ 64
 
 -- THE MASKS OF WORDS, where they lie
 abbrev pub masks_of : List ℕ → Masks

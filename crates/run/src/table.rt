@@ -1,7 +1,7 @@
 // The masks of work: from the image's words series by series, and then laid side by side, so that one index steps through all that a depth needs; and the
 // masks of the back edges after them.
 ghost use Rattle.std.specs.Prelude.{◌≡◌, ◌+◌, ◌*◌, ◌≤◌, ◌<◌, length};
-ghost use Rattle.run.specs.Work.{AreWords, Lessened, Put, PutBacks, series_at, SeriesOf, Sources, Tabled, Whole};
+ghost use Rattle.run.specs.Work.{Lessened, Put, PutBacks, series_at, SeriesOf, Sources, Tabled, Whole};
 
 use crate::rows::row_at;
 use image_sections::Image;
@@ -23,12 +23,10 @@ pub type Series = [[u64; 8]; 9];
 // Nine series, nine masks to a depth; then the source and the target of the back edges of depths 0 to 7.
 pub type Table = [[u64; 8]; 97];
 
-// Mask `which` of the three of each depth below count, from a section's first word on. That the words are of 64 bits is told
-// here, for a slice within a record does not show it.
+// Mask `which` of the three of each depth below count, from a section's first word on.
 fn series_at(image: &[u64], at: usize, width: usize, count: usize, which: usize) -> Series
     requires { (width ≤ 8) × (count ≤ 9) × (which < 3) × (at + width * (3 * count) ≤ length image.now) }
-    ensures words { AreWords image.now }
-    ensures series { result ≡ series_at image.now at width count which }
+    ensures { result ≡ series_at image.now at width count which }
 {
     let none = [0u64; 8];
     let mut r = [none; 9];
@@ -48,8 +46,7 @@ fn less_ones(source: Series) -> Series
 // Series j of the nine: scatter's three, gather's three, propagate's three with the source less one.
 fn series(image: &Image, j: usize) -> Series
     requires { j < 9 }
-    ensures words { AreWords image.now.words.now }
-    ensures series { SeriesOf image.now.words.now image.now.sections.width image.now.sections.depth j result }
+    ensures { SeriesOf image.now.words.now image.now.sections.width image.now.sections.depth j result }
 {
     let width = image.sections.width;
     let depth = image.sections.depth;
@@ -115,7 +112,6 @@ pub fn all_sources(work: &Work) -> Mask
 
 impl Work {
     pub fn of(image: &Image) -> Work
-        ensures words { AreWords image.now.words.now }
         ensures deep { result.depth ≡ image.now.sections.depth }
         ensures tabled { Tabled image.now.words.now image.now.sections.width image.now.sections.depth result.table }
     {

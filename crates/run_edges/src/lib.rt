@@ -4,7 +4,6 @@
 #![tactic(auto)]
 
 ghost use Rattle.std.specs.Prelude.{◌≡◌};
-ghost use Rattle.run.specs.Work.{AreWords};
 ghost use Rattle.run_edges.specs.Reach.{EnterSays, enter_words, LeaveSays, leave_words, letters_of, ReachSays, reach_words, repeats_of, unshift_words, WorkOf};
 
 use image_sections::{Image, letters_at, repeats_at};
@@ -43,15 +42,13 @@ fn repeats(image: &Image, byte: u8) -> [u64; 8]
     row_at(image.words, repeats_at(width, byte), width)
 }
 
-// An image with the masks of work made once from it, to go along many edges. That its words are of 64 bits stands here, for a slice within a record does
-// not show it.
+// An image with the masks of work made once from it, to go along many edges.
 #[derive(Drop)]
 pub struct Edges<'a> {
     pub image: Image<'a>,
     pub masks: Work,
     ghost work: { WorkOf image.words.now masks.table },
     ghost deep: { masks.depth ≡ image.sections.depth },
-    ghost words: { AreWords image.words.now },
 }
 
 impl<'a> Edges<'a> {

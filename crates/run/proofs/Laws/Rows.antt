@@ -10,12 +10,7 @@ use lib.Seq.{get_or-drop, length-take-le, set_at, take-suc}
 use Rattle.model.specs.Models.Words.{Fit}
 use Rattle.model.proofs.Image.Address.{part_fits}
 use Rattle.run_moves.proofs.Laws.Less.{fit_take}
-use Rattle.mask.proofs.Laws.Bits.{fit_row}
-use Rattle.run.specs.Work.{AreWords, row_at, rows_from, series_at}
-
--- words of 64 bits, one by one and as a list
-pub words_fit : (ws : List ℕ) → AreWords ws → Fit ws
-words_fit ws h = fit_row ws (λ i. record { fits = h i })
+use Rattle.run.specs.Work.{row_at, rows_from, series_at}
 
 -- ---- a row made word by word: what was made so far is the row of fewer words
 pub row_more : (ws : List ℕ) (at i : ℕ) → i < 8 → at + i < length ws → set (row_at ws at i) i (get_or ws (at + i) 0) ≡ row_at ws at (i + 1)

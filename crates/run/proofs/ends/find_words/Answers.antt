@@ -6,14 +6,13 @@ use Prim.Native.Nat.{ℕ, ◌-◌}
 use native.Mathlib.Omega.{arith}
 use lib.ListN.{length, take}
 use Rattle.model.specs.Models.Run.{close_words, ends_with}
-use Rattle.image_sections.proofs.Laws.Within.{own_depth, own_placed, own_states, own_width, within}
+use Rattle.image_sections.proofs.Laws.Within.{own_depth, own_placed, own_states, own_width, within, words_fit}
 use Rattle.run_word.specs.Ends.{Noted}
 use Rattle.run_word.proofs.Laws.Bytes.{all_bytes}
 use Rattle.run_word.proofs.Laws.Cut.{take_bit}
 use Rattle.run_word.proofs.Laws.Stretch.{begun, noted_few}
 use Rattle.run.specs.Work.{masks_of, rule_masks, Whole}
 use Rattle.run.proofs.Laws.Backs.{whole_backs}
-use Rattle.run.proofs.Laws.Rows.{words_fit}
 use Rattle.run.proofs.Laws.Table.{close_wide, tabled_of, work_ends}
 use Rattle.run.proofs.ends.find_words.Goals as goal
 
@@ -40,7 +39,7 @@ returns c =
     let ws = a.image.now.words.now in
     let text = a.text.now in
     let table = m.result.table in
-    let fits = words_fit ws m.ensures.words in
+    let fits = words_fit ws a.image.now.fit in
     let M = rule_masks ws w table in
     let live = take w q.result.words in
     let P = a.image.now.placed in

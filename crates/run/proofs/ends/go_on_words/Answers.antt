@@ -4,12 +4,12 @@ use Prim.Native.Nat.{ℕ, ◌-◌}
 use lib.ListN.{take}
 use native.Mathlib.Omega.{arith}
 use Rattle.mask.proofs.Laws.Bits.{fit_row}
+use Rattle.image_sections.proofs.Laws.Within.{words_fit}
 use Rattle.run_word.specs.Ends.{RanOver}
 use Rattle.run_word.proofs.Laws.Bytes.{all_bytes}
 use Rattle.run.specs.Work.{rule_masks, Whole}
 use Rattle.run.proofs.Image.Stretch.{went}
 use Rattle.run.proofs.Laws.Backs.{whole_backs}
-use Rattle.run.proofs.Laws.Rows.{words_fit}
 use Rattle.run.proofs.Laws.Table.{tabled_of}
 use Rattle.run.proofs.ends.go_on_words.Goals as goal
 
@@ -31,7 +31,7 @@ returns c = λ t I M.
     let p = a.image.now.sections in
     let P = c.requires.0.placed in
     let first = c.row_at.result in
-    went ws t I (words_fit ws m.ensures.words) m.result.table (tabled_of m.result.table P m.ensures.tabled) P a.mask.now
+    went ws t I (words_fit ws a.image.now.fit) m.result.table (tabled_of m.result.table P m.ensures.tabled) P a.mask.now
     (fit_row a.mask.now c.type_inv.mask) M a.place a.stretch.now
     (all_bytes a.stretch.now (λ i. omega (arith, c.type_inv.stretch i))) first a.ends.now r.result.words r.result.total r.new.places c.row_at.ensures
     (subst (λ (d : ℕ). RanOver (rule_masks ws p.width m.result.table) p.width d (p.states - 1) a.place 0 a.stretch.now (take p.width first)

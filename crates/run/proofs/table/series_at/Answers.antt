@@ -13,6 +13,3 @@ loop-k-preserved c =
     let a = c.args in
     let k : l.k < 9 = omega (arith, c.requires.1, c.loop-k-test.true) in
     (omega arith, ap₂ (λ (t : List (List ℕ)) (w : List ℕ). set t l.k w) l.invariant.1 c.row_at.ensures ∙ series_more a.image.now a.at a.width a.which l.k k)
-
-pub returns-clause-words : goal.returns-clause-words
-returns-clause-words c = λ i. (c.type_inv.image i).fits

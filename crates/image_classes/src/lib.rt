@@ -4,11 +4,11 @@
 
 #![tactic(auto)]
 
-ghost use Rattle.std.specs.Prelude.{◌≡◌, ◌-◌, ◌/◌, ◌%◌, ◌<◌};
-ghost use Rattle.image_sections.specs.Sections.{Placed};
+ghost use Rattle.std.specs.Prelude.{◌≡◌, ◌-◌, ◌/◌, ◌%◌, ◌<◌, ◌≤◌, length};
+ghost use Rattle.model.specs.Models.Sections.{letter_place};
 ghost use Rattle.image_classes.specs.Classes.{ColumnOf, four_of, Table, With};
 
-use image_sections::Sections;
+use image_sections::{Image, letters_at};
 
 // A byte put into the classes of those states that its word has.
 fn put_word(classes: &mut [u64; 256], byte: usize, word: u64)
@@ -25,26 +25,33 @@ fn put_word(classes: &mut [u64; 256], byte: usize, word: u64)
     }
 }
 
-// The classes of a column's states, four words for each: byte b is bit b mod 64 of word b / 64.
-pub fn put_column(words: &[u64], sections: Sections, column: usize, classes: &mut [u64; 256])
-    requires { Placed words.now sections × (column < sections.width) }
-    ensures { ColumnOf words.now sections.width column classes.new }
+// The classes of a column's states, four words for each, from the words of an image: byte b is bit b mod 64 of word b / 64.
+fn put_bytes(words: &[u64], width: usize, column: usize, classes: &mut [u64; 256])
+    requires { (width ≤ 8) × (column < width) × (letter_place width 256 ≤ length words.now) }
+    ensures { ColumnOf words.now width column classes.new }
 {
     *classes = [0u64; 256];
-    let width = sections.width;
-    let first = sections.letters + column;
+    let first = letters_at(width, 0) + column;
     for byte in 0..256 {
         put_word(classes, byte, words[first + width * byte]);
     }
 }
 
+// The same of an image.
+pub fn put_column(image: &Image, column: usize, classes: &mut [u64; 256])
+    requires { column < image.now.sections.width }
+    ensures { ColumnOf image.now.words.now image.now.sections.width column classes.new }
+{
+    put_bytes(image.words, image.sections.width, column, classes);
+}
+
 // The column of a state, where that of the state before it is at hand.
-pub fn move_on(words: &[u64], sections: Sections, state: usize, classes: &mut [u64; 256])
-    requires { Placed words.now sections × (state < sections.states) × ColumnOf words.now sections.width ((state - 1) / 64) classes.old }
-    ensures { ColumnOf words.now sections.width (state / 64) classes.new }
+pub fn move_on(image: &Image, state: usize, classes: &mut [u64; 256])
+    requires { (state < image.now.sections.states) × ColumnOf image.now.words.now image.now.sections.width ((state - 1) / 64) classes.old }
+    ensures { ColumnOf image.now.words.now image.now.sections.width (state / 64) classes.new }
 {
     if state % 64 == 0 {
-        put_column(words, sections, state / 64, classes);
+        put_column(image, state / 64, classes);
     }
 }
 

@@ -1,14 +1,21 @@
 // The masks of work: from the image's words series by series, and then laid side by side, so that one index steps through all that a depth needs; and the
 // masks of the back edges after them.
 ghost use Rattle.std.specs.Prelude.{◌≡◌, ◌+◌, ◌*◌, ◌≤◌, ◌<◌, length};
-ghost use Rattle.image_sections.specs.Sections.{Placed};
 ghost use Rattle.run.specs.Work.{Lessened, Put, PutBacks, series_at, SeriesOf, Sources, Tabled, Whole};
 
 use crate::rows::row_at;
-use image_sections::Sections;
+use image_sections::Image;
 use mask::Mask;
 use mask::logic::or;
 use run_moves::less_one;
+
+// The masks of work, and how deep the rule is: of the table's masks those of the depths up to it.
+#[derive(Drop)]
+pub struct Work {
+    pub table: Table,
+    pub depth: usize,
+    ghost deep: { depth ≤ 8 },
+}
 
 // A series: one of the three masks of a section, block, source or target, for each of the depths 0 to 8.
 pub type Series = [[u64; 8]; 9];
@@ -37,19 +44,25 @@ fn less_ones(source: Series) -> Series
 }
 
 // Series j of the nine: scatter's three, gather's three, propagate's three with the source less one.
-fn series(image: &[u64], sections: Sections, j: usize) -> Series
-    requires { Placed image.now sections × (j < 9) }
-    ensures { SeriesOf image.now sections.width sections.depth j result }
+fn series(image: &Image, j: usize) -> Series
+    requires { j < 9 }
+    ensures { SeriesOf image.now.words.now image.now.sections.width image.now.sections.depth j result }
 {
-    let width = sections.width;
-    let depth = sections.depth;
+    let width = image.sections.width;
+    let depth = image.sections.depth;
     if j < 3 {
-        return series_at(image, sections.scatter, width, depth, j);
+        return series_at(image.words, image.sections.scatter, width, depth, j);
     }
     if j < 6 {
-        return series_at(image, sections.gather, width, depth, j - 3);
+        return series_at(image.words, image.sections.gather, width, depth, j - 3);
     }
-    let masks = series_at(image, sections.propagate, width, depth + 1, j - 6);
+    let masks = series_at(
+        image.words,
+        image.sections.propagate,
+        width,
+        depth + 1,
+        j - 6,
+    );
     if j == 7 {
         return less_ones(masks);
     }
@@ -67,29 +80,29 @@ fn put_series(table: &mut Table, j: usize, masks: Series)
 }
 
 // The masks of the back edges into theirs.
-fn put_backs(table: &mut Table, image: &[u64], sections: Sections)
-    requires { Placed image.now sections × (length table.old ≡ 97) }
-    ensures { PutBacks (2 * sections.depth) image.now sections.width sections.depth table.old table.new }
+fn put_backs(table: &mut Table, image: &Image)
+    requires { length table.old ≡ 97 }
+    ensures { PutBacks (2 * image.now.sections.depth) image.now.words.now image.now.sections.width image.now.sections.depth table.old table.new }
 {
-    let at = sections.back;
-    let width = sections.width;
-    let depth = sections.depth;
+    let at = image.sections.back;
+    let width = image.sections.width;
+    let depth = image.sections.depth;
     for i in 0..2 * depth {
-        table[81 + i] = row_at(image, at + width * i, width);
+        table[81 + i] = row_at(image.words, at + width * i, width);
     }
 }
 
-// All sources of the back edges up to a depth.
-pub fn all_sources(table: &Table, depth: usize) -> Mask
-    requires { (depth ≤ 8) × Whole table.now depth }
-    ensures { Sources table.now depth result.words }
+// All sources of the back edges.
+pub fn all_sources(work: &Work) -> Mask
+    requires { Whole work.now.table work.now.depth }
+    ensures { Sources work.now.table work.now.depth result.words }
 {
     let mut r = mask::none();
-    for k in 0..depth {
+    for k in 0..work.depth {
         r = or(
             r,
             Mask {
-                words: table[81 + 2 * k],
+                words: work.table[81 + 2 * k],
             },
             8,
         );
@@ -97,15 +110,20 @@ pub fn all_sources(table: &Table, depth: usize) -> Mask
     r
 }
 
-pub fn table(image: &[u64], sections: Sections) -> Table
-    requires { Placed image.now sections }
-    ensures { Tabled image.now sections.width sections.depth result }
-{
-    let none = [0u64; 8];
-    let mut r = [none; 97];
-    for j in 0..9 {
-        put_series(&mut r, j, series(image, sections, j));
+impl Work {
+    pub fn of(image: &Image) -> Work
+        ensures deep { result.depth ≡ image.now.sections.depth }
+        ensures tabled { Tabled image.now.words.now image.now.sections.width image.now.sections.depth result.table }
+    {
+        let none = [0u64; 8];
+        let mut r = Work {
+            table: [none; 97],
+            depth: image.sections.depth,
+        };
+        for j in 0..9 {
+            put_series(&mut r.table, j, series(image, j));
+        }
+        put_backs(&mut r.table, image);
+        r
     }
-    put_backs(&mut r, image, sections);
-    r
 }

@@ -6,15 +6,14 @@
 mod follow;
 
 ghost use Rattle.answers.specs.Answers.{judgement};
-ghost use Rattle.image_sections.specs.Sections.{Placed};
 ghost use Rattle.model.specs.Spelling.{CheckSays};
 ghost use Rattle.spelling.specs.Work.{RightSays};
 
 use crate::follow::follow;
 use answers::Refusal;
-use image_check::{Checked, check};
-use image_sections::Sections;
-use run_edges::work;
+use image_check::check;
+use image_sections::Image;
+use run_edges::Edges;
 
 // Whether a proposal is right: a start place, an end place, and for each byte between them the state that it enters. The image is checked in this same
 // call. The refusals are 6 and 7; otherwise yes or no.
@@ -27,26 +26,18 @@ pub fn check_spelling(
 ) -> Result<bool, Refusal>
     ensures { CheckSays image.now text.now start end states.now (judgement result) }
 {
-    let Some(Checked { sections, .. }) = check(image) else {
+    let Some(checked) = check(image) else {
         return Err(Refusal::NotAnImage);
     };
     if text.len() > 65535 {
         return Err(Refusal::TextTooLong);
     }
-    Ok(is_right(image, sections, text, start, end, states))
+    Ok(is_right(&checked.image, text, start, end, states))
 }
 
 // Places and length first, and then the states. One pass for each byte: a short proposal costs little.
-fn is_right(
-    image: &[u64],
-    sections: Sections,
-    text: &[u8],
-    start: usize,
-    end: usize,
-    states: &[u32],
-) -> bool
-    requires { Placed image.now sections }
-    ensures { RightSays image.now text.now start end states.now result }
+fn is_right(image: &Image, text: &[u8], start: usize, end: usize, states: &[u32]) -> bool
+    ensures { RightSays image.now.words.now text.now start end states.now result }
 {
     if end > text.len() {
         return false;
@@ -57,7 +48,6 @@ fn is_right(
     if states.len() != end - start {
         return false;
     }
-    let last = sections.states - 1;
-    let masks = work(image, sections);
-    follow(image, sections, &masks, text, start, states, last)
+    let last = image.sections.states - 1;
+    follow(&Edges::of(*image), text, start, states, last)
 }

@@ -2,13 +2,11 @@
 use Rattle.std.specs.Prelude.{None, Option, Some, ◌≡◌, ◌⊎◌, ◌↔◌, List, [], ◌∷◌, ℕ, suc, ◌+◌, ◌-◌, ◌*◌, ◌%◌, ◌≤◌, ◌<◌, T, drop, get_or, length, take}
 use Rattle.model.specs.Bits.{bit}
 use Rattle.model.specs.Answers.{ImageOf}
-use Rattle.model.specs.Edges.{accepting, states}
+use Rattle.model.specs.Edges.{states}
 use Rattle.model.specs.Models.Words.{value}
 use Rattle.model.specs.Tree.{Tree}
 use Rattle.model.specs.Models.Leads.{Chain, Leads}
-use Rattle.model.specs.Spelling.{between, Follow, Reaches}
-use Rattle.image_sections.specs.Sections.{Placed}
-use Rattle.image_sections.specs.declared.Sections.{Sections}
+use Rattle.model.specs.Spelling.{between, Follow}
 use Rattle.run_edges.specs.Reach.{EnterSays, ReachSays, reach_words}
 use Rattle.run.specs.Says.{StatesAre}
 
@@ -42,12 +40,6 @@ IntoWordSays origins word at before r = (q : ℕ) → Has r q ↔ (Has before q 
 abbrev pub IntoSays : List (List ℕ) → (row r : List ℕ) → Type 0
 IntoSays origins row r = (q : ℕ) → Has r q ↔ ((p : ℕ) × Has row p × Has (get_or origins p []) q)
 
--- the words are the tree's image, row p has what reaches state p, and the accepting state is known
-pub record Ready (image : List ℕ) (origins : List (List ℕ)) (last : ℕ) (t : Tree) : Type 0 where
-  pub image_of : ImageOf image t
-  pub reached : (p : ℕ) → p < states t → (q : ℕ) → Has (get_or origins p []) q ↔ ((q < states t) × Reaches t q p)
-  pub accepts : last ≡ accepting t
-
 -- ---- the sets that go back from an end
 abbrev pub SetOf : Tree → List ℕ → List ℕ → Type 0
 SetOf t bytes words = StatesAre t words (Leads t bytes)
@@ -55,18 +47,16 @@ SetOf t bytes words = StatesAre t words (Leads t bytes)
 abbrev pub SetAt : Tree → List ℕ → (end k : ℕ) → List ℕ → Type 0
 SetAt t text end k words = SetOf t (between text k end) words
 
-abbrev pub EndingSays : List (List ℕ) → ℕ → List ℕ → Type 0
-EndingSays origins last r = (t : Tree) (image : List ℕ) → Ready image origins last t → SetOf t [] r
+abbrev pub EndingSays : (image r : List ℕ) → Type 0
+EndingSays image r = (t : Tree) → ImageOf image t → SetOf t [] r
 
-abbrev pub BackSays : List ℕ → List (List ℕ) → List ℕ → ℕ → List ℕ → Type 0
-BackSays image origins set byte r =
-    (t : Tree) (last : ℕ) → Ready image origins last t → (bytes : List ℕ) → SetOf t bytes set → SetOf t (byte ∷ bytes) r
+abbrev pub BackSays : (image set : List ℕ) (byte : ℕ) (r : List ℕ) → Type 0
+BackSays image set byte r = (t : Tree) → ImageOf image t → (bytes : List ℕ) → SetOf t bytes set → SetOf t (byte ∷ bytes) r
 
 -- ---- the latest start
-pub record Asked (text : List ℕ) (end last : ℕ) : Type 0 where
+pub record Asked (text : List ℕ) (end : ℕ) : Type 0 where
   pub inside : end ≤ length text
   pub short : length text ≤ 65535
-  pub state : last < 512
 
 -- the sets of the places from k on, each 256th, are kept
 abbrev pub KeptFrom : Tree → List ℕ → (end k : ℕ) → List (List ℕ) → Type 0
@@ -84,9 +74,9 @@ abbrev pub Within : ℕ → Option ℕ → Type 0
 Within end (Some k) = k ≤ end
 Within end None = Unit
 
-pub record StartSays (image : List ℕ) (origins : List (List ℕ)) (last : ℕ) (text : List ℕ) (end : ℕ) (kept : List (List ℕ)) (r : Option ℕ) : Type 0 where
+pub record StartSays (image text : List ℕ) (end : ℕ) (kept : List (List ℕ)) (r : Option ℕ) : Type 0 where
   pub within : Within end r
-  pub starts : (t : Tree) → Ready image origins last t → Started t text end kept r
+  pub starts : (t : Tree) → ImageOf image t → Started t text end kept r
 
 -- ---- the states from the start to the end
 -- the sets of the places after lo up to hi, that of place j + 1 in row j - lo
@@ -98,9 +88,9 @@ pub record Stretch (text : List ℕ) (lo hi : ℕ) : Type 0 where
   pub short : hi ≤ lo + 256
   pub inside : hi ≤ length text
 
-pub record FillSays (image : List ℕ) (origins : List (List ℕ)) (text : List ℕ) (lo hi : ℕ) (set : List ℕ) (sets : List (List ℕ)) : Type 0 where
+pub record FillSays (image text : List ℕ) (lo hi : ℕ) (set : List ℕ) (sets : List (List ℕ)) : Type 0 where
   pub long : length sets ≡ 256
-  pub fills : (t : Tree) (last : ℕ) → Ready image origins last t → (end : ℕ) → hi ≤ end → end ≤ length text → SetAt t text end hi set
+  pub fills : (t : Tree) → ImageOf image t → (end : ℕ) → hi ≤ end → end ≤ length text → SetAt t text end hi set
       → SetsOf t text end lo hi sets
 
 -- a state that the byte enters from what a state reaches and that is in the set, if there is one
@@ -138,26 +128,25 @@ pub record StopSays (k end r : ℕ) : Type 0 where
   pub short : r ≤ k + 256
   pub where_to : (r ≡ end) ⊎ (r % 256 ≡ 0)
 
-abbrev pub SetSays : List (List ℕ) → (last end : ℕ) → List (List ℕ) → ℕ → List ℕ → Type 0
-SetSays origins last end kept stop r =
-    (t : Tree) (image text : List ℕ) (start : ℕ) → Ready image origins last t → KeptFrom t text end start kept → start ≤ stop → stop ≤ end
+abbrev pub SetSays : List ℕ → (end : ℕ) → List (List ℕ) → ℕ → List ℕ → Type 0
+SetSays image end kept stop r =
+    (t : Tree) (text : List ℕ) (start : ℕ) → ImageOf image t → KeptFrom t text end start kept → start ≤ stop → stop ≤ end
     → (stop ≡ end) ⊎ (stop % 256 ≡ 0) → SetAt t text end stop r
 
-pub record WriteAsks (text : List ℕ) (start end last : ℕ) (list : List ℕ) : Type 0 where
-  pub asked : Asked text end last
+pub record WriteAsks (text : List ℕ) (start end : ℕ) (list : List ℕ) : Type 0 where
+  pub asked : Asked text end
   pub ordered : start ≤ end
   pub room : end - start ≤ length list
 
-pub record WriteSays (image : List ℕ) (origins : List (List ℕ)) (last : ℕ) (text : List ℕ) (start end : ℕ) (kept : List (List ℕ)) (before after : List ℕ) : Type 0 where
+pub record WriteSays (image text : List ℕ) (start end : ℕ) (kept : List (List ℕ)) (before after : List ℕ) : Type 0 where
   pub long : length after ≡ length before
   pub rest : drop (end - start) after ≡ drop (end - start) before
-  pub follows : (t : Tree) → Ready image origins last t → KeptFrom t text end start kept → Leads t (between text start end) 0
+  pub follows : (t : Tree) → ImageOf image t → KeptFrom t text end start kept → Leads t (between text start end) 0
       → Follow t 0 (between text start end) (take (end - start) after)
 
--- ---- the whole: a tree's image with its places, and an end in a text that is not too long
-pub record ProposeAsks (image : List ℕ) (p : Sections) (text : List ℕ) (end : ℕ) : Type 0 where
+-- ---- the whole: a tree's image, and an end in a text that is not too long
+pub record ProposeAsks (image text : List ℕ) (end : ℕ) : Type 0 where
   pub tree : Tree
   pub image_of : ImageOf image tree
-  pub placed : Placed image p
   pub inside : end ≤ length text
   pub short : length text ≤ 65535

@@ -15,13 +15,12 @@ ghost use Rattle.model.specs.Spelling.{ProposeSays};
 ghost use Rattle.answers.specs.Answers.{proposal};
 ghost use Rattle.spelling_propose.specs.Work.{ProposeAsks};
 
-use crate::origins::find_origins;
+use crate::origins::{Origins, find_origins};
 use crate::search::find_start;
 use crate::write::write;
 use answers::{Proposed, Refusal};
 use image_check::check;
-use image_sections::Sections;
-use run_edges::work;
+use run_edges::Edges;
 
 // Propose: from an image, a text and an end to the latest start, and the states of a spelling in lent words. The image is checked in this same call.
 // The refusals are 6, 7, 16 and 17; done gives the start and the number of states.
@@ -40,34 +39,25 @@ pub fn propose_spelling(
     if end > text.len() {
         return Err(Refusal::NotAnEnd);
     }
-    propose(image, checked.sections, text, end, states)
+    propose(&Edges::of(checked.image), text, end, states)
 }
 
 // The search for the start, and then the states: for a place in the text.
-fn propose(
-    image: &[u64],
-    sections: Sections,
-    text: &[u8],
-    end: usize,
-    states: &mut [u32],
-) -> Result<Proposed, Refusal>
-    requires { ProposeAsks image.now sections text.now end }
-    ensures { ProposeSays image.now text.now end states.old (proposal result states.new) }
+fn propose(edges: &Edges, text: &[u8], end: usize, states: &mut [u32]) -> Result<Proposed, Refusal>
+    requires { ProposeAsks edges.now.image.words.now text.now end }
+    ensures { ProposeSays edges.now.image.words.now text.now end states.old (proposal result states.new) }
 {
-    let last = sections.states - 1;
-    let masks = work(image, sections);
     let none = [0u64; 8];
-    let mut origins = [none; 512];
-    find_origins(image, sections, &masks, sections.states, &mut origins);
+    let mut rows = [none; 512];
+    find_origins(edges, &mut rows);
+    let origins = Origins { edges, rows: &rows };
     let mut kept = [none; 256];
-    let found = find_start(image, sections, text, end, last, &origins, &mut kept);
+    let found = find_start(&origins, text, end, &mut kept);
     let start = found.ok_or(Refusal::NotAnEnd)?;
     let count = end - start;
     if states.len() < count {
         return Err(Refusal::NoRoomForStates);
     }
-    write(
-        image, sections, &masks, text, start, end, last, &origins, &kept, states,
-    );
+    write(&origins, text, start, end, &kept, states);
     Ok(Proposed { start, count })
 }

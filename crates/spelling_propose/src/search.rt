@@ -1,31 +1,21 @@
 // The latest start of a spelling that stops at a place.
 ghost use Rattle.std.specs.Prelude.{◌≡◌, length};
-ghost use Rattle.image_sections.specs.Sections.{Placed};
 ghost use Rattle.spelling_propose.specs.Work.{Asked, StartSays};
 
 use crate::earlier::{back, ending};
 use crate::origins::Origins;
-use image_sections::Sections;
 use mask::bits::row_has_bit;
 
 // A set for every 256th place.
 pub type Kept = [[u64; 8]; 256];
 
 // Goes back from the end until state 0 leads there, or no state does, and keeps the set of each 256th place.
-pub fn find_start(
-    image: &[u64],
-    sections: Sections,
-    text: &[u8],
-    end: usize,
-    last: usize,
-    origins: &Origins,
-    kept: &mut Kept,
-) -> Option<usize>
-    requires { Placed image.now sections × Asked text.now end last × (length kept.old ≡ 256) }
-    ensures { StartSays image.now origins.now last text.now end kept.new result }
+pub fn find_start(origins: &Origins, text: &[u8], end: usize, kept: &mut Kept) -> Option<usize>
+    requires { Asked text.now end × (length kept.old ≡ 256) }
+    ensures { StartSays origins.now.edges.now.image.words.now text.now end kept.new result }
 {
     let none = [0u64; 8];
-    let mut set = ending(origins, last);
+    let mut set = ending(origins);
     for k in (0..end).rev() {
         if row_has_bit(set, 0) {
             return Some(k + 1);
@@ -33,7 +23,7 @@ pub fn find_start(
         if set == none {
             return None;
         }
-        set = back(image, sections, origins, set, text[k]);
+        set = back(origins, set, text[k]);
         if k % 256 == 0 {
             kept[k / 256] = set;
         }

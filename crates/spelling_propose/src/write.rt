@@ -1,63 +1,41 @@
 // The states of a spelling, from its start to its end: stretch by stretch of at most 256 bytes, whose sets are computed anew from a kept one.
 ghost use Rattle.std.specs.Prelude.{◌≡◌, ◌≤◌, ◌<◌, length};
-ghost use Rattle.image_sections.specs.Sections.{Placed};
-ghost use Rattle.run_edges.specs.Reach.{WorkOf};
 ghost use Rattle.spelling_propose.specs.Work.{ChooseSays, FillSays, SetSays, StopSays, Stretch, WalkAsks, WalkSays, WriteAsks, WriteSays};
 
 use crate::earlier::{back, ending};
 use crate::origins::Origins;
 use crate::search::Kept;
 use crate::sets::lowest;
-use image_sections::Sections;
 use mask::Mask;
 use mask::logic::and;
-use run_edges::{Work, enter, reach};
+use run_edges::Edges;
 
 // The sets of the places after lo up to hi, from that of hi.
-fn fill(
-    image: &[u64],
-    sections: Sections,
-    text: &[u8],
-    lo: usize,
-    hi: usize,
-    origins: &Origins,
-    set: [u64; 8],
-    sets: &mut Kept,
-)
-    requires { Placed image.now sections × Stretch text.now lo hi × (length sets.old ≡ 256) }
-    ensures { FillSays image.now origins.now text.now lo hi set sets.new }
+fn fill(origins: &Origins, text: &[u8], lo: usize, hi: usize, set: [u64; 8], sets: &mut Kept)
+    requires { Stretch text.now lo hi × (length sets.old ≡ 256) }
+    ensures { FillSays origins.now.edges.now.image.words.now text.now lo hi set sets.new }
 {
     let mut here = set;
     for k in (lo..hi).rev() {
         sets[k - lo] = here;
-        let before = back(image, sections, origins, here, text[k]);
+        let before = back(origins, here, text[k]);
         here = before;
     }
 }
 
 // Of the states that a byte enters from what a state reaches, the lowest that is in the set.
-fn choose(
-    image: &[u64],
-    sections: Sections,
-    masks: &Work,
-    at: usize,
-    set: [u64; 8],
-    byte: u8,
-) -> usize
-    requires { Placed image.now sections × WorkOf image.now masks.now }
-    ensures { ChooseSays image.now at set byte result }
+fn choose(edges: &Edges, at: usize, set: [u64; 8], byte: u8) -> usize
+    ensures { ChooseSays edges.now.image.words.now at set byte result }
 {
-    let from = reach(image, sections, masks, at);
-    let entered = enter(image, sections, from, byte);
+    let from = edges.reach(at);
+    let entered = edges.enter(from, byte);
     let both = and(entered, Mask { words: set }, 8);
     lowest(both.words)
 }
 
 // The states that the bytes from lo to hi enter, after the state `from`: each one from which the other bytes lead on.
 fn walk(
-    image: &[u64],
-    sections: Sections,
-    masks: &Work,
+    edges: &Edges,
     text: &[u8],
     lo: usize,
     hi: usize,
@@ -66,12 +44,12 @@ fn walk(
     start: usize,
     states: &mut [u32],
 ) -> usize
-    requires { Placed image.now sections × WorkOf image.now masks.now × WalkAsks text.now lo hi from start states.old }
-    ensures { WalkSays image.now text.now lo hi sets.now from start states.old result states.new }
+    requires { WalkAsks text.now lo hi from start states.old }
+    ensures { WalkSays edges.now.image.words.now text.now lo hi sets.now from start states.old result states.new }
 {
     let mut at = from;
     for k in lo..hi {
-        at = choose(image, sections, masks, at, sets[k - lo], text[k]);
+        at = choose(edges, at, sets[k - lo], text[k]);
         states[k - start] = at as u32;
     }
     at
@@ -87,31 +65,27 @@ fn stop_after(k: usize, end: usize) -> usize
 }
 
 // The set of a place at which a stretch stops.
-fn set_at(end: usize, last: usize, origins: &Origins, kept: &Kept, stop: usize) -> [u64; 8]
-    requires { (stop ≤ 65535) × (last < 512) }
-    ensures { SetSays origins.now last end kept.now stop result }
+fn set_at(origins: &Origins, end: usize, kept: &Kept, stop: usize) -> [u64; 8]
+    requires { stop ≤ 65535 }
+    ensures { SetSays origins.now.edges.now.image.words.now end kept.now stop result }
 {
     if stop == end {
-        return ending(origins, last);
+        return ending(origins);
     }
     kept[stop / 256]
 }
 
 // The states of the spelling from start to end, into the first words of the list.
 pub fn write(
-    image: &[u64],
-    sections: Sections,
-    masks: &Work,
+    origins: &Origins,
     text: &[u8],
     start: usize,
     end: usize,
-    last: usize,
-    origins: &Origins,
     kept: &Kept,
     states: &mut [u32],
 )
-    requires { Placed image.now sections × WorkOf image.now masks.now × WriteAsks text.now start end last states.old }
-    ensures { WriteSays image.now origins.now last text.now start end kept.now states.old states.new }
+    requires { WriteAsks text.now start end states.old }
+    ensures { WriteSays origins.now.edges.now.image.words.now text.now start end kept.now states.old states.new }
 {
     let none = [0u64; 8];
     let mut sets = [none; 256];
@@ -120,11 +94,9 @@ pub fn write(
     // No for: a stretch goes to the next 256th place, so the first and the last may be shorter.
     while k < end {
         let stop = stop_after(k, end);
-        let set = set_at(end, last, origins, kept, stop);
-        fill(image, sections, text, k, stop, origins, set, &mut sets);
-        at = walk(
-            image, sections, masks, text, k, stop, &sets, at, start, states,
-        );
+        let set = set_at(origins, end, kept, stop);
+        fill(origins, text, k, stop, set, &mut sets);
+        at = walk(origins.edges, text, k, stop, &sets, at, start, states);
         k = stop;
     }
 }

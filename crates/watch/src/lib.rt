@@ -11,7 +11,7 @@ ghost use Rattle.answers.specs.Answers.{answered};
 
 use crate::words::{is_mask, put_words};
 use answers::Refusal;
-use image_check::{Checked, check};
+use image_check::check;
 use mask::bits::row_has_bit;
 use run::ends::go_on;
 use run_word::places::note;
@@ -27,15 +27,15 @@ pub fn begin(
     ensures { BeginSays image.now mask.old place.old ends.old
         (answered result (watch mask.new place.new ends.new)) }
 {
-    let Some(Checked { sections, .. }) = check(image) else {
+    let Some(checked) = check(image) else {
         return Err(Refusal::NotAnImage);
     };
-    let width = sections.width;
-    let last = sections.states - 1;
+    let width = checked.image.sections.width;
+    let last = checked.image.sections.states - 1;
     if mask.len() != width {
         return Err(Refusal::NotAMask);
     }
-    let first = run::live::begin(image, sections);
+    let first = run::live::begin(&checked.image);
     let total = note(ends, 0, 0, row_has_bit(first.words, last));
     put_words(mask, first.words, width);
     *place = 0;
@@ -54,13 +54,13 @@ pub fn step(
     ensures { StepSays image.now mask.old place.old stretch.now ends.old
         (answered result (watch mask.new place.new ends.new)) }
 {
-    let Some(Checked { sections, .. }) = check(image) else {
+    let Some(checked) = check(image) else {
         return Err(Refusal::NotAnImage);
     };
     if stretch.len() > 65535 {
         return Err(Refusal::TextTooLong);
     }
-    if !is_mask(mask, sections.states) {
+    if !is_mask(mask, checked.image.sections.states) {
         return Err(Refusal::NotAMask);
     }
     let at = *place;
@@ -68,8 +68,8 @@ pub fn step(
     if at > 4294967295 - length {
         return Err(Refusal::PlaceTooFar);
     }
-    let ran = go_on(image, sections, mask, at, stretch, ends);
-    put_words(mask, ran.words, sections.width);
+    let ran = go_on(&checked.image, mask, at, stretch, ends);
+    put_words(mask, ran.words, checked.image.sections.width);
     *place = at + length;
     Ok(ran.total as usize)
 }

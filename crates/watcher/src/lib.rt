@@ -10,7 +10,7 @@ ghost use Rattle.answers.specs.Answers.{answered, judgement, proposal};
 
 use answers::{Proposed, Refusal};
 use image::store;
-use image_check::{Checked, check};
+use image_check::check;
 use rule::read_rule;
 use run::ends::find;
 
@@ -34,13 +34,13 @@ pub fn read_back(image: &[u64], bytes: &mut [u8]) -> Result<usize, Refusal>
 pub fn match_ends(image: &[u64], text: &[u8], ends: &mut [u32]) -> Result<usize, Refusal>
     ensures { MatchSays image.now text.now ends.old (answered result ends.new) }
 {
-    let Some(Checked { sections, .. }) = check(image) else {
+    let Some(checked) = check(image) else {
         return Err(Refusal::NotAnImage);
     };
     if text.len() > 65535 {
         return Err(Refusal::TextTooLong);
     }
-    let total = find(image, sections, text, ends);
+    let total = find(&checked.image, text, ends);
     Ok(total as usize)
 }
 

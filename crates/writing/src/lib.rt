@@ -11,28 +11,27 @@ mod ranges;
 ghost use Rattle.std.specs.Prelude.{◌≡◌, ◌<◌};
 ghost use Rattle.model.specs.Answers.{ReadBackSays};
 ghost use Rattle.answers.specs.Answers.{answered};
-ghost use Rattle.image_sections.specs.Sections.{Placed};
 ghost use Rattle.writing.specs.Work.{bytes_after, range_text, written_if};
 
 use crate::own::own_marks;
 use crate::ranges::write_tokens;
 use answers::Refusal;
 use image_check::check;
-use image_sections::Sections;
+use image_sections::Image;
 use tokens_masks::Tape;
 
 // The writing of an image, from its tape with each union's own mark. Not inlined, so that its column of classes is off the stack while the image is checked.
 #[inline(never)]
-fn write(words: &[u64], sections: Sections, tape: Tape, bytes: &mut [u8]) -> Result<usize, Refusal>
-    requires { Placed words.now sections × (tape.length < sections.states) }
-    ensures answer { result ≡ written_if (range_text words.now sections.width tape.kinds tape.length 0) bytes.old }
-    ensures written { bytes.new ≡ bytes_after (range_text words.now sections.width tape.kinds tape.length 0) bytes.old }
+fn write(image: &Image, tape: Tape, bytes: &mut [u8]) -> Result<usize, Refusal>
+    requires { tape.length < image.now.sections.states }
+    ensures answer { result ≡ written_if (range_text image.now.words.now image.now.sections.width tape.kinds tape.length 0) bytes.old }
+    ensures written { bytes.new ≡ bytes_after (range_text image.now.words.now image.now.sections.width tape.kinds tape.length 0) bytes.old }
 {
-    let size = write_tokens(words, sections, &tape.kinds, tape.length, &mut bytes[0..0]);
+    let size = write_tokens(image, &tape.kinds, tape.length, &mut bytes[0..0]);
     if bytes.len() < size {
         return Err(Refusal::NoRoomForWriting);
     }
-    write_tokens(words, sections, &tape.kinds, tape.length, bytes);
+    write_tokens(image, &tape.kinds, tape.length, bytes);
     Ok(size)
 }
 
@@ -44,5 +43,5 @@ pub fn read_back(words: &[u64], bytes: &mut [u8]) -> Result<usize, Refusal>
         return Err(Refusal::NotAnImage);
     };
     let own = own_marks(checked.tape);
-    write(words, checked.sections, own, bytes)
+    write(&checked.image, own, bytes)
 }

@@ -4,13 +4,12 @@ ghost use Rattle.std.proofs.lemmas.List.Edits.{sets};
 ghost use Rattle.model.specs.Bytes.{byte};
 ghost use Rattle.model.specs.Writing.{mark_writing};
 ghost use Rattle.image_classes.specs.Classes.{class_in, ColumnOf};
-ghost use Rattle.image_sections.specs.Sections.{Placed};
 ghost use Rattle.tokens.specs.Tokens.{mark_of};
 ghost use Rattle.writing.specs.Work.{range_text, token_text};
 
 use crate::letter::{write_if, write_letter};
 use image_classes::{move_on, put_column};
-use image_sections::Sections;
+use image_sections::Image;
 use tokens::kind::read_kind;
 use tokens::token::{Mark, Token};
 use writing_letters::set_byte;
@@ -80,8 +79,7 @@ fn write_token(classes: &[u64; 256], token: Token, state: usize, out: &mut [u8],
 // The tokens from `from` to `to` less 1. After a union's open its alternatives are written by the same function on the inner range, which is shorter.
 // The classes are those of the column of the state reached so far.
 fn write_range(
-    words: &[u64],
-    sections: Sections,
+    image: &Image,
     classes: &mut [u64; 256],
     kinds: &[u8; 512],
     out: &mut [u8],
@@ -89,22 +87,22 @@ fn write_range(
     from: usize,
     to: usize,
 ) -> usize
-    requires { Placed words.now sections × (from ≤ to) × (to < sections.states) × (at ≤ 4096 * from) × ColumnOf words.now sections.width (from / 64) classes.old }
-    ensures place { result ≡ at + length_of (range_text words.now sections.width kinds.now (to - from) from) }
-    ensures written { out.new ≡ sets out.old at (range_text words.now sections.width kinds.now (to - from) from) }
+    requires { (from ≤ to) × (to < image.now.sections.states) × (at ≤ 4096 * from) × ColumnOf image.now.words.now image.now.sections.width (from / 64) classes.old }
+    ensures place { result ≡ at + length_of (range_text image.now.words.now image.now.sections.width kinds.now (to - from) from) }
+    ensures written { out.new ≡ sets out.old at (range_text image.now.words.now image.now.sections.width kinds.now (to - from) from) }
     ensures bound { result ≤ 4096 * to }
-    ensures column { ColumnOf words.now sections.width (to / 64) classes.new }
+    ensures column { ColumnOf image.now.words.now image.now.sections.width (to / 64) classes.new }
 {
     let mut p = at;
     let mut i = from;
     // No for: a union's inner range is passed in one turn.
     while i < to {
-        move_on(words, sections, i + 1, classes);
+        move_on(image, i + 1, classes);
         let token = read_kind(kinds[i]);
         let next = write_token(classes, token, i + 1, out, p);
         if let Token::Open = token {
             let close = close_of(kinds, i + 1, to);
-            let end = write_range(words, sections, classes, kinds, out, next, i + 1, close);
+            let end = write_range(image, classes, kinds, out, next, i + 1, close);
             p = end;
             i = close;
         } else {
@@ -116,18 +114,12 @@ fn write_range(
 }
 
 // All tokens, from the first column on.
-pub fn write_tokens(
-    words: &[u64],
-    sections: Sections,
-    kinds: &[u8; 512],
-    length: usize,
-    out: &mut [u8],
-) -> usize
-    requires { Placed words.now sections × (length < sections.states) }
-    ensures place { result ≡ length_of (range_text words.now sections.width kinds.now length 0) }
-    ensures written { out.new ≡ sets out.old 0 (range_text words.now sections.width kinds.now length 0) }
+pub fn write_tokens(image: &Image, kinds: &[u8; 512], length: usize, out: &mut [u8]) -> usize
+    requires { length < image.now.sections.states }
+    ensures place { result ≡ length_of (range_text image.now.words.now image.now.sections.width kinds.now length 0) }
+    ensures written { out.new ≡ sets out.old 0 (range_text image.now.words.now image.now.sections.width kinds.now length 0) }
 {
     let mut classes = [0u64; 256];
-    put_column(words, sections, 0, &mut classes);
-    write_range(words, sections, &mut classes, kinds, out, 0, 0, length)
+    put_column(image, 0, &mut classes);
+    write_range(image, &mut classes, kinds, out, 0, 0, length)
 }

@@ -9,4 +9,4 @@ pub returns-else-state-eq0 : goal.returns-else-state-eq0
 returns-else-state-eq0 c =
     let a = c.args in
     let e : (a.state - 1) / 64 ≡ a.state / 64 = omega (arith, c.if-state-eq0.false) in
-    subst (λ (n : ℕ). ColumnOf a.words.now a.sections.width n a.classes.now) e c.requires.2
+    subst (λ (n : ℕ). ColumnOf a.image.now.words.now a.image.now.sections.width n a.classes.now) e c.requires.1

@@ -5,7 +5,7 @@ use Prim.Native.Nat.{ℕ, suc, ◌+◌, ◌*◌, ◌/◌, ◌%◌, ◌^◌}
 use lib.ListN.{get_or-eq_default, get_or, length}
 use mir.Syntax.{w64}
 use mir.Val.{Fits}
-use Rattle.mask.proofs.Laws.Filled.{Filled, filled_all, filled_more, filled_none}
+use Rattle.mask.proofs.Laws.Filled.{Filled, filled_all, filled_more}
 use Rattle.run_edges.specs.Reach.{unshift_words}
 use Rattle.run_edges.proofs.Laws.Back.{back_at, back_length, back-word}
 use borrow.Author.Rules.{rules}

@@ -14,7 +14,7 @@ use Rattle.answers.specs.declared.Refusal.TheVariants.{NotAnImage, TextTooLong}
 use Rattle.image_sections.proofs.Laws.OfTree.{states_is}
 use Rattle.image_check.specs.Says as image
 use Rattle.image_check.specs.declared.Checked.{Checked}
-use Rattle.image_check.proofs.Laws.Found.{found, not_found}
+use Rattle.image_check.proofs.Laws.Found.{found, not_found, words_found}
 use Rattle.spelling.specs.Work.{FollowSays, RightSays}
 
 pub followed : {words text list : List ℕ} {start end n : ℕ} → end ≤ length text → start ≤ end → length list ≡ end - start → n ≡ state_word words
@@ -39,6 +39,9 @@ module _ {words text : List ℕ} {start end : ℕ} {list : List ℕ} {r : Option
     pub too_long : 65535 < length text → CheckSays words text start end list (judgement (Err TextTooLong))
     too_long l = let F = found words C g in text_too_long F.tree F.image_of l refl
 
-    pub judged : length text ≤ 65535 → (b : Bool) → RightSays words text start end list b → CheckSays words text start end list (judgement (Ok b))
-    judged l true R = let F = found words C g in right F.tree F.image_of l ((R F.tree F.image_of).0 tt) refl
-    judged l false R = let F = found words C g in wrong F.tree F.image_of l (R F.tree F.image_of).1 refl
+    pub judged : length text ≤ 65535 → (b : Bool) → RightSays c.image.words.now text start end list b → CheckSays words text start end list (judgement (Ok b))
+    judged l b R = decided b (subst (λ (ws : List ℕ). RightSays ws text start end list b) (words_found words C g) R)
+      where
+        decided : (b : Bool) → RightSays words text start end list b → CheckSays words text start end list (judgement (Ok b))
+        decided true S = let F = found words C g in right F.tree F.image_of l ((S F.tree F.image_of).0 tt) refl
+        decided false S = let F = found words C g in wrong F.tree F.image_of l (S F.tree F.image_of).1 refl

@@ -1,5 +1,4 @@
 -- `check_spelling`: each way out is a row of the table.
-use Rattle.image_check.proofs.Laws.Found.{found}
 use Rattle.spelling.proofs.Laws.Check.{judged, other, too_long}
 use Rattle.spelling.proofs.check_spelling.Goals as goal
 
@@ -8,9 +7,6 @@ returns-in_default c = other c.check.ensures c.in_default.is
 
 pub returns-then-text-gt65535 : goal.returns-then-text-gt65535
 returns-then-text-gt65535 c = too_long c.check.ensures c.in-Some.is c.if-text-gt65535.true
-
-pub is_right-requires : goal.is_right-requires
-is_right-requires c = (found c.args.image.now c.check.ensures c.in-Some.is).placed
 
 pub returns : goal.returns
 returns c = judged c.check.ensures c.in-Some.is c.if-text-gt65535.false c.is_right.result c.is_right.ensures

@@ -15,15 +15,22 @@ use Rattle.model.specs.Spelling.{Reaches}
 use Rattle.model.specs.Tree.{Tree}
 use Rattle.model.proofs.Definitions.Below.{takes_below, takes_rises}
 use Rattle.model.proofs.Laws.Bool.{is_not}
+use Rattle.image_sections.proofs.Laws.OfTree.{states_is}
+use Rattle.model.specs.Models.Sections.{state_word}
 use Rattle.run_edges.specs.Reach.{LeaveSays, reach_words}
 use Rattle.run.specs.Says.{StatesAre}
 use Rattle.run_edges.proofs.Laws.Image.{reach_says}
 use Rattle.run_edges.proofs.Laws.Sets.{every, row_is}
-use Rattle.spelling_propose.specs.Work.{BackSays, EndingSays, Has, IntoSays, OriginsSays, Ready, SetOf, WithSays}
+use Rattle.spelling_propose.specs.Work.{BackSays, EndingSays, Has, IntoSays, OriginsSays, SetOf, WithSays}
 use Rattle.spelling_propose.proofs.Laws.Origins.{none_has}
 
--- what the parts are handed
-pub ready : (image : List ℕ) (origins : List (List ℕ)) (count : ℕ) (t : Tree) → ImageOf image t → count ≡ states t → OriginsSays image count origins → Ready image origins (count - 1) t
+-- the words are the tree's image, row p has what reaches state p, and the accepting state is known
+record Ready (image : List ℕ) (origins : List (List ℕ)) (last : ℕ) (t : Tree) : Type 0 where
+  pub image_of : ImageOf image t
+  pub reached : (p : ℕ) → p < states t → (q : ℕ) → Has (get_or origins p []) q ↔ ((q < states t) × Reaches t q p)
+  pub accepts : last ≡ accepting t
+
+ready : (image : List ℕ) (origins : List (List ℕ)) (count : ℕ) (t : Tree) → ImageOf image t → count ≡ states t → OriginsSays image count origins → Ready image origins (count - 1) t
 ready image origins count t I same O = record { image_of = I; reached = reached; accepts = omega (arith, same) }
   where
     reached : (p : ℕ) → p < states t → (q : ℕ) → Has (get_or origins p []) q ↔ ((q < states t) × Reaches t q p)
@@ -72,9 +79,13 @@ module _ (image : List ℕ) (origins : List (List ℕ)) (last : ℕ) (t : Tree) 
       left : (x : ℕ) → Has row x ↔ ((r : ℕ) × Has set r × Takes t b x r)
       left = every (L t R.image_of S.beyond) from
 
-pub ending_says : (origins : List (List ℕ)) (last : ℕ) (row r : List ℕ) → WithSays (replicate 8 0) last row → IntoSays origins row r → EndingSays origins last r
-ending_says origins last row r W I t image R = ending_set image origins last t R row r W I
+-- the rows of an image's own states
+module _ (image : List ℕ) (origins : List (List ℕ)) (count : ℕ) (own : count ≡ state_word image) (O : OriginsSays image count origins) where
+  handed : (t : Tree) → ImageOf image t → Ready image origins (count - 1) t
+  handed t I = ready image origins count t I (own ∙ states_is image t I) O
 
-pub back_says : (image : List ℕ) (origins : List (List ℕ)) (set row r : List ℕ) (b : ℕ) → LeaveSays image b set row → IntoSays origins row r
-    → BackSays image origins set b r
-back_says image origins set row r b L I t last R = back_set image origins last t R set row r b L I
+  pub ending_says : (row r : List ℕ) → WithSays (replicate 8 0) (count - 1) row → IntoSays origins row r → EndingSays image r
+  ending_says row r W H t I = ending_set image origins (count - 1) t (handed t I) row r W H
+
+  pub back_says : (set row r : List ℕ) (b : ℕ) → LeaveSays image b set row → IntoSays origins row r → BackSays image set b r
+  back_says set row r b L H t I = back_set image origins (count - 1) t (handed t I) set row r b L H

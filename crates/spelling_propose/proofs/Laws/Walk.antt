@@ -15,37 +15,37 @@ use Rattle.model.proofs.Spelling.Leads.{between_more, between_one, chain_more}
 use Rattle.model.proofs.Definitions.Below.{takes_below}
 use Rattle.run_edges.specs.Reach.{EnterSays, ReachSays}
 use Rattle.run_edges.proofs.Laws.Sets.{entered_from}
-use Rattle.spelling_propose.specs.Work.{BackSays, ChooseSays, FillSays, Has, LowestSays, Ready, SetAt, SetOf, SetsOf, Stretch, WalkAsks, Walked, WalkSays}
+use Rattle.spelling_propose.specs.Work.{BackSays, ChooseSays, FillSays, Has, LowestSays, SetAt, SetOf, SetsOf, Stretch, WalkAsks, Walked, WalkSays}
 
 -- ---- THE SETS OF A STRETCH, from its last place down
-module _ (image : List ℕ) (origins : List (List ℕ)) (text : List ℕ) (lo hi : ℕ) (first : List ℕ) where
+module _ (image text : List ℕ) (lo hi : ℕ) (first : List ℕ) where
   pub record Filling (k : ℕ) (here : List ℕ) (sets : List (List ℕ)) : Type 0 where
     pub above : lo ≤ k
     pub below : k ≤ hi
     pub long : length sets ≡ 256
-    pub holds : (t : Tree) (last : ℕ) → Ready image origins last t → (end : ℕ) → hi ≤ end → end ≤ length text → SetAt t text end hi first
+    pub holds : (t : Tree) → ImageOf image t → (end : ℕ) → hi ≤ end → end ≤ length text → SetAt t text end hi first
         → SetAt t text end k here × ((j : ℕ) → k ≤ j → j < hi → SetAt t text end (suc j) (get_or sets (j - lo) []))
 
   pub filling_none : (sets : List (List ℕ)) → length sets ≡ 256 → lo ≤ hi → Filling hi first sets
-  filling_none sets l h = record { above = h; below = le_refl hi; long = l; holds = λ t last R end m n S. (S, λ j x y. absurd (omega arith)) }
+  filling_none sets l h = record { above = h; below = le_refl hi; long = l; holds = λ t I end m n S. (S, λ j x y. absurd (omega arith)) }
 
   pub filling_more : (S : Stretch text lo hi) {k : ℕ} {here : List ℕ} {sets : List (List ℕ)} → Filling k here sets → lo < k
-      → (before : List ℕ) → BackSays image origins here (get_or text (k - 1) 0) before → Filling (k - 1) before (set sets (k - 1 - lo) here)
+      → (before : List ℕ) → BackSays image here (get_or text (k - 1) 0) before → Filling (k - 1) before (set sets (k - 1 - lo) here)
   filling_more S {k} {here} {sets} F h before B = record {
     above = omega arith;
     below = omega (arith, F.below);
     long = length-set sets (k - 1 - lo) here ∙ F.long;
-    holds = λ t last R end m n A. let H = F.holds t last R end m n A in (one t last R end m n H.0, λ j x y. go t end j H.0 H.1 y (eq-or-lt_of_le x));
+    holds = λ t I end m n A. let H = F.holds t I end m n A in (one t I end m n H.0, λ j x y. go t end j H.0 H.1 y (eq-or-lt_of_le x));
   }
     where
       e : suc (k - 1) ≡ k
       e = omega arith
 
-      one : (t : Tree) (last : ℕ) → Ready image origins last t → (end : ℕ) → hi ≤ end → end ≤ length text → SetAt t text end k here → SetAt t text end (k - 1) before
-      one t last R end m n A =
+      one : (t : Tree) → ImageOf image t → (end : ℕ) → hi ≤ end → end ≤ length text → SetAt t text end k here → SetAt t text end (k - 1) before
+      one t I end m n A =
           subst (λ (bs : List ℕ). SetOf t bs before)
           (sym (between_one text (k - 1) end (omega (arith, F.below)) n ∙ ap (λ (x : ℕ). get_or text (k - 1) 0 ∷ between text x end) e))
-          (B t last R (between text k end) A)
+          (B t I (between text k end) A)
 
       go : (t : Tree) (end j : ℕ) → SetAt t text end k here → ((i : ℕ) → k ≤ i → i < hi → SetAt t text end (suc i) (get_or sets (i - lo) [])) → j < hi
           → (k - 1 ≡ j) ⊎ (k - 1 < j) → SetAt t text end (suc j) (get_or (set sets (k - 1 - lo) here) (j - lo) [])
@@ -56,8 +56,8 @@ module _ (image : List ℕ) (origins : List (List ℕ)) (text : List ℕ) (lo hi
       go t end j A H y (inr d) =
           subst (λ (w : List ℕ). SetAt t text end (suc j) w) (sym (get_or-set_other sets (k - 1 - lo) (j - lo) here [] (λ q. omega arith))) (H j (omega arith) y)
 
-  pub filling_all : {k : ℕ} {here : List ℕ} {sets : List (List ℕ)} → Filling k here sets → k ≤ lo → FillSays image origins text lo hi first sets
-  filling_all F h = record { long = F.long; fills = λ t last R end m n S j x y. (F.holds t last R end m n S).1 j (omega (arith, F.above)) y }
+  pub filling_all : {k : ℕ} {here : List ℕ} {sets : List (List ℕ)} → Filling k here sets → k ≤ lo → FillSays image text lo hi first sets
+  filling_all F h = record { long = F.long; fills = λ t I end m n S j x y. (F.holds t I end m n S).1 j (omega (arith, F.above)) y }
 
 -- ---- a state to go on with
 pub choose_says : (image : List ℕ) (at : ℕ) (row set on both : List ℕ) (b r : ℕ) → ReachSays image at row → EnterSays image b row on

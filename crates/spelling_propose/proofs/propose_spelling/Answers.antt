@@ -1,9 +1,12 @@
 -- `propose_spelling`: each way out is a row of the table.
-use mathlib.Core.Path.{refl}
+use mathlib.Core.Path.{refl, subst, sym}
+use mathlib.Core.List.{List}
+use Prim.Native.Nat.{ℕ}
 use Rattle.std.proofs.lemmas.Result.{err_from_is_err_and}
+use Rattle.model.specs.Answers.{ImageOf}
 use Rattle.model.specs.Spelling.{not_an_image, text_too_long}
 use Rattle.image_check.proofs.Laws.Found.{found, not_found}
-use Rattle.spelling_propose.proofs.Laws.Propose.{passed_on, past_text}
+use Rattle.spelling_propose.proofs.Laws.Propose.{its_words, passed_on, past_text}
 use Rattle.spelling_propose.proofs.propose_spelling.Goals as goal
 
 pub returns-in_err-checked : goal.returns-in_err-checked
@@ -26,4 +29,8 @@ returns-then-end-text c =
 pub propose-requires : goal.propose-requires
 propose-requires c =
     let F = found c.args.image.now c.check.ensures c.in_ok-checked.ensures.ok_part in
-    record { tree = F.tree; image_of = F.image_of; placed = F.placed; inside = c.if-end-text.false; short = c.if-text-gt65535.false }
+    let e = its_words c.check.ensures c.in_ok-checked.ensures.ok_part c.of.ensures in
+    record { tree = F.tree; image_of = subst (λ (ws : List ℕ). ImageOf ws F.tree) (sym e) F.image_of; inside = c.if-end-text.false; short = c.if-text-gt65535.false }
+
+pub returns : goal.returns
+returns c = rw (its_words c.check.ensures c.in_ok-checked.ensures.ok_part c.of.ensures) at c.propose.ensures

@@ -31,12 +31,12 @@ use Rattle.image_sections.proofs.Laws.Within.{own_states, within}
 use Rattle.run.proofs.Image.Stretch.{states_mask}
 use Rattle.image_check.specs.Says.{CheckSays}
 use Rattle.image_check.specs.declared.Checked.{Checked}
-use Rattle.image_check.proofs.Laws.Found.{Found, found, not_found}
+use Rattle.image_check.proofs.Laws.Found.{Found, found, not_found, words_found}
 use Rattle.run_word.proofs.Laws.Stretch.{noted_few}
 
 module _ {ws : List ℕ} {r : Option Checked} {c : Checked} (C : CheckSays ws r) (g : r ≡ Some c) where
   abbrev p : Sections
-  p = c.sections
+  p = c.image.sections
 
   abbrev F : Found ws p c.tape
   F = found ws C g
@@ -47,8 +47,12 @@ module _ {ws : List ℕ} {r : Option Checked} {c : Checked} (C : CheckSays ws r)
   abbrev I : ImageOf ws t
   I = F.image_of
 
+  -- the words of the image that the check hands on are those that it was given
+  own : c.image.words.now ≡ ws
+  own = words_found ws C g
+
   -- ---- the numbers that the check hands on
-  pub placed : Placed ws p
+  placed : Placed ws p
   placed = F.placed
 
   width_is : p.width ≡ width (states t)
@@ -68,7 +72,7 @@ module _ {ws : List ℕ} {r : Option Checked} {c : Checked} (C : CheckSays ws r)
     pub begin_words : (length mask ≡ p.width → ⊥) → BeginSays ws mask place ends (stays 9 mask place ends)
     begin_words f = not_a_mask t I (λ e. f (e ∙ sym width_is)) refl
 
-    pub begin_done : length mask ≡ p.width → (words : List ℕ) → length words ≡ 8 → Fit words → run.BeginSays ws words
+    pub begin_done : length mask ≡ p.width → (words : List ℕ) → length words ≡ 8 → Fit words → run.BeginSays c.image.words.now words
         → (hit : Bool) → hit ≡ bit (value words) (p.states - 1) → {total : ℕ} → total ≡ (0 + length (noted hit 0)) % 2 ^ 64 → {after new : List ℕ}
         → after ≡ sets ends 0 (noted hit 0) → new ≡ take p.width words
         → BeginSays ws mask place ends (gives total (watch new 0 after))
@@ -78,7 +82,7 @@ module _ {ws : List ℕ} {r : Option Checked} {c : Checked} (C : CheckSays ws r)
         ∙ ap (λ (m : List ℕ). goes_on m 0 (noted hit 0) ends) (laid ∙ ap (λ (n : ℕ). take n words) width_is))
       where
         A : run.StatesAre t words (Before t)
-        A = B t I
+        A = subst (λ (xs : List ℕ). run.BeginSays xs words) own B t I
 
         last_is : p.states - 1 ≡ accepting t
         last_is = omega (arith, states_are)
@@ -115,13 +119,13 @@ module _ {ws : List ℕ} {r : Option Checked} {c : Checked} (C : CheckSays ws r)
       step_past small l = text_too_long t I small M (omega arith) refl
 
       module _ {place : ℕ} {stretch : List ℕ} (small : length stretch ≤ 65535) (near : place ≤ 4294967295 - length stretch) where
-        pub goes : Goes ws p mask place stretch
-        goes = record { placed = placed; long = M.long ∙ sym width_is; limits = record { small = small; near = omega arith; few = omega arith } }
+        pub goes : Goes c.image.words.now p mask place stretch
+        goes = record { placed = c.image.placed; long = M.long ∙ sym width_is; limits = record { small = small; near = omega arith; few = omega arith } }
 
-        pub step_done : {ends words : List ℕ} {total : ℕ} {after new : List ℕ} → run.GoOnSays ws mask place stretch ends words total after → new ≡ take p.width words
+        pub step_done : {ends words : List ℕ} {total : ℕ} {after new : List ℕ} → run.GoOnSays c.image.words.now mask place stretch ends words total after → new ≡ take p.width words
             → StepSays ws mask place stretch ends (gives total (watch new (place + length stretch) after))
         step_done {ends} {words} {total} {after} {new} G laid =
-            let R = G t I M in
+            let R = subst (λ (xs : List ℕ). run.GoOnSays xs mask place stretch ends words total after) own G t I M in
             stepped t (take (width (states t)) words) R.found I small M (omega arith) R.live R.ends
             (ap₂ (λ (n : ℕ) (l : List ℕ). gives n (watch new (place + length stretch) l)) R.counted R.stored
             ∙ ap (λ (m : List ℕ). goes_on m (place + length stretch) R.found ends) (laid ∙ ap (λ (n : ℕ). take n words) width_is))

@@ -3,7 +3,7 @@ use borrow.Author.Rules.{rules}
 use mathlib.Core.Path.{◌≡◌}
 use lib.ListN.{length}
 use Rattle.mask.proofs.Laws.Bits.{fit_row}
-use Rattle.watch.proofs.Laws.Rows.{begin_done, begin_other, begin_words, narrow, placed, some_states}
+use Rattle.watch.proofs.Laws.Rows.{begin_done, begin_other, begin_words, narrow, some_states}
 use Rattle.watch.proofs.begin.Goals as goal
 
 pub returns-in_default : goal.returns-in_default
@@ -14,9 +14,6 @@ overflow_sub-last c = some_states c.check.ensures c.in-Some.is
 
 pub returns-then-mask-width : goal.returns-then-mask-width
 returns-then-mask-width c = begin_words c.check.ensures c.in-Some.is c.if-mask-width.true
-
-pub begin-first-requires : goal.begin-first-requires
-begin-first-requires c = placed c.check.ensures c.in-Some.is
 
 pub put_words-requires : goal.put_words-requires
 put_words-requires c = (c.if-mask-width.false, narrow c.check.ensures c.in-Some.is)

@@ -1,6 +1,5 @@
 -- Each way out is a row of the table: no image, a text too long, or the ends that the run finds with the image that was checked.
 use native.Mathlib.Omega.{arith}
-use Rattle.image_check.proofs.Laws.Found.{found}
 use Rattle.run_word.proofs.Laws.Bytes.{all_bytes}
 use Rattle.watcher.proofs.Laws.Match.{all_found, other, too_long}
 use Rattle.watcher.proofs.match_ends.Goals as goal
@@ -12,7 +11,7 @@ pub returns-then-text-gt65535 : goal.returns-then-text-gt65535
 returns-then-text-gt65535 c = too_long c.check.ensures c.in-Some.is c.if-text-gt65535.true
 
 pub find-total-requires : goal.find-total-requires
-find-total-requires c = ((found c.args.image.now c.check.ensures c.in-Some.is).placed, c.if-text-gt65535.false)
+find-total-requires c = c.if-text-gt65535.false
 
 pub returns : goal.returns
 returns c =

@@ -16,7 +16,6 @@ use Rattle.model.proofs.Laws.Stores.{sets_fit}
 use Rattle.answers.specs.Answers.{answered}
 use Rattle.answers.specs.declared.Refusal.{Refusal}
 use Rattle.std.specs.Prelude.{Result}
-use Rattle.image_sections.specs.Sections.{Placed}
 use Rattle.image_sections.specs.declared.Sections.{Sections}
 use Rattle.tokens_masks.specs.Tapes.{is_tree}
 use Rattle.tokens_masks.specs.declared.Tape.{Tape}
@@ -49,8 +48,8 @@ module _ {ws : List ℕ} {p : Sections} {t : Tape} (F : Found ws p t) where
 
   -- u has the unions' own marks
   module _ (u : Tape) (M : OwnMarks t u) where
-    pub asked : Placed ws p × (u.length < p.states)
-    asked = (F.placed, omega (arith, M.long, F.tape-of.long, length_tokens F.tree, ap (λ (q : Sections). q.states) F.sections_are))
+    pub asked : u.length < p.states
+    asked = omega (arith, M.long, F.tape-of.long, length_tokens F.tree, ap (λ (q : Sections). q.states) F.sections_are)
 
     abbrev text : ℕ → List ℕ
     text W = range_text ws W u.kinds u.length 0
@@ -58,10 +57,18 @@ module _ {ws : List ℕ} {p : Sections} {t : Tape} (F : Found ws p t) where
     width_is : p.width ≡ width_word ws
     width_is = ap (λ (q : Sections). q.width) F.sections_are ∙ sym (ap width_word I.laid)
 
-    pub says_found : length u.kinds ≡ 512 → (before after : List ℕ) (r : Result ℕ Refusal)
+    says : length u.kinds ≡ 512 → (before after : List ℕ) (r : Result ℕ Refusal)
         → r ≡ written_if (text p.width) before → after ≡ bytes_after (text p.width) before → ReadBackSays ws before (answered r after)
-    says_found room before after r e a =
+    says room before after r e a =
         subst (λ (q : Result ℕ Refusal). ReadBackSays ws before (answered q after)) (sym e)
         (subst (λ (l : List ℕ). ReadBackSays ws before (answered (written_if (text p.width) before) l)) (sym a)
         (of_text ws F.tree I before (text p.width)
         (ap text width_is ∙ all_written ws F.tree I t u F.tape-of M room)))
+
+    -- of the words that the check hands on, which are those that were asked
+    pub says_found : {now : List ℕ} → now ≡ ws → length u.kinds ≡ 512 → (before after : List ℕ) (r : Result ℕ Refusal)
+        → r ≡ written_if (range_text now p.width u.kinds u.length 0) before → after ≡ bytes_after (range_text now p.width u.kinds u.length 0) before
+        → ReadBackSays ws before (answered r after)
+    says_found q room before after r e a =
+        let text-of = λ (ys : List ℕ). range_text ys p.width u.kinds u.length 0 in
+        says room before after r (e ∙ ap (λ (ys : List ℕ). written_if (text-of ys) before) q) (a ∙ ap (λ (ys : List ℕ). bytes_after (text-of ys) before) q)

@@ -11,5 +11,5 @@ returns c = λ t I M.
     let g = c.go_on-ran in
     let a = c.args in
     let P = c.requires.0.placed in
-    went_word a.image.now t I (omega (arith, own_states P, c.requires.1)) P a.mask.now (fit_row a.mask.now c.type_inv.mask) M a.place a.stretch.now
+    went_word a.image.now.words.now t I (omega (arith, own_states P, c.requires.1)) P a.mask.now (fit_row a.mask.now c.type_inv.mask) M a.place a.stretch.now
     (all_bytes a.stretch.now (λ i. omega (arith, c.type_inv.stretch i))) a.ends.now g.result.total g.new.ends g.ensures

@@ -13,8 +13,8 @@ use Rattle.run.proofs.live.begin.Goals as goal
 pub returns : goal.returns
 returns c =
     let f = c.start-first in
-    let ws = c.args.image.now in
+    let ws = c.args.image.now.words.now in
     let long : length c.close_of.result.words ≡ 8 = search rules in
     begin_says ws c.close_of.result.words
-    (close_whole (masks_of ws) c.args.sections.depth f.result.words c.close_of.result.words (omega (arith, ap length f.ensures)) (omega (arith, long)) c.close_of.ensures
-    ∙ ap₂ (close_words (masks_of ws)) (own_depth c.requires) f.ensures)
+    (close_whole (masks_of ws) c.args.image.now.sections.depth f.result.words c.close_of.result.words (omega (arith, ap length f.ensures)) (omega (arith, long)) c.close_of.ensures
+    ∙ ap₂ (close_words (masks_of ws)) (own_depth c.args.image.now.placed) f.ensures)

@@ -7,5 +7,5 @@ use Rattle.run.proofs.table.put_backs.Goals as goal
 
 pub row_at-requires : goal.row_at-requires
 row_at-requires c =
-    let I = within c.requires.0 in
-    (I.narrow, omega (arith, backs_in I, part_fits c.args.sections.width {k = c.loop-i.i} {n = 2 * c.args.sections.depth} c.loop-i-test.true))
+    let I = within c.args.image.now.placed in
+    (I.narrow, omega (arith, backs_in I, part_fits c.args.image.now.sections.width {k = c.loop-i.i} {n = 2 * c.args.image.now.sections.depth} c.loop-i-test.true))

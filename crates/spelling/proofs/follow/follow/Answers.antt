@@ -17,7 +17,7 @@ loop-byte-init c =
     let k = c.into_iter-byte-iterator.result in
     let all : iter_rest (zip_first k) ≡ drop a.start a.text.now = grind (arith, common_steps) in
     let each : iter_rest (zip_second k) ≡ a.states.now = search rules in
-    going_all a.text.now a.start c.requires.2 all each
+    going_all a.text.now a.start c.requires all each
 
 pub returns-then-not-has_bit : goal.returns-then-not-has_bit
 returns-then-not-has_bit c = λ t I a. (

@@ -7,4 +7,4 @@ use Rattle.spelling.proofs.follow.follow.Given as goal
 
 abbrev pub invariant-loop-byte : goal.invariant-loop-byte
 invariant-loop-byte l =
-    Going l.image (take (length l.states) (drop l.start l.text)) l.states l.q (iter_rest (zip_first l.byte-iterator)) (iter_rest (zip_second l.byte-iterator))
+    Going l.edges.image.words.now (take (length l.states) (drop l.start l.text)) l.states l.q (iter_rest (zip_first l.byte-iterator)) (iter_rest (zip_second l.byte-iterator))

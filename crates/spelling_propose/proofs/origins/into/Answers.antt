@@ -7,15 +7,15 @@ use borrow.Author.Rules.{rules}
 use Rattle.spelling_propose.proofs.origins.into.Goals as goal
 
 pub loop-i-init : goal.loop-i-init
-loop-i-init c = let a = c.args in gathered_none a.origins.now a.row
+loop-i-init c = let a = c.args in gathered_none a.rows.now a.row
 
 pub loop-i-preserved : goal.loop-i-preserved
 loop-i-preserved c =
     let a = c.args in
-    gathered_more a.origins.now a.row (fit_row a.row (λ k. search rules)) c.loop-i.invariant c.into_word-more.result c.into_word-more.ensures
+    gathered_more a.rows.now a.row (fit_row a.row (λ k. search rules)) c.loop-i.invariant c.into_word-more.result c.into_word-more.ensures
 
 pub returns : goal.returns
 returns c =
     let row = c.args.row in
     let long : length row ≡ 8 = search rules in
-    gathered_all c.args.origins.now row (fit_row row (λ k. search rules)) long c.loop-i.invariant c.loop-i-test.false
+    gathered_all c.args.rows.now row (fit_row row (λ k. search rules)) long c.loop-i.invariant c.loop-i-test.false

@@ -3,4 +3,4 @@ use Rattle.spelling_propose.proofs.Laws.Search.{Backed}
 use Rattle.spelling_propose.proofs.search.find_start.Given as goal
 
 abbrev pub invariant-loop-k : goal.invariant-loop-k
-invariant-loop-k l = Backed l.image l.origins l.last l.text l.end l.k l.set l.kept
+invariant-loop-k l = Backed l.origins.edges.now.image.words.now l.text l.end l.k l.set l.kept

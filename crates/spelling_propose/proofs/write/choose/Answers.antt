@@ -17,5 +17,5 @@ returns c =
     let lo : length n.result.words ≡ 8 = search rules in
     let ls : length v ≡ 8 = search rules in
     let lb : length b.result.words ≡ 8 = search rules in
-    choose_says a.image.now a.at f.result.words v n.result.words b.result.words a.byte c.lowest.result f.ensures.reached n.ensures.entered
+    choose_says a.edges.now.image.words.now a.at f.result.words v n.result.words b.result.words a.byte c.lowest.result f.ensures.reached n.ensures.entered
     (both_has n.result.words v b.result.words lo ls lb (fit_row n.result.words (λ i. search rules)) (fit_row v (λ i. search rules)) b.ensures) c.lowest.ensures

@@ -5,14 +5,14 @@ use Rattle.spelling_propose.proofs.write.fill.Goals as goal
 pub loop-k-init : goal.loop-k-init
 loop-k-init c =
     let a = c.args in
-    filling_none a.image.now a.origins.now a.text.now a.lo a.hi a.set a.sets.now c.requires.2 c.requires.1.ordered
+    filling_none a.origins.now.edges.now.image.words.now a.text.now a.lo a.hi a.set a.sets.now c.requires.1 c.requires.0.ordered
 
 pub loop-k-preserved : goal.loop-k-preserved
 loop-k-preserved c =
     let a = c.args in
-    filling_more a.image.now a.origins.now a.text.now a.lo a.hi a.set c.requires.1 c.loop-k.invariant c.loop-k-test.true c.back-before.result c.back-before.ensures
+    filling_more a.origins.now.edges.now.image.words.now a.text.now a.lo a.hi a.set c.requires.0 c.loop-k.invariant c.loop-k-test.true c.back-before.result c.back-before.ensures
 
 pub returns : goal.returns
 returns c =
     let a = c.args in
-    filling_all a.image.now a.origins.now a.text.now a.lo a.hi a.set c.loop-k.invariant c.loop-k-test.false
+    filling_all a.origins.now.edges.now.image.words.now a.text.now a.lo a.hi a.set c.loop-k.invariant c.loop-k-test.false

@@ -6,19 +6,19 @@ use Rattle.spelling_propose.proofs.write.write.Goals as goal
 pub loop-k-init : goal.loop-k-init
 loop-k-init c =
     let a = c.args in
-    (refl, writing_none a.image.now a.origins.now a.last a.text.now a.start a.end a.kept.now a.states.now c.requires.2)
+    (refl, writing_none a.origins.now.edges.now.image.words.now a.text.now a.start a.end a.kept.now a.states.now c.requires)
 
 pub fill-requires : goal.fill-requires
 fill-requires c =
     let l = c.loop-k in
     let a = c.args in
-    (c.requires.0, stretch a.image.now a.origins.now a.last a.text.now a.start a.end a.kept.now a.states.now c.requires.2 l.invariant.1 c.stop_after-stop.ensures, l.invariant.0)
+    (stretch a.origins.now.edges.now.image.words.now a.text.now a.start a.end a.kept.now a.states.now c.requires l.invariant.1 c.stop_after-stop.ensures, l.invariant.0)
 
 pub walk-at-requires : goal.walk-at-requires
 walk-at-requires c =
     let l = c.loop-k in
     let a = c.args in
-    (c.requires.0, c.requires.1, walk_asks a.image.now a.origins.now a.last a.text.now a.start a.end a.kept.now a.states.now c.requires.2 l.invariant.1 c.stop_after-stop.ensures)
+    (walk_asks a.origins.now.edges.now.image.words.now a.text.now a.start a.end a.kept.now a.states.now c.requires l.invariant.1 c.stop_after-stop.ensures)
 
 pub loop-k-preserved : goal.loop-k-preserved
 loop-k-preserved c =
@@ -28,11 +28,11 @@ loop-k-preserved c =
     let l = c.loop-k in
     let a = c.args in (
       f.ensures.long,
-      writing_more a.image.now a.origins.now a.last a.text.now a.start a.end a.kept.now a.states.now c.requires.2 l.invariant.1 c.stop_after-stop.ensures
+      writing_more a.origins.now.edges.now.image.words.now a.text.now a.start a.end a.kept.now a.states.now c.requires l.invariant.1 c.stop_after-stop.ensures
           h.result h.ensures f.new.sets f.ensures w.result w.new.states w.ensures,
     )
 
 pub returns : goal.returns
 returns c =
     let a = c.args in
-    writing_all a.image.now a.origins.now a.last a.text.now a.start a.end a.kept.now a.states.now c.requires.2 c.loop-k.invariant.1 c.loop-k-test.false
+    writing_all a.origins.now.edges.now.image.words.now a.text.now a.start a.end a.kept.now a.states.now c.requires c.loop-k.invariant.1 c.loop-k-test.false

@@ -12,8 +12,8 @@ decreases-write_range l = l.to - l.from
 abbrev pub invariant-loop-i : goal.invariant-loop-i
 invariant-loop-i l = record {
   inside : l.i ≤ l.to;
-  wrote : Wrote (tokens_of l.words l.sections.width l.kinds) l.fn.out l.at l.from l.i l.out l.p;
-  column : ColumnOf l.words l.sections.width (l.i / 64) l.classes;
+  wrote : Wrote (tokens_of l.image.words.now l.image.sections.width l.kinds) l.fn.out l.at l.from l.i l.out l.p;
+  column : ColumnOf l.image.words.now l.image.sections.width (l.i / 64) l.classes;
 }
 
 abbrev pub decreases-loop-i : goal.decreases-loop-i

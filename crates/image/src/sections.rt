@@ -72,21 +72,21 @@ fn put_tables<const N: usize>(
 // The whole image, from what lay out gives for the tape.
 pub fn put_image(
     words: &mut [u64],
-    tokens: [u64; 2555],
+    tokens: &[u64; 2555],
     tape: Tape,
     sections: Sections,
     masks: &[u64; 936],
 )
     requires limits { Within sections sections.length × (sections.letters ≡ letters_at) × (sections.length ≤ length_of words.old) × (tape.length < sections.states) }
     requires laid { Laid tape masks.now }
-    ensures { words.new ≡ sets words.old 0 (image_words sections tokens tape) }
+    ensures { words.new ≡ sets words.old 0 (image_words sections tokens.now tape) }
 {
     let letters = sections.letters;
     let width = sections.width;
     let depth = sections.depth;
     let loops = row_of(masks, 0, LOOP_PLACE);
     put_shape(words, sections);
-    put_letters(words, letters, width, &tokens, tape.length);
+    put_letters(words, letters, width, tokens, tape.length);
     put_repeats(words, letters, sections.repeats, width, loops);
     put_tables::<3>(words, sections.scatter, width, depth, SCATTER_BLOCK, masks);
     put_tables::<3>(words, sections.gather, width, depth, GATHER_BLOCK, masks);

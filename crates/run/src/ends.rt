@@ -7,8 +7,8 @@ ghost use Rattle.run_word.specs.Ends.{Noted};
 
 use crate::rounds::close;
 use crate::rows::row_at;
-use crate::stretch::{Ran, is_live, run_over};
-use crate::table::table;
+use crate::stretch::{From, Ran, is_live, run_over};
+use crate::table::Work;
 use image_sections::Image;
 use run_moves::start;
 use run_word::places::note;
@@ -19,25 +19,16 @@ fn find_words(image: &Image, text: &[u8], ends: &mut [u32]) -> u64
     ensures { Noted (ends_with (masks_of image.now.words.now) image.now.sections.depth (image.now.sections.states - 1) text.now)
         ends.old result ends.new }
 {
-    let width = image.sections.width;
-    let depth = image.sections.depth;
-    let last = image.sections.states - 1;
-    let masks = table(image);
-    let first = close(start(), depth, 8, &masks);
+    let masks = Work::of(image);
+    let first = close(start(), 8, &masks);
     let live = first.words;
-    let total = note(ends, 0, 0, is_live(&live, last));
-    let ran = run_over(
-        image.words,
-        text,
-        ends,
-        0,
-        total,
-        width,
-        depth,
-        last,
+    let found = note(ends, 0, 0, is_live(&live, image.sections.states - 1));
+    let from = From {
         live,
-        &masks,
-    );
+        place: 0,
+        found,
+    };
+    let ran = run_over(image, text, ends, from, &masks);
     ran.total
 }
 
@@ -57,23 +48,12 @@ fn go_on_words(image: &Image, mask: &[u64], place: u64, stretch: &[u8], ends: &m
     requires { Goes image.now.words.now image.now.sections mask.now place stretch.now × (64 < image.now.sections.states) }
     ensures { GoOnSays image.now.words.now mask.now place stretch.now ends.old result.words result.total ends.new }
 {
-    let width = image.sections.width;
-    let depth = image.sections.depth;
-    let last = image.sections.states - 1;
-    let masks = table(image);
-    let first = row_at(mask, 0, width);
-    run_over(
-        image.words,
-        stretch,
-        ends,
+    let from = From {
+        live: row_at(mask, 0, image.sections.width),
         place,
-        0,
-        width,
-        depth,
-        last,
-        first,
-        &masks,
-    )
+        found: 0,
+    };
+    run_over(image, stretch, ends, from, &Work::of(image))
 }
 
 // The same of a rule of at most 64 states.

@@ -5,7 +5,7 @@ ghost use Rattle.run.specs.Says.{BeginSays};
 ghost use Rattle.run.specs.Work.{masks_of};
 
 use crate::rounds::close;
-use crate::table::table;
+use crate::table::Work;
 use image_sections::Image;
 use mask::Mask;
 use run_moves::start;
@@ -14,8 +14,8 @@ use run_moves::start;
 fn close_of(image: &Image, live: Mask) -> Mask
     ensures { take 8 result.words ≡ take 8 (close_words (masks_of image.now.words.now) image.now.sections.depth live.words) }
 {
-    let masks = table(image);
-    close(live, image.sections.depth, 8, &masks)
+    let masks = Work::of(image);
+    close(live, 8, &masks)
 }
 
 // "The live states before any byte"

@@ -6,7 +6,7 @@ ghost use Rattle.model.specs.Models.Words.{or_words};
 ghost use Rattle.run.specs.Work.{pass_masks, Sources, Whole};
 
 use crate::steps::pass;
-use crate::table::Table;
+use crate::table::{Table, Work};
 use mask::Mask;
 use run_moves::{come_back, meet, same};
 
@@ -30,46 +30,43 @@ fn return_at(live: Mask, first: Mask, k: usize, n: usize, table: &Table) -> Mask
 
 // What the back edges of all depths add to what the passes gave.
 #[inline(always)]
-fn returns(first: Mask, depth: usize, n: usize, table: &Table) -> Mask
-    requires { depth ≤ 8 }
-    ensures { take n result.words ≡ returns_words (pass_masks n table.now) depth (take n first.words) (take n first.words) }
+fn returns(first: Mask, n: usize, work: &Work) -> Mask
+    ensures { take n result.words ≡ returns_words (pass_masks n work.now.table) work.now.depth (take n first.words) (take n first.words) }
 {
     let mut r = first;
-    for k in (0..depth).rev() {
-        r = return_at(r, first, k, n, table);
+    for k in (0..work.depth).rev() {
+        r = return_at(r, first, k, n, &work.table);
     }
     r
 }
 
 // The same where all sources are at hand: mostly none of them is live, and nothing is added.
 #[inline(always)]
-pub fn come_round(first: Mask, depth: usize, n: usize, table: &Table, sources: Mask) -> Mask
-    requires { (depth ≤ 8) × Whole table.now depth × Sources table.now depth sources.words }
-    ensures { take n result.words ≡ returns_words (pass_masks n table.now) depth (take n first.words) (take n first.words) }
+pub fn come_round(first: Mask, n: usize, work: &Work, sources: Mask) -> Mask
+    requires { Whole work.now.table work.now.depth × Sources work.now.table work.now.depth sources.words }
+    ensures { take n result.words ≡ returns_words (pass_masks n work.now.table) work.now.depth (take n first.words) (take n first.words) }
 {
     if meet(sources, first, n) {
-        return returns(first, depth, n, table);
+        return returns(first, n, work);
     }
     first
 }
 
 // The second round, made only where the back edges add something.
-fn again(first: Mask, depth: usize, n: usize, table: &Table) -> Mask
-    requires { depth ≤ 8 }
-    ensures { take n result.words ≡ second_round (pass_masks n table.now) depth (take n first.words) }
+fn again(first: Mask, n: usize, work: &Work) -> Mask
+    ensures { take n result.words ≡ second_round (pass_masks n work.now.table) work.now.depth (take n first.words) }
 {
-    let more = returns(first, depth, n, table);
+    let more = returns(first, n, work);
     if same(more, first, n) {
         return first;
     }
-    pass(more, depth, n, table)
+    pass(more, n, work)
 }
 
 // Both rounds: all that the live states reach by edges without a letter.
-pub fn close(live: Mask, depth: usize, n: usize, table: &Table) -> Mask
-    requires { depth ≤ 8 }
-    ensures { take n result.words ≡ close_words (pass_masks n table.now) depth (take n live.words) }
+pub fn close(live: Mask, n: usize, work: &Work) -> Mask
+    ensures { take n result.words ≡ close_words (pass_masks n work.now.table) work.now.depth (take n live.words) }
 {
-    let first = pass(live, depth, n, table);
-    again(first, depth, n, table)
+    let first = pass(live, n, work);
+    again(first, n, work)
 }

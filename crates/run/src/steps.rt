@@ -7,7 +7,7 @@ ghost use Rattle.run_moves.specs.Less.{plus_words, start_words};
 ghost use Rattle.run.specs.Work.{pass_masks, row_at};
 
 use crate::rows::row_at;
-use crate::table::Table;
+use crate::table::{Table, Work};
 use image_sections::{letters_at, repeats_at};
 use mask::Mask;
 use run_moves::{advance, gather, propagate, scatter, start};
@@ -69,40 +69,37 @@ fn propagate_at(live: Mask, k: usize, n: usize, table: &Table) -> Mask
 
 // Up from the deepest alternatives to the rule's own sequence: along a depth's chains before its ends go up one depth.
 #[inline(always)]
-pub fn rise(live: Mask, depth: usize, n: usize, table: &Table) -> Mask
-    requires { depth ≤ 8 }
-    ensures { take n result.words ≡ rise_words (pass_masks n table.now) depth (take n live.words) }
+pub fn rise(live: Mask, n: usize, work: &Work) -> Mask
+    ensures { take n result.words ≡ rise_words (pass_masks n work.now.table) work.now.depth (take n live.words) }
 {
     let mut r = live;
-    for k in (0..depth).rev() {
-        let along = propagate_at(r, k + 1, n, table);
-        r = gather_at(along, k, n, table);
+    for k in (0..work.depth).rev() {
+        let along = propagate_at(r, k + 1, n, &work.table);
+        r = gather_at(along, k, n, &work.table);
     }
-    propagate_at(r, 0, n, table)
+    propagate_at(r, 0, n, &work.table)
 }
 
 // Down again, rising from depth 1 to d: inner alternatives start only once the outer ones have.
 #[inline(always)]
-pub fn fall(live: Mask, depth: usize, n: usize, table: &Table) -> Mask
-    requires { depth ≤ 8 }
-    ensures { take n result.words ≡ fall_words (pass_masks n table.now) depth 0 (take n live.words) }
+pub fn fall(live: Mask, n: usize, work: &Work) -> Mask
+    ensures { take n result.words ≡ fall_words (pass_masks n work.now.table) work.now.depth 0 (take n live.words) }
 {
     let mut r = live;
-    for k in 0..depth {
-        let started = scatter_at(r, k, n, table);
-        r = propagate_at(started, k + 1, n, table);
+    for k in 0..work.depth {
+        let started = scatter_at(r, k, n, &work.table);
+        r = propagate_at(started, k + 1, n, &work.table);
     }
     r
 }
 
 // Up and down: all that the live states reach by edges without a letter.
 #[inline(always)]
-pub fn pass(live: Mask, depth: usize, n: usize, table: &Table) -> Mask
-    requires { depth ≤ 8 }
-    ensures { take n result.words ≡ pass_words (pass_masks n table.now) depth (take n live.words) }
+pub fn pass(live: Mask, n: usize, work: &Work) -> Mask
+    ensures { take n result.words ≡ pass_words (pass_masks n work.now.table) work.now.depth (take n live.words) }
 {
-    let up = rise(live, depth, n, table);
-    fall(up, depth, n, table)
+    let up = rise(live, n, work);
+    fall(up, n, work)
 }
 
 // The live states moved by a byte, and state 0; the byte's masks are read where they lie.

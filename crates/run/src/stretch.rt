@@ -1,12 +1,13 @@
 // The run over a stretch of bytes, from any live states and any place, for a rule of any size.
-ghost use Rattle.std.specs.Prelude.{◌≡◌, ◌/◌, ◌<◌, false, length, take};
+ghost use Rattle.std.specs.Prelude.{◌≡◌, ◌-◌, ◌/◌, ◌<◌, false, length, take};
 ghost use Rattle.model.specs.Bits.{bit};
 ghost use Rattle.model.specs.Models.Words.{value};
 ghost use Rattle.run.specs.Work.{NoBack, Overs, rule_masks, Sources};
 ghost use Rattle.run_word.specs.Ends.{RanOver};
 
-use crate::table::{Table, all_sources};
+use crate::table::{Work, all_sources};
 use crate::widths::step_by;
+use image_sections::Image;
 use mask::Mask;
 use run_word::places::note;
 
@@ -25,33 +26,40 @@ pub fn is_live(live: &[u64], state: usize) -> bool
     (live[state / 64] >> (state % 64)) & 1 == 1
 }
 
-// With the table of work: a step for each byte, and its place in the whole text noted if the accepting state is then live.
+// Where a stretch begins: the live states, the place in the whole text, and how many ends were found before.
+#[derive(Clone, Copy)]
+pub struct From {
+    pub live: [u64; 8],
+    pub place: u64,
+    pub found: usize,
+}
+
+// A step for each byte, and its place in the whole text noted if the accepting state is then live.
 fn run_by<const BACK: bool>(
-    image: &[u64],
+    image: &Image,
     stretch: &[u8],
     places: &mut [u32],
-    place: u64,
-    found: usize,
-    width: usize,
-    depth: usize,
-    last: usize,
-    first: [u64; 8],
-    table: &Table,
+    from: From,
+    work: &Work,
     sources: Mask,
 ) -> Ran
-    requires { Overs image.now stretch.now place found width depth last table.now × Sources table.now depth sources.words
-        × (BACK ≡ false → NoBack table.now depth) }
-    ensures { RanOver (rule_masks image.now width table.now) width depth last place found stretch.now (take width first)
+    requires { Overs image.now.sections stretch.now from.place from.found work.now.depth work.now.table
+        × Sources work.now.table work.now.depth sources.words × (BACK ≡ false → NoBack work.now.table work.now.depth) }
+    ensures { RanOver (rule_masks image.now.words.now image.now.sections.width work.now.table) image.now.sections.width work.now.depth
+        (image.now.sections.states - 1) from.place from.found stretch.now (take image.now.sections.width from.live)
         places.old result.words result.total places.new }
 {
-    let mut live = first;
-    let mut total = found;
+    let words = image.words;
+    let width = image.sections.width;
+    let last = image.sections.states - 1;
+    let mut live = from.live;
+    let mut total = from.found;
     for (p, byte) in stretch.iter().enumerate() {
-        step_by::<BACK>(&mut live, image, width, *byte, depth, table, sources);
+        step_by::<BACK>(&mut live, words, width, *byte, work, sources);
         total = note(
             places,
             total,
-            (place + p as u64 + 1) as u32,
+            (from.place + p as u64 + 1) as u32,
             is_live(&live, last),
         );
     }
@@ -62,29 +70,15 @@ fn run_by<const BACK: bool>(
 }
 
 // Whether there are back edges is asked once: asked at each byte, a rule without them would pay for them.
-pub fn run_over(
-    image: &[u64],
-    stretch: &[u8],
-    places: &mut [u32],
-    place: u64,
-    found: usize,
-    width: usize,
-    depth: usize,
-    last: usize,
-    first: [u64; 8],
-    table: &Table,
-) -> Ran
-    requires { Overs image.now stretch.now place found width depth last table.now }
-    ensures { RanOver (rule_masks image.now width table.now) width depth last place found stretch.now (take width first)
+pub fn run_over(image: &Image, stretch: &[u8], places: &mut [u32], from: From, work: &Work) -> Ran
+    requires { Overs image.now.sections stretch.now from.place from.found work.now.depth work.now.table }
+    ensures { RanOver (rule_masks image.now.words.now image.now.sections.width work.now.table) image.now.sections.width work.now.depth
+        (image.now.sections.states - 1) from.place from.found stretch.now (take image.now.sections.width from.live)
         places.old result.words result.total places.new }
 {
-    let sources = all_sources(table, depth);
+    let sources = all_sources(work);
     if sources.words == [0; 8] {
-        return run_by::<false>(
-            image, stretch, places, place, found, width, depth, last, first, table, sources,
-        );
+        return run_by::<false>(image, stretch, places, from, work, sources);
     }
-    run_by::<true>(
-        image, stretch, places, place, found, width, depth, last, first, table, sources,
-    )
+    run_by::<true>(image, stretch, places, from, work, sources)
 }

@@ -9,6 +9,14 @@ use mask::Mask;
 use mask::logic::or;
 use run_moves::less_one;
 
+// The masks of work, and how deep the rule is: of the table's masks those of the depths up to it.
+#[derive(Drop)]
+pub struct Work {
+    pub table: Table,
+    pub depth: usize,
+    ghost deep: { depth ≤ 8 },
+}
+
 // A series: one of the three masks of a section, block, source or target, for each of the depths 0 to 8.
 pub type Series = [[u64; 8]; 9];
 
@@ -87,17 +95,17 @@ fn put_backs(table: &mut Table, image: &Image)
     }
 }
 
-// All sources of the back edges up to a depth.
-pub fn all_sources(table: &Table, depth: usize) -> Mask
-    requires { (depth ≤ 8) × Whole table.now depth }
-    ensures { Sources table.now depth result.words }
+// All sources of the back edges.
+pub fn all_sources(work: &Work) -> Mask
+    requires { Whole work.now.table work.now.depth }
+    ensures { Sources work.now.table work.now.depth result.words }
 {
     let mut r = mask::none();
-    for k in 0..depth {
+    for k in 0..work.depth {
         r = or(
             r,
             Mask {
-                words: table[81 + 2 * k],
+                words: work.table[81 + 2 * k],
             },
             8,
         );
@@ -105,15 +113,21 @@ pub fn all_sources(table: &Table, depth: usize) -> Mask
     r
 }
 
-pub fn table(image: &Image) -> Table
-    ensures words { AreWords image.now.words.now }
-    ensures tabled { Tabled image.now.words.now image.now.sections.width image.now.sections.depth result }
-{
-    let none = [0u64; 8];
-    let mut r = [none; 97];
-    for j in 0..9 {
-        put_series(&mut r, j, series(image, j));
+impl Work {
+    pub fn of(image: &Image) -> Work
+        ensures words { AreWords image.now.words.now }
+        ensures deep { result.depth ≡ image.now.sections.depth }
+        ensures tabled { Tabled image.now.words.now image.now.sections.width image.now.sections.depth result.table }
+    {
+        let none = [0u64; 8];
+        let mut r = Work {
+            table: [none; 97],
+            depth: image.sections.depth,
+        };
+        for j in 0..9 {
+            put_series(&mut r.table, j, series(image, j));
+        }
+        put_backs(&mut r.table, image);
+        r
     }
-    put_backs(&mut r, image);
-    r
 }

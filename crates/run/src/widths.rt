@@ -6,7 +6,7 @@ ghost use Rattle.run.specs.Work.{NoBack, SteppedOn, Turns};
 
 use crate::rounds::come_round;
 use crate::steps::{moved, pass};
-use crate::table::Table;
+use crate::table::Work;
 use mask::Mask;
 use run_moves::same;
 
@@ -16,28 +16,27 @@ fn step<const N: usize, const BACK: bool>(
     live: &mut [u64; 8],
     image: &[u64],
     byte: u8,
-    depth: usize,
-    table: &Table,
+    work: &Work,
     sources: Mask,
 )
-    requires { Turns image.now N depth table.now sources.words × (BACK ≡ false → NoBack table.now depth) }
-    ensures { SteppedOn N image.now byte depth table.now live.old live.new }
+    requires { Turns image.now N work.now.depth work.now.table sources.words × (BACK ≡ false → NoBack work.now.table work.now.depth) }
+    ensures { SteppedOn N image.now byte work.now.depth work.now.table live.old live.new }
 {
     let words = *live;
     let on = moved(Mask { words }, image, N, N, byte);
-    let first = pass(on, depth, N, table);
+    let first = pass(on, N, work);
     if !BACK {
         let words = first.words;
         *live = words;
         return;
     }
-    let more = come_round(first, depth, N, table, sources);
+    let more = come_round(first, N, work, sources);
     if same(more, first, N) {
         let words = first.words;
         *live = words;
         return;
     }
-    let second = pass(more, depth, N, table);
+    let second = pass(more, N, work);
     let words = second.words;
     *live = words;
 }
@@ -49,30 +48,29 @@ pub fn step_by<const BACK: bool>(
     image: &[u64],
     n: usize,
     byte: u8,
-    depth: usize,
-    table: &Table,
+    work: &Work,
     sources: Mask,
 )
-    requires { Turns image.now n depth table.now sources.words × (BACK ≡ false → NoBack table.now depth) }
-    ensures { SteppedOn n image.now byte depth table.now live.old live.new }
+    requires { Turns image.now n work.now.depth work.now.table sources.words × (BACK ≡ false → NoBack work.now.table work.now.depth) }
+    ensures { SteppedOn n image.now byte work.now.depth work.now.table live.old live.new }
 {
     if n <= 4 {
         if n <= 2 {
-            return step::<2, BACK>(live, image, byte, depth, table, sources);
+            return step::<2, BACK>(live, image, byte, work, sources);
         }
         if n == 3 {
-            return step::<3, BACK>(live, image, byte, depth, table, sources);
+            return step::<3, BACK>(live, image, byte, work, sources);
         }
-        return step::<4, BACK>(live, image, byte, depth, table, sources);
+        return step::<4, BACK>(live, image, byte, work, sources);
     }
     if n <= 6 {
         if n == 5 {
-            return step::<5, BACK>(live, image, byte, depth, table, sources);
+            return step::<5, BACK>(live, image, byte, work, sources);
         }
-        return step::<6, BACK>(live, image, byte, depth, table, sources);
+        return step::<6, BACK>(live, image, byte, work, sources);
     }
     if n == 7 {
-        return step::<7, BACK>(live, image, byte, depth, table, sources);
+        return step::<7, BACK>(live, image, byte, work, sources);
     }
-    step::<8, BACK>(live, image, byte, depth, table, sources);
+    step::<8, BACK>(live, image, byte, work, sources);
 }

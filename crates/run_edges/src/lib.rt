@@ -13,7 +13,7 @@ use mask::bits::with_bit;
 use mask::logic::{and, or};
 use run::rounds::close;
 use run::rows::row_at;
-use run::table::{Table, table};
+use run::table::Work;
 use run_moves::advance;
 
 // Each state back by one.
@@ -48,8 +48,9 @@ fn repeats(image: &Image, byte: u8) -> [u64; 8]
 #[derive(Drop)]
 pub struct Edges<'a> {
     pub image: Image<'a>,
-    pub masks: Table,
-    ghost work: { WorkOf image.words.now masks },
+    pub masks: Work,
+    ghost work: { WorkOf image.words.now masks.table },
+    ghost deep: { masks.depth ≡ image.sections.depth },
     ghost words: { AreWords image.words.now },
 }
 
@@ -57,8 +58,10 @@ impl<'a> Edges<'a> {
     pub fn of(image: Image<'a>) -> Edges<'a>
         ensures { result.image ≡ image.entry }
     {
-        let masks = table(&image);
-        Edges { image, masks }
+        Edges {
+            image,
+            masks: Work::of(&image),
+        }
     }
 
     // All that a state reaches without a letter.
@@ -67,7 +70,7 @@ impl<'a> Edges<'a> {
         ensures reached { ReachSays self.now.image.words.now q result.words }
     {
         let one = with_bit(mask::none(), q);
-        close(one, self.image.sections.depth, 8, &self.masks)
+        close(one, 8, &self.masks)
     }
 
     // The states that a byte enters from those of a mask.

@@ -1,11 +1,14 @@
 -- THE RUN OVER A STRETCH on one word: what its loops ask, and what they make.
-use Rattle.std.specs.Prelude.{◌≡◌, ℕ, ◌^◌, ◌<◌, ◌≤◌, Bool, List, [], ◌∷◌, length}
+use Rattle.std.specs.Prelude.{◌≡◌, ℕ, ◌-◌, ◌^◌, ◌<◌, ◌≤◌, Bool, List, [], ◌∷◌, length}
 use Rattle.model.specs.Models.Sections.{depth_word, repeat_place}
 use Rattle.model.specs.Models.Run.{close_words, Masks}
 use Rattle.run_word.specs.Ends.{Limits, RanOver}
 use Rattle.run_word.specs.One.{Backs, Entered, NoChain}
+use Rattle.image_sections.specs.declared.Sections.{Sections}
 use Rattle.run_word.specs.declared.stretch.From.{From}
 use Rattle.run_word.specs.declared.stretch.Ran.{Ran}
+use Rattle.run_word.specs.declared.work.Work.{Work}
+use Rattle.model.specs.Models.Words.{Fit}
 
 -- what a stretch leads to on masks of one word
 abbrev pub RanFrom : Masks → (d last : ℕ) (stretch : List ℕ) → From → (before : List ℕ) → Ran → (after : List ℕ) → Type 0
@@ -29,3 +32,11 @@ pub record Chosen (ws stretch : List ℕ) (from : From) (last d : ℕ) (any : Bo
   pub entered : Entered ws d table
   pub none : NoChain table d any
   pub edges : Backs ws d backs
+
+-- the masks of work are those of an image with these sections; and its words are of 64 bits, which a slice within a record does not show
+pub record WorkOf (ws : List ℕ) (p : Sections) (w : Work) : Type 0 where
+  pub words : Fit ws
+  pub depth : w.depth ≡ p.depth
+  pub last : w.last ≡ p.states - 1
+  pub entered : Entered ws w.depth w.table
+  pub edges : Backs ws w.depth w.backs

@@ -7,7 +7,7 @@ ghost use Rattle.run_word.specs.One.{one_masks};
 use crate::places::note;
 use crate::rounds::close;
 use crate::stretch::{From, Ran, is_live, run_over};
-use crate::table::{any_chain, backs, table};
+use crate::table::work_of;
 use image_sections::Image;
 
 // The ends of a text for a rule of at most 64 states: the total, and the first that fit in what is lent, rising. A beginning, with place 0, and the text as
@@ -17,29 +17,15 @@ pub fn find(image: &Image, text: &[u8], ends: &mut [u32]) -> u64
     ensures { Noted (ends_with (one_masks image.now.words.now) image.now.sections.depth (image.now.sections.states - 1) text.now)
         ends.old result ends.new }
 {
-    let deep = image.sections.depth;
-    let last = image.sections.states - 1;
-    let masks = table(image);
-    let any = any_chain(&masks, deep);
-    let edges = backs(image.words, image.sections.back, deep);
-    let live = close(1, deep, any, &masks, &edges);
-    let found = note(ends, 0, 0, is_live(live, last));
+    let work = work_of(image);
+    let live = close(1, &work);
+    let found = note(ends, 0, 0, is_live(live, work.last));
     let from = From {
         live,
         place: 0,
         found,
     };
-    let ran = run_over(
-        image.words,
-        text,
-        ends,
-        from,
-        last,
-        deep,
-        any,
-        &masks,
-        &edges,
-    );
+    let ran = run_over(image.words, text, ends, from, &work);
     ran.total
 }
 
@@ -49,25 +35,11 @@ pub fn go_on(image: &Image, live: u64, place: u64, stretch: &[u8], ends: &mut [u
     ensures { RanOver (one_masks image.now.words.now) 1 image.now.sections.depth (image.now.sections.states - 1) place 0 stretch.now (live ∷ [])
         ends.old (result.live ∷ []) result.total ends.new }
 {
-    let deep = image.sections.depth;
-    let last = image.sections.states - 1;
-    let masks = table(image);
-    let any = any_chain(&masks, deep);
-    let edges = backs(image.words, image.sections.back, deep);
+    let work = work_of(image);
     let from = From {
         live,
         place,
         found: 0,
     };
-    run_over(
-        image.words,
-        stretch,
-        ends,
-        from,
-        last,
-        deep,
-        any,
-        &masks,
-        &edges,
-    )
+    run_over(image.words, stretch, ends, from, &work)
 }

@@ -5,6 +5,7 @@ ghost use Rattle.model.specs.Models.Words.{or_words};
 ghost use Rattle.run_word.specs.One.{Closed, Returned, word_at};
 
 use crate::steps::pass;
+use crate::work::Work;
 use run_back::lead_back;
 
 // The targets of depth k added, where `first` is what the passes gave: none without a live source, and no new one where all are live.
@@ -36,14 +37,13 @@ fn returns(first: u64, depth: usize, backs: &[u64; 16]) -> u64
 }
 
 // All that the live states reach by edges without a letter: the second round only where the back edges add something.
-pub fn close(live: u64, depth: usize, any: bool, table: &[u64; 81], backs: &[u64; 16]) -> u64
-    requires { depth ≤ 8 }
-    ensures { Closed any table.now backs.now depth live result }
+pub fn close(live: u64, work: &Work) -> u64
+    ensures { Closed work.now.any work.now.table work.now.backs work.now.depth live result }
 {
-    let first = pass(live, depth, any, table);
-    let more = returns(first, depth, backs);
+    let first = pass(live, work.depth, work.any, &work.table);
+    let more = returns(first, work.depth, &work.backs);
     if more == first {
         return first;
     }
-    pass(more, depth, any, table)
+    pass(more, work.depth, work.any, &work.table)
 }

@@ -1,4 +1,5 @@
-// The passes with the table of work lent: up through the depths with propagate and gather, then down with scatter and propagate.
+// The passes with the table of work lent: up through the depths with propagate and gather, then down with scatter and propagate. The depth, and whether any
+// depth has a chain, stand beside the table and not in one record with it, for a loop may give them as literals.
 ghost use Rattle.std.specs.Prelude.{◌≡◌, ◌+◌, ◌*◌, ◌≤◌, [], ◌∷◌, length, if◌then◌else◌, slice_index};
 ghost use Rattle.model.specs.Models.Sections.{letter_place, repeat_place};
 ghost use Rattle.model.specs.Models.Run.{gather_words, move_words, propagate_words, scatter_words};

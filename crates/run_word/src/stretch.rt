@@ -10,6 +10,7 @@ use crate::places::note;
 use crate::rounds::close;
 use crate::steps::{moved, pass};
 use crate::table::any_back;
+use crate::work::Work;
 
 // Where a stretch begins: the live states, the place in the whole text, and how many ends were found before.
 #[derive(Clone, Copy)]
@@ -34,6 +35,7 @@ pub fn is_live(live: u64, state: usize) -> bool
 }
 
 // A step for each byte: the move by it, and all that `reach` leads to from there. Its place in the whole text is noted if the accepting state is then live.
+// The words and the bytes are lent as they are, not in a record: a slice within one does not show that what it holds are words and bytes.
 #[inline(always)]
 fn over<F: Fn(u64) -> u64>(
     image: &[u64],
@@ -71,111 +73,64 @@ fn over_fixed<const DEPTH: usize, const ANY: bool>(
     stretch: &[u8],
     ends: &mut [u32],
     from: From,
-    last: usize,
-    table: &[u64; 81],
+    work: &Work,
 ) -> Ran
-    requires { Overs image.now stretch.now from last × (DEPTH ≤ 8) }
-    ensures { RanFrom (work_masks image.now ANY table.now []) DEPTH last stretch.now from
+    requires { Overs image.now stretch.now from work.now.last × (DEPTH ≤ 8) }
+    ensures { RanFrom (work_masks image.now ANY work.now.table []) DEPTH work.now.last stretch.now from
         ends.old result ends.new }
 {
     let reach = |live: u64| -> u64
         requires { DEPTH ≤ 8 }
-        ensures { Passed ANY (slice_index table.entry.now 6) (slice_index table.entry.now 7) (slice_index table.entry.now 8) table.entry.now DEPTH live result }
-    { pass(live, DEPTH, ANY, table) };
-    over(image, stretch, ends, from, last, reach)
+        ensures { let t = work.entry.now.table in Passed ANY (slice_index t 6) (slice_index t 7) (slice_index t 8) t DEPTH live result }
+    { pass(live, DEPTH, ANY, &work.table) };
+    over(image, stretch, ends, from, work.last, reach)
 }
 
 // The same for any depth. This one alone, called with literals for the depth and the presence of chains, is not unfolded: a byte takes 35 instructions
 // where it takes 22 (depth 0).
-fn over_plain(
-    image: &[u64],
-    stretch: &[u8],
-    ends: &mut [u32],
-    from: From,
-    last: usize,
-    depth: usize,
-    any: bool,
-    table: &[u64; 81],
-) -> Ran
-    requires { Overs image.now stretch.now from last × (depth ≤ 8) }
-    ensures { RanFrom (work_masks image.now any table.now []) depth last stretch.now from
+fn over_plain(image: &[u64], stretch: &[u8], ends: &mut [u32], from: From, work: &Work) -> Ran
+    requires { Overs image.now stretch.now from work.now.last }
+    ensures { RanFrom (work_masks image.now work.now.any work.now.table []) work.now.depth work.now.last stretch.now from
         ends.old result ends.new }
 {
+    // Read once: a byte takes 136 instructions where it takes 131 (depth 3) if each step asks the record for them.
+    let depth = work.depth;
+    let any = work.any;
     let reach = |live: u64| -> u64
         requires { depth ≤ 8 }
-        ensures { Passed any (slice_index table.entry.now 6) (slice_index table.entry.now 7) (slice_index table.entry.now 8) table.entry.now depth live result }
-    { pass(live, depth, any, table) };
-    over(image, stretch, ends, from, last, reach)
+        ensures { let t = work.entry.now.table in Passed any (slice_index t 6) (slice_index t 7) (slice_index t 8) t depth live result }
+    { pass(live, depth, any, &work.table) };
+    over(image, stretch, ends, from, work.last, reach)
 }
 
 // The loop of a rule with back edges: each step closes in two rounds.
-fn over_back(
-    image: &[u64],
-    stretch: &[u8],
-    ends: &mut [u32],
-    from: From,
-    last: usize,
-    depth: usize,
-    any: bool,
-    table: &[u64; 81],
-    backs: &[u64; 16],
-) -> Ran
-    requires { Overs image.now stretch.now from last × (depth ≤ 8) }
-    ensures { RanFrom (work_masks image.now any table.now backs.now) depth last stretch.now from
+fn over_back(image: &[u64], stretch: &[u8], ends: &mut [u32], from: From, work: &Work) -> Ran
+    requires { Overs image.now stretch.now from work.now.last }
+    ensures { RanFrom (work_masks image.now work.now.any work.now.table work.now.backs) work.now.depth work.now.last stretch.now from
         ends.old result ends.new }
 {
     let reach = |live: u64| -> u64
-        requires { depth ≤ 8 }
-        ensures { Closed any table.entry.now backs.entry.now depth live result }
-    { close(live, depth, any, table, backs) };
-    over(image, stretch, ends, from, last, reach)
+        ensures { Closed work.entry.now.any work.entry.now.table work.entry.now.backs work.entry.now.depth live result }
+    { close(live, work) };
+    over(image, stretch, ends, from, work.last, reach)
 }
 
-// The loop without back edges is chosen once, before the stretch. The table is copied: no store through `ends` can change the copy, so the compiler reads
-// it once.
-fn run_plain(
-    image: &[u64],
-    stretch: &[u8],
-    ends: &mut [u32],
-    from: From,
-    last: usize,
-    depth: usize,
-    any: bool,
-    table: &[u64; 81],
-) -> Ran
-    requires { Chosen image.now stretch.now from last depth any table.now [] }
-    ensures { RanFrom (one_masks image.now) depth last stretch.now from ends.old result ends.new }
+// The loop is chosen once, before the stretch: a rule without back edges pays nothing for them after this. The masks are copied: no store through `ends`
+// can change the copy, so the compiler reads it once.
+pub fn run_over(image: &[u64], stretch: &[u8], ends: &mut [u32], from: From, work: &Work) -> Ran
+    requires { Chosen image.now stretch.now from work.now.last work.now.depth work.now.any work.now.table work.now.backs }
+    ensures { RanFrom (one_masks image.now) work.now.depth work.now.last stretch.now from ends.old result ends.new }
 {
-    let t = *table;
-    match (depth, any) {
-        (0, true) => over_fixed::<0, true>(image, stretch, ends, from, last, &t),
-        (0, false) => over_fixed::<0, false>(image, stretch, ends, from, last, &t),
-        (1, true) => over_fixed::<1, true>(image, stretch, ends, from, last, &t),
-        (1, false) => over_fixed::<1, false>(image, stretch, ends, from, last, &t),
-        (2, _) => over_fixed::<2, true>(image, stretch, ends, from, last, &t),
-        _ => over_plain(image, stretch, ends, from, last, depth, any, &t),
+    let w = *work;
+    if any_back(work) {
+        return over_back(image, stretch, ends, from, &w);
     }
-}
-
-// With or without back edges: a rule without one pays nothing for them after this.
-pub fn run_over(
-    image: &[u64],
-    stretch: &[u8],
-    ends: &mut [u32],
-    from: From,
-    last: usize,
-    depth: usize,
-    any: bool,
-    table: &[u64; 81],
-    backs: &[u64; 16],
-) -> Ran
-    requires { Chosen image.now stretch.now from last depth any table.now backs.now }
-    ensures { RanFrom (one_masks image.now) depth last stretch.now from ends.old result ends.new }
-{
-    if any_back(backs, depth) {
-        let t = *table;
-        let b = *backs;
-        return over_back(image, stretch, ends, from, last, depth, any, &t, &b);
+    match (w.depth, w.any) {
+        (0, true) => over_fixed::<0, true>(image, stretch, ends, from, &w),
+        (0, false) => over_fixed::<0, false>(image, stretch, ends, from, &w),
+        (1, true) => over_fixed::<1, true>(image, stretch, ends, from, &w),
+        (1, false) => over_fixed::<1, false>(image, stretch, ends, from, &w),
+        (2, _) => over_fixed::<2, true>(image, stretch, ends, from, &w),
+        _ => over_plain(image, stretch, ends, from, &w),
     }
-    run_plain(image, stretch, ends, from, last, depth, any, table)
 }

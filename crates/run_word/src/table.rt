@@ -1,10 +1,12 @@
-// The table of work: the masks of scatter, gather and propagate for each depth, from the image's words; and beside it those of the back edges.
+// The masks of work, from the image's words: the table, with those of scatter, gather and propagate for each depth, and beside it those of the back edges.
 ghost use Rattle.std.specs.Prelude.{◌≡◌, ◌<◌, ◌≤◌, length};
 ghost use Rattle.model.specs.Models.Sections.{back_at, image_length};
 ghost use Rattle.model.specs.Models.Words.{Fit};
 ghost use Rattle.image_sections.specs.Sections.{Single};
+ghost use Rattle.run_word.specs.Stretch.{WorkOf};
 ghost use Rattle.run_word.specs.One.{Backs, Entered, entry_at, NoBack, NoChain};
 
+use crate::work::Work;
 use image_sections::Image;
 
 // Word j of the nine of depth k.
@@ -28,7 +30,7 @@ fn entry(image: &Image, k: usize, j: usize) -> u64
 }
 
 // The words of depths 0 to d, zeros after.
-pub fn table(image: &Image) -> [u64; 81]
+fn table(image: &Image) -> [u64; 81]
     requires { Single image.now.sections (length image.now.words.now) }
     ensures { Entered image.now.words.now image.now.sections.depth result }
 {
@@ -41,7 +43,7 @@ pub fn table(image: &Image) -> [u64; 81]
 }
 
 // Whether some depth has a chain.
-pub fn any_chain(table: &[u64; 81], depth: usize) -> bool
+fn any_chain(table: &[u64; 81], depth: usize) -> bool
     requires { depth ≤ 8 }
     ensures { NoChain table.now depth result }
 {
@@ -55,7 +57,7 @@ pub fn any_chain(table: &[u64; 81], depth: usize) -> bool
 
 // Source and target of the back edges of each depth below d, from the words at their section's place, zeros after. That the words are of 64 bits is
 // told here: a slice within a record does not show it.
-pub fn backs(words: &[u64], at: usize, depth: usize) -> [u64; 16]
+fn backs(words: &[u64], at: usize, depth: usize) -> [u64; 16]
     requires { (at ≡ back_at 1 depth) × (depth ≤ 8) × (length words.now ≡ image_length 1 depth) }
     ensures words { Fit words.now }
     ensures edges { Backs words.now depth result }
@@ -66,10 +68,25 @@ pub fn backs(words: &[u64], at: usize, depth: usize) -> [u64; 16]
     r
 }
 
-// Whether some depth has a back edge.
-pub fn any_back(backs: &[u64; 16], depth: usize) -> bool
-    requires { depth ≤ 8 }
-    ensures { NoBack backs.now depth result }
+// The masks of work of an image.
+pub fn work_of(image: &Image) -> Work
+    requires { Single image.now.sections (length image.now.words.now) }
+    ensures { WorkOf image.now.words.now image.now.sections result }
 {
-    backs[..2 * depth].iter().any(|word| *word != 0)
+    let depth = image.sections.depth;
+    let table = table(image);
+    Work {
+        depth,
+        last: image.sections.states - 1,
+        any: any_chain(&table, depth),
+        table,
+        backs: backs(image.words, image.sections.back, depth),
+    }
+}
+
+// Whether some depth has a back edge.
+pub fn any_back(work: &Work) -> bool
+    ensures { NoBack work.now.backs work.now.depth result }
+{
+    work.backs[..2 * work.depth].iter().any(|word| *word != 0)
 }

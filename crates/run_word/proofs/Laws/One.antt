@@ -11,9 +11,10 @@ use Rattle.image_sections.specs.declared.Sections.{Sections}
 use Rattle.image_sections.proofs.Laws.Within.{single}
 use Rattle.run_word.specs.Ends.{Limits, RanOver}
 use Rattle.run_word.specs.One.{Backs, chain, Entered, entry_at, NoChain, one_masks, word_at, work_masks}
-use Rattle.run_word.specs.Stretch.{Chosen, RanFrom}
+use Rattle.run_word.specs.Stretch.{Chosen, RanFrom, WorkOf}
 use Rattle.run_word.specs.declared.stretch.From.{From}
 use Rattle.run_word.specs.declared.stretch.Ran.{Ran}
+use Rattle.run_word.specs.declared.work.Work.{Work}
 use Rattle.run_word.proofs.Laws.Back.{BackCut, Zeros}
 use Rattle.run_word.proofs.Laws.Cut.{after_cut, close_cut, Cut, run_cut}
 use Rattle.run_word.proofs.Laws.Nine.{entered_at, nine_gather, nine_scatter}
@@ -149,17 +150,16 @@ no_back C z = record {
   edges = λ i h. sym (z i h) ∙ C.edges i h;
 }
 
--- words of one word to a mask, with the table that was made of them, have what the choice of a loop asks
-pub may_choose : {ws : List ℕ} {p : Sections} → Placed ws p → p.states ≤ 64 → {any : Bool} {table backs : List ℕ} → Entered ws p.depth table
-    → NoChain table p.depth any → Backs ws p.depth backs → (from : From) {stretch : List ℕ} → Limits from.place from.found stretch
-    → Chosen ws stretch from (p.states - 1) p.depth any table backs
-may_choose P h E N B from L =
+-- words of one word to a mask, with the masks of work that were made of them, have what the choice of a loop asks
+pub may_choose : {ws : List ℕ} {p : Sections} → Placed ws p → p.states ≤ 64 → {w : Work} → WorkOf ws p w → (from : From) {stretch : List ℕ}
+    → Limits from.place from.found stretch → Chosen ws stretch from w.last w.depth w.any w.table w.backs
+may_choose P h {w} W from L =
     let S = single P h in
     record {
-      overs = record { long = omega (arith, S.long); limits = L; few = omega (arith, h, P.some) };
-      shallow = S.deep;
-      deep = ap (λ (q : Sections). q.depth) P.own;
-      entered = E;
-      none = N;
-      edges = B;
+      overs = record { long = omega (arith, S.long); limits = L; few = omega (arith, h, P.some, W.last) };
+      shallow = w.deep;
+      deep = W.depth ∙ ap (λ (q : Sections). q.depth) P.own;
+      entered = W.entered;
+      none = w.none;
+      edges = W.edges;
     }

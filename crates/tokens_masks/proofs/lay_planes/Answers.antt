@@ -9,5 +9,5 @@ scan_tape-on_tape-requires c = blank_held (search rules) (c.fill.ensures.after (
 
 pub returns-then-is_none-clause-planes : goal.returns-then-is_none-clause-planes
 returns-then-is_none-clause-planes c =
-    planes_other _ c.scan_tape-on_tape.ensures.told c.if-is_none.ensures
-    (blank_held c.scan_tape-on_tape.ensures.masks.long (c.fill-then-is_none.ensures.after (λ y e. e)))
+    planes_other c.args.tape c.scan_tape-on_tape.ensures.told _ c.if-is_none.ensures
+    (blank_held (search rules) (c.fill-then-is_none.ensures.after (λ y e. e)))

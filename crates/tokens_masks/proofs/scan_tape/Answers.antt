@@ -17,12 +17,12 @@ returns-then-tape-gt511 c =
     let t = c.args.tape in
     let no = too_long t c.if-tape-gt511.true in record {
       told = sym (ap (λ (b : Bool). cond b (Some (reach (tokens_of t) begin)) None) no);
-      masks = record { long = c.requires.long; held = λ z w. absurd (subst T no z) };
+      masks = λ z w. absurd (subst T no z);
     }
 
 pub loop-kind-init : goal.loop-kind-init
 loop-kind-init c =
-    scanning_begin _ (search rules) c.if-tape-gt511.false c.requires refl (c.begin_scan-scan.ensures (replicate 9 c.no_frame-frames.result))
+    scanning_begin _ (search rules) c.if-tape-gt511.false (search rules) c.requires refl (c.begin_scan-scan.ensures (replicate 9 c.no_frame-frames.result))
 
 pub offset_bounds-frames-innermost : goal.offset_bounds-frames-innermost
 offset_bounds-frames-innermost c = omega (arith, scanning_depth c.loop-kind.invariant, c.innermost.ensures)

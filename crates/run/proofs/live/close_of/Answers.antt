@@ -17,6 +17,6 @@ returns c =
     let live = c.args.live.words in
     let P = c.args.image.now.placed in
     let eight : length live ≡ 8 = search rules in
-    close_eight ws (words_fit ws c.table-masks.ensures.words) (own_placed P) c.table-masks.result (tabled_of c.table-masks.result P c.table-masks.ensures.tabled) (own_depth P) live
+    close_eight ws (words_fit ws c.of-masks.ensures.words) (own_placed P) c.of-masks.result.table (tabled_of c.of-masks.result.table P c.of-masks.ensures.tabled) (c.of-masks.ensures.deep ∙ own_depth P) live
     c.close.result.words (omega (arith, eight)) c.close.ensures
     ∙ ap (λ (i : ℕ). take 8 (close_words (masks_of ws) i live)) (sym (own_depth P))

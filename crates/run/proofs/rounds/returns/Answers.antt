@@ -12,6 +12,6 @@ pub loop-k-preserved : goal.loop-k-preserved
 loop-k-preserved c =
     let l = c.loop-k in
     let a = c.args in
-    let M = pass_masks a.n a.table.now in
+    let M = pass_masks a.n a.work.now.table in
     let f = take a.n a.first.words in
     (omega arith, ap (returns_words M (l.k - 1) f) c.return_at-r.ensures ∙ returns_one M l.k c.loop-k-test.true f (take a.n l.r.words) ∙ l.invariant.1)

@@ -8,4 +8,4 @@ use Rattle.run.proofs.rounds.returns.Given as goal
 
 abbrev pub invariant-loop-k : goal.invariant-loop-k
 invariant-loop-k l =
-    (l.k ≤ l.depth) × (returns_words (pass_masks l.n l.table) l.k (take l.n l.first.words) (take l.n l.r.words) ≡ returns_words (pass_masks l.n l.table) l.depth (take l.n l.first.words) (take l.n l.first.words))
+    (l.k ≤ l.work.depth) × (returns_words (pass_masks l.n l.work.table) l.k (take l.n l.first.words) (take l.n l.r.words) ≡ returns_words (pass_masks l.n l.work.table) l.work.depth (take l.n l.first.words) (take l.n l.first.words))

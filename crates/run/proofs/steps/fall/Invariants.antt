@@ -8,4 +8,4 @@ use Rattle.run.proofs.steps.fall.Given as goal
 
 abbrev pub invariant-loop-k : goal.invariant-loop-k
 invariant-loop-k l =
-    (l.k ≤ l.depth) × (fall_words (pass_masks l.n l.table) (l.depth - l.k) l.k (take l.n l.r.words) ≡ fall_words (pass_masks l.n l.table) l.depth 0 (take l.n l.initial.r.words))
+    (l.k ≤ l.work.depth) × (fall_words (pass_masks l.n l.work.table) (l.work.depth - l.k) l.k (take l.n l.r.words) ≡ fall_words (pass_masks l.n l.work.table) l.work.depth 0 (take l.n l.initial.r.words))

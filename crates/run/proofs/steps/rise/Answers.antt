@@ -12,7 +12,7 @@ pub loop-k-preserved : goal.loop-k-preserved
 loop-k-preserved c =
     let l = c.loop-k in
     let a = c.args in
-    let M = pass_masks a.n a.table.now in (
+    let M = pass_masks a.n a.work.now.table in (
       omega arith,
       ap (rise_words M (l.k - 1)) (c.gather_at-r.ensures ∙ ap (gather_by M (l.k - 1)) c.propagate_at-along.ensures) ∙ rise_one M l.k c.loop-k-test.true (take a.n l.r.words) ∙ l.invariant.1,
     )

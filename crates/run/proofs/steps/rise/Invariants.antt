@@ -8,4 +8,4 @@ use Rattle.run.proofs.steps.rise.Given as goal
 
 abbrev pub invariant-loop-k : goal.invariant-loop-k
 invariant-loop-k l =
-    (l.k ≤ l.depth) × (rise_words (pass_masks l.n l.table) l.k (take l.n l.r.words) ≡ rise_words (pass_masks l.n l.table) l.depth (take l.n l.initial.r.words))
+    (l.k ≤ l.work.depth) × (rise_words (pass_masks l.n l.work.table) l.k (take l.n l.r.words) ≡ rise_words (pass_masks l.n l.work.table) l.work.depth (take l.n l.initial.r.words))

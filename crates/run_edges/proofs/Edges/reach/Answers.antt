@@ -23,7 +23,7 @@ returns c =
     let hr : length r ≡ 8 = search (rules, c.close.type_inv.1.1.0.1.0.1) in
     let e : r ≡ reach_words ws a.q =
     reach_whole ws a.q r o.result.words ho hr (o.ensures ∙ ap (λ w. put_bit w a.q) c.none.ensures)
-    (close_eight ws (words_fit ws a.self.now.words) (own_placed P) a.self.now.masks a.self.now.work (own_depth P) o.result.words r (omega (arith, ho)) c.close.ensures) in record {
+    (close_eight ws (words_fit ws a.self.now.words) (own_placed P) a.self.now.masks.table a.self.now.work (a.self.now.deep ∙ own_depth P) o.result.words r (omega (arith, ho)) c.close.ensures) in record {
       computed = e;
       reached = reach_says ws a.q r e;
     }

@@ -9,16 +9,18 @@ returns-then-more-first c = λ ws.
     let m = c.returns-more in
     let f = c.pass-first in
     let a = c.args in
-    let t = a.table.now in
-    closed_once (work_masks ws a.any t a.backs.now) a.depth (a.live ∷ []) f.result m.result (f.ensures ws a.backs.now)
-    (m.ensures ws a.any (get_or t 6 0) (get_or t 7 0) (get_or t 8 0) t) c.if-more-first.true
+    let w = a.work.now in
+    let t = w.table in
+    closed_once (work_masks ws w.any t w.backs) w.depth (a.live ∷ []) f.result m.result (f.ensures ws w.backs)
+    (m.ensures ws w.any (get_or t 6 0) (get_or t 7 0) (get_or t 8 0) t) c.if-more-first.true
 
 pub returns : goal.returns
 returns c = λ ws.
     let m = c.returns-more in
     let f = c.pass-first in
     let a = c.args in
-    let t = a.table.now in
-    c.pass.ensures ws a.backs.now
-    ∙ closed_twice (work_masks ws a.any t a.backs.now) a.depth (a.live ∷ []) f.result m.result (f.ensures ws a.backs.now)
-    (m.ensures ws a.any (get_or t 6 0) (get_or t 7 0) (get_or t 8 0) t) c.if-more-first.false
+    let w = a.work.now in
+    let t = w.table in
+    c.pass.ensures ws w.backs
+    ∙ closed_twice (work_masks ws w.any t w.backs) w.depth (a.live ∷ []) f.result m.result (f.ensures ws w.backs)
+    (m.ensures ws w.any (get_or t 6 0) (get_or t 7 0) (get_or t 8 0) t) c.if-more-first.false

@@ -5,5 +5,6 @@ use Rattle.run_word.proofs.stretch.over_back.Goals as goal
 pub returns : goal.returns
 returns c =
     let a = c.args in
-    let t = a.table.now in
-    c.over.ensures a.any (get_or t 6 0) (get_or t 7 0) (get_or t 8 0) t a.backs.now a.depth (λ x y h p. p a.image.now)
+    let w = a.work.now in
+    let t = w.table in
+    c.over.ensures w.any (get_or t 6 0) (get_or t 7 0) (get_or t 8 0) t w.backs w.depth (λ x y h p. p a.image.now)

@@ -7,6 +7,6 @@ pub returns : goal.returns
 returns g c =
     let a = c.args in
     let ws = a.image.now in
-    let t = a.table.now in
+    let t = a.work.now.table in
     c.over.ensures _ (get_or t 6 0) (get_or t 7 0) (get_or t 8 0) t [] g.row.DEPTH
     (λ x y h p. p ws [] ∙ no_edges ws _ (get_or t 6 0) (get_or t 7 0) (get_or t 8 0) t g.row.DEPTH x)

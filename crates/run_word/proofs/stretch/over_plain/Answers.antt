@@ -7,6 +7,7 @@ pub returns : goal.returns
 returns c =
     let a = c.args in
     let ws = a.image.now in
-    let t = a.table.now in
-    c.over.ensures a.any (get_or t 6 0) (get_or t 7 0) (get_or t 8 0) t [] a.depth
-    (λ x y h p. p ws [] ∙ no_edges ws a.any (get_or t 6 0) (get_or t 7 0) (get_or t 8 0) t a.depth x)
+    let w = a.work.now in
+    let t = w.table in
+    c.over.ensures w.any (get_or t 6 0) (get_or t 7 0) (get_or t 8 0) t [] w.depth
+    (λ x y h p. p ws [] ∙ no_edges ws w.any (get_or t 6 0) (get_or t 7 0) (get_or t 8 0) t w.depth x)

@@ -1,0 +1,10 @@
+-- `of`: the series put so far are there, and each turn puts one more (`series_entered`); then the back edges' masks (`tabled`).
+use mathlib.Core.Path.{◌≡◌}
+use mathlib.Core.List.{[]}
+use Prim.Native.Nat.{ℕ, ◌+◌, ◌*◌, ◌<◌}
+use lib.ListN.{get_or, length}
+use Rattle.run.specs.Work.{AreWords, series_row}
+use Rattle.run.proofs.table.Work.of.Given as goal
+
+abbrev pub invariant-loop-j : goal.invariant-loop-j
+invariant-loop-j l = (l.r.1.0 ≡ l.image.sections.depth) × (length l.r.0 ≡ 97) × (0 < l.j → AreWords l.image.words.now) × ((k i : ℕ) → k < 9 → i < l.j → get_or l.r.0 (9 * k + i) [] ≡ series_row l.image.words.now l.image.sections.width l.image.sections.depth i k)

@@ -15,6 +15,8 @@ use tokens_masks::plane::{BACK_SOURCE, GATHER_BLOCK, LOOP_PLACE, PROPAGATE_BLOCK
 use tokens_masks::{Tape, row_of};
 
 // "A mask is .. in the image its first W words"
+// The words, the place and the width are three parameters, here and below: a struct that has the words lent would have to say of each call that the place and
+// the width stay as they were.
 fn put_row(words: &mut [u64], at: usize, width: usize, row: [u64; 8])
     requires { (width ≤ 8) × (at + width ≤ length_of words.old) }
     ensures { words.new ≡ sets words.old at (take width row) }

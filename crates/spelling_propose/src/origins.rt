@@ -20,7 +20,7 @@ pub struct Origins<'a> {
 
 // State q into the rows of all that it reaches.
 fn note(rows: &mut Rows, q: usize, reached: [u64; 8], count: usize)
-    requires { (q < 512) × (count ≤ 512) × (length rows.old ≡ 512) }
+    requires { (q < 512) × (count ≤ 512) }
     ensures { NoteSays rows.old q reached count rows.new }
 {
     for p in 0..count {

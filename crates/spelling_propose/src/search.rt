@@ -11,7 +11,7 @@ pub type Kept = [[u64; 8]; 256];
 
 // Goes back from the end until state 0 leads there, or no state does, and keeps the set of each 256th place.
 pub fn find_start(origins: &Origins, text: &[u8], end: usize, kept: &mut Kept) -> Option<usize>
-    requires { Asked text.now end × (length kept.old ≡ 256) }
+    requires { Asked text.now end }
     ensures { StartSays origins.now.edges.now.image.words.now text.now end kept.new result }
 {
     let none = [0u64; 8];

@@ -12,7 +12,7 @@ use run_edges::Edges;
 
 // The sets of the places after lo up to hi, from that of hi.
 fn fill(origins: &Origins, text: &[u8], lo: usize, hi: usize, set: [u64; 8], sets: &mut Kept)
-    requires { Stretch text.now lo hi × (length sets.old ≡ 256) }
+    requires { Stretch text.now lo hi }
     ensures { FillSays origins.now.edges.now.image.words.now text.now lo hi set sets.new }
 {
     let mut here = set;

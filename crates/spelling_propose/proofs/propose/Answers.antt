@@ -1,11 +1,10 @@
 -- `propose`: what the search and the writing say is a row of the table.
-use mathlib.Core.Path.{refl}
 use Rattle.std.proofs.lemmas.Result.{err_from_is_err_and}
 use Rattle.spelling_propose.proofs.Laws.Propose.{asked, nowhere, ordered, passed_on, too_short, written}
 use Rattle.spelling_propose.proofs.propose.Goals as goal
 
 pub find_start-found-requires : goal.find_start-found-requires
-find_start-found-requires c = (asked c.requires, refl)
+find_start-found-requires c = asked c.requires
 
 pub returns-in_err-start : goal.returns-in_err-start
 returns-in_err-start c =

@@ -6,7 +6,12 @@ use Rattle.model.specs.Models.Reader.{read_hex, read_hexes}
 use Rattle.rule_letters.specs.Answers.{ByteSays}
 use Rattle.rule_letters.proofs.Laws.Escapes.{hexes_go}
 use Rattle.rule_bytes.proofs.Laws.Places.{goes, passes}
+use native.Mathlib.Omega.{arith}
+use Rattle.std.proofs.lemmas.Grind.{common_steps}
 use Rattle.rule_letters.proofs.escapes.read_hexes.Goals as goal
+
+pub returns-then-h-lo : goal.returns-then-h-lo
+returns-then-h-lo c = grind (arith, common_steps)
 
 pub returns : goal.returns
 returns c =

@@ -6,3 +6,5 @@ pub mod Places
 pub mod Binds
 pub mod Progress
 pub mod Answers
+pub mod Rest
+pub mod Firsts

@@ -1,6 +1,7 @@
 -- WHAT IT IS TO READ FROM A PLACE ON: the model (`Read`) got a value, and from a place on nothing is read yet; or it stops at the place of the first
 -- byte that cannot be read. No place lies past the rule's end.
 use Rattle.std.specs.Prelude.{◌≡◌, Bool, Err, List, ℕ, ◌≤◌, Ok, Result, drop, length}
+use Rattle.std.specs.Borrow.{Bor}
 use Rattle.model.specs.Models.Places.{StopsAt, TakesAt}
 use Rattle.model.specs.Models.Reader.{bad, got, Read}
 use Rattle.rule_bytes.specs.declared.Unreadable.{Unreadable}
@@ -15,6 +16,13 @@ module _ {A : Type 0} (rule : List ℕ) (m : Read A) where
   pub record Stopped (p : ℕ) : Type 0 where
     pub reads : m ≡ bad (drop p rule)
     pub inside : p ≤ length rule
+
+-- ---- a reader's answer
+-- a value, which `of` turns into the model's, and the bytes after it; or the bytes from the one on that cannot be read
+module _ {A B : Type 0} (of : B → A) where
+  abbrev pub read_of : Result (B × Bor (List ℕ)) (Bor (List ℕ)) → Read A
+  read_of (Ok r) = got (of r.0) r.1.now
+  read_of (Err rest) = bad rest.now
 
 -- ---- a reader's answer
 -- a value, which `of` turns into the model's, and the place after it; or the place of the first byte that cannot be read

@@ -3,7 +3,7 @@
 
 #![tactic(auto)]
 
-ghost use Rattle.std.specs.Prelude.{◌≡◌, ◌∷◌, get_or};
+ghost use Rattle.std.specs.Prelude.{◌≡◌, ◌∷◌, drop, get_or};
 ghost use Rattle.model.specs.Bytes.{byte, digital, hexadecimal, kind, plain, signs};
 ghost use Rattle.model.specs.Grammar.{bare};
 ghost use Rattle.model.specs.Lists.{within};
@@ -130,6 +130,13 @@ pub fn byte_at(rule: &[u8], at: usize) -> u8
     ensures { result ≡ get_or rule.now at 0 }
 {
     rule.get(at).copied().unwrap_or(0)
+}
+
+// The rule from a place on; past its end nothing.
+pub fn rest(rule: &[u8], at: usize) -> &[u8]
+    ensures { result.now ≡ drop at rule.now }
+{
+    rule.get(at..).unwrap_or(&[])
 }
 
 // The place of the first byte of a rule that cannot be read.

@@ -1,12 +1,12 @@
 // Letters: plain bytes, escapes, `.` and classes.
 ghost use Rattle.std.specs.Prelude.{◌≡◌};
-ghost use Rattle.model.specs.Models.Reader.{read_letter, read_member};
+ghost use Rattle.model.specs.Models.Reader.{read_member};
 ghost use Rattle.rule_letters.specs.Answers.{ClassTells, LetterTells, letter_read, SingleTells};
 ghost use Rattle.rule_letters.specs.Classes.{after_escape, after_lower};
 
 use crate::Class;
 use crate::escapes::read_escape;
-use rule_bytes::{Unreadable, is_bare, is_plain, rest};
+use rule_bytes::{is_bare, is_plain};
 
 // A single of a class, at least lo: an escape, or a plain byte other than `-`.
 fn read_single(text: &[u8], lo: u8) -> Result<(u8, &[u8]), &[u8]>
@@ -63,25 +63,15 @@ fn read_escaped(text: &[u8]) -> Result<(Class, &[u8]), &[u8]>
     Ok((Class::one(b), rest))
 }
 
-// The letter that a text begins with.
-fn read_first(text: &[u8]) -> Result<(Class, &[u8]), &[u8]>
-    ensures { letter_read result ≡ read_letter text.now }
+// A letter; at the rule's end there is none.
+pub fn read_letter(text: &[u8]) -> Result<(Class, &[u8]), &[u8]>
+    ensures { LetterTells text.now result }
 {
     match text {
+        [x, rest @ ..] if is_plain(*x) => Ok((Class::one(*x), rest)),
         [b'.', rest @ ..] => Ok((Class::dot(), rest)),
         [b'[', rest @ ..] => read_members(rest),
         [b'\\', rest @ ..] => read_escaped(rest),
-        [x, rest @ ..] if is_plain(*x) => Ok((Class::one(*x), rest)),
         _ => Err(text),
-    }
-}
-
-// A letter; at the rule's end there is none, and past it neither.
-pub fn read_letter(rule: &[u8], at: usize) -> Result<(Class, usize), Unreadable>
-    ensures { LetterTells rule.now at result }
-{
-    match read_first(rest(rule, at)) {
-        Ok((class, rest)) => Ok((class, rule.len() - rest.len())),
-        Err(rest) => Err(Unreadable(rule.len() - rest.len())),
     }
 }

@@ -6,11 +6,11 @@
 
 ghost use Rattle.std.specs.Prelude.{true, ◌≡◌, ◌-◌, ◌≤◌};
 ghost use Rattle.model.specs.Bytes.{byte, digital};
-ghost use Rattle.model.specs.Models.Reader.{close as closeOf, read_bounds, read_braces, read_digits, read_sign};
+ghost use Rattle.model.specs.Models.Reader.{close as closeOf, read_bounds, read_braces, read_digits};
 ghost use Rattle.rule_signs.specs.Answers.{bounds_of, bounds_read, number_read, NumberTells, sign_read, SignTells};
 ghost use Rattle.rule_signs.specs.Repeats.{after_first, last_bound};
 
-use rule_bytes::{Unreadable, is_digit, rest};
+use rule_bytes::is_digit;
 use tokens::token::Repeat;
 
 // The two numbers in braces.
@@ -133,9 +133,9 @@ fn read_braces(text: &[u8]) -> Result<(HowOften, &[u8]), &[u8]>
     close(rest, bounds)
 }
 
-// The repeat sign that a text begins with, if it does.
-fn read_first(text: &[u8]) -> Result<(HowOften, &[u8]), &[u8]>
-    ensures { sign_read result ≡ read_sign text.now }
+// At most one repeat sign; at the rule's end there is none.
+pub fn read_sign(text: &[u8]) -> Result<(HowOften, &[u8]), &[u8]>
+    ensures { SignTells text.now result }
 {
     match text {
         [b'?', rest @ ..] => Ok((HowOften::Plainly(Repeat::Option), rest)),
@@ -143,15 +143,5 @@ fn read_first(text: &[u8]) -> Result<(HowOften, &[u8]), &[u8]>
         [b'+', rest @ ..] => Ok((HowOften::Plainly(Repeat::Plus), rest)),
         [b'{', rest @ ..] => read_braces(rest),
         _ => Ok((HowOften::Plainly(Repeat::Once), text)),
-    }
-}
-
-// At most one repeat sign; at the rule's end there is none, and past it neither.
-pub fn read_sign(rule: &[u8], at: usize) -> Result<(HowOften, usize), Unreadable>
-    ensures { SignTells rule.now at result }
-{
-    match read_first(rest(rule, at)) {
-        Ok((how_often, rest)) => Ok((how_often, rule.len() - rest.len())),
-        Err(rest) => Err(Unreadable(rule.len() - rest.len())),
     }
 }

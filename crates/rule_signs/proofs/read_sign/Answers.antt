@@ -1,16 +1,20 @@
--- `read_sign`: what is left of the rule after the sign tells the place.
-use mathlib.Core.Path.{refl}
-use Rattle.rule_signs.proofs.Laws.Placed.{no_sign, sign_inside, sign_taken}
+-- `read_sign`: the next byte is one of the four signs, or there is none.
+use native.Mathlib.Omega.{arith}
+use Rattle.std.proofs.lemmas.Grind.{common_steps}
+use Rattle.rule_signs.proofs.Laws.Placed.{sign_tells}
 use Rattle.rule_signs.proofs.read_sign.Goals as goal
 
-pub overflow_sub-result : goal.overflow_sub-result
-overflow_sub-result c = sign_inside c.args.rule.now c.args.at _ c.rest.ensures c.in-Ok.ensures refl
+pub returns-in-63 : goal.returns-in-63
+returns-in-63 c = sign_tells _ _ (grind (arith, common_steps))
 
-pub overflow_sub-result-in-Err : goal.overflow_sub-result-in-Err
-overflow_sub-result-in-Err c = sign_inside c.args.rule.now c.args.at _ c.rest.ensures c.in-Err.ensures refl
+pub returns-in-42 : goal.returns-in-42
+returns-in-42 c = sign_tells _ _ (grind (arith, common_steps))
 
-pub returns-in-Ok : goal.returns-in-Ok
-returns-in-Ok c = sign_taken c.args.rule.now c.args.at _ c.rest.ensures c.in-Ok.ensures
+pub returns-in-43 : goal.returns-in-43
+returns-in-43 c = sign_tells _ _ (grind (arith, common_steps))
 
-pub returns-in-Err : goal.returns-in-Err
-returns-in-Err c = no_sign c.args.rule.now c.args.at _ c.rest.ensures c.in-Err.ensures
+pub returns-in-123 : goal.returns-in-123
+returns-in-123 c = sign_tells _ _ (grind (arith, common_steps))
+
+pub returns-in_default : goal.returns-in_default
+returns-in_default c = sign_tells _ _ (grind (arith, common_steps))

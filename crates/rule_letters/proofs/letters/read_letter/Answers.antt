@@ -1,16 +1,20 @@
--- `read_letter`: what is left of the rule after the letter tells the place.
-use mathlib.Core.Path.{refl}
-use Rattle.rule_letters.proofs.Laws.Placed.{letter_inside, letter_taken, no_letter}
+-- `read_letter`: the first byte decides which of the four letters it is; at the rule's end there is no byte.
+use native.Mathlib.Omega.{arith}
+use Rattle.std.proofs.lemmas.Grind.{common_steps}
+use Rattle.rule_letters.proofs.Laws.Placed.{letter_tells}
 use Rattle.rule_letters.proofs.letters.read_letter.Goals as goal
 
-pub overflow_sub-result : goal.overflow_sub-result
-overflow_sub-result c = letter_inside c.args.rule.now c.args.at _ c.rest.ensures c.in-Ok.ensures refl
+pub returns-in-46 : goal.returns-in-46
+returns-in-46 c = letter_tells _ _ (grind (arith, common_steps))
 
-pub overflow_sub-result-in-Err : goal.overflow_sub-result-in-Err
-overflow_sub-result-in-Err c = letter_inside c.args.rule.now c.args.at _ c.rest.ensures c.in-Err.ensures refl
+pub returns-in-91 : goal.returns-in-91
+returns-in-91 c = letter_tells _ _ (grind (arith, common_steps))
 
-pub returns-in-Ok : goal.returns-in-Ok
-returns-in-Ok c = letter_taken c.args.rule.now c.args.at _ c.rest.ensures c.in-Ok.ensures
+pub returns-in-92 : goal.returns-in-92
+returns-in-92 c = letter_tells _ _ (grind (arith, common_steps))
 
-pub returns-in-Err : goal.returns-in-Err
-returns-in-Err c = no_letter c.args.rule.now c.args.at _ c.rest.ensures c.in-Err.ensures
+pub returns-in-len1-up : goal.returns-in-len1-up
+returns-in-len1-up c = letter_tells _ _ (grind (arith, common_steps))
+
+pub returns-in_default : goal.returns-in_default
+returns-in_default c = letter_tells _ _ (grind (arith, common_steps))

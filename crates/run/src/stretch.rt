@@ -70,7 +70,13 @@ fn run_by<const BACK: bool>(
 }
 
 // Whether there are back edges is asked once: asked at each byte, a rule without them would pay for them.
-pub fn run_over(image: &Image, stretch: &[u8], places: &mut [u32], from: From, work: &Work) -> Ran
+pub(crate) fn run_over(
+    image: &Image,
+    stretch: &[u8],
+    places: &mut [u32],
+    from: From,
+    work: &Work,
+) -> Ran
     requires { Overs image.now.sections stretch.now from.place from.found work.now.depth work.now.table }
     ensures { RanOver (rule_masks image.now.words.now image.now.sections.width work.now.table) image.now.sections.width work.now.depth
         (image.now.sections.states - 1) from.place from.found stretch.now (take image.now.sections.width from.live)

@@ -52,6 +52,7 @@ pub struct Edges<'a> {
 }
 
 impl<'a> Edges<'a> {
+    // Of an image, the masks made once.
     pub fn of(image: Image<'a>) -> Edges<'a>
         ensures { result.image ≡ image.entry }
     {

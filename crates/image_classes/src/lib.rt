@@ -4,13 +4,10 @@
 
 #![tactic(auto)]
 
-mod column;
-
-ghost use Rattle.std.specs.Prelude.{◌<◌, ◌≤◌, length};
+ghost use Rattle.std.specs.Prelude.{◌≡◌, ◌-◌, ◌/◌, ◌%◌, ◌<◌, ◌≤◌, length};
 ghost use Rattle.model.specs.Models.Sections.{letter_place};
-ghost use Rattle.image_classes.specs.Classes.{ColumnOf, Table, With};
+ghost use Rattle.image_classes.specs.Classes.{ColumnOf, four_of, Table, With};
 
-pub use column::Column;
 use image_sections::{Image, letters_at};
 
 // A byte put into the classes of those states that its word has.
@@ -41,9 +38,29 @@ fn put_bytes(words: &[u64], width: usize, column: usize, classes: &mut [u64; 256
 }
 
 // The same of an image.
-fn put_column(image: &Image, column: usize, classes: &mut [u64; 256])
+pub fn put_column(image: &Image, column: usize, classes: &mut [u64; 256])
     requires { column < image.now.sections.width }
     ensures { ColumnOf image.now.words.now image.now.sections.width column classes.new }
 {
     put_bytes(image.words, image.sections.width, column, classes);
+}
+
+// The column of a state, where that of the state before it is at hand.
+pub fn move_on(image: &Image, state: usize, classes: &mut [u64; 256])
+    requires { (state < image.now.sections.states) × ColumnOf image.now.words.now image.now.sections.width ((state - 1) / 64) classes.old }
+    ensures { ColumnOf image.now.words.now image.now.sections.width (state / 64) classes.new }
+{
+    if state % 64 == 0 {
+        put_column(image, state / 64, classes);
+    }
+}
+
+// The class of a state of the column.
+pub fn class_of(classes: &[u64; 256], state: usize) -> [u64; 4]
+    ensures { result ≡ four_of classes.now (state % 64) }
+{
+    let first = 4 * (state % 64);
+    let mut class = [0u64; 4];
+    class.copy_from_slice(&classes[first..first + 4]);
+    class
 }

@@ -25,7 +25,8 @@ fn put_word(classes: &mut [u64; 256], byte: usize, word: u64)
     }
 }
 
-// The classes of a column's states, four words for each, from the words of an image: byte b is bit b mod 64 of word b / 64.
+// The classes of a column's states, four words for each: byte b is bit b mod 64 of word b / 64. Lent as a slice and not in an image, where it would not show
+// that they are of 64 bits.
 fn put_bytes(words: &[u64], width: usize, column: usize, classes: &mut [u64; 256])
     requires { (width ≤ 8) × (column < width) × (letter_place width 256 ≤ length words.now) }
     ensures { ColumnOf words.now width column classes.new }
@@ -45,7 +46,8 @@ pub fn put_column(image: &Image, column: usize, classes: &mut [u64; 256])
     put_bytes(image.words, image.sections.width, column, classes);
 }
 
-// The column of a state, where that of the state before it is at hand.
+// The column of a state, where that of the state before it is at hand. The table is lent beside the image, not kept in one record with it: as the result of
+// a function it would stand on the stack twice, and a read back go down 15,400 bytes for 12,800, where its callers provide 16 KiB (include/lavumbishe.h).
 pub fn move_on(image: &Image, state: usize, classes: &mut [u64; 256])
     requires { (state < image.now.sections.states) × ColumnOf image.now.words.now image.now.sections.width ((state - 1) / 64) classes.old }
     ensures { ColumnOf image.now.words.now image.now.sections.width (state / 64) classes.new }

@@ -21,13 +21,13 @@ pub fn store(tokens: [u64; 2555], length: usize, words: &mut [u64]) -> Result<us
     requires { OfRule tokens length }
     ensures { StoreSays tokens length words.old (answered result words.new) }
 {
-    let tape = tape_of(tokens, length);
+    let tape = tape_of(&tokens, length);
     let mut masks = [0u64; 936];
     let depth = lay_out(tape, &mut masks).ok_or(Refusal::TooDeep)?;
     let sections = sections_of(length + 1, depth);
     if words.len() < sections.length {
         return Err(Refusal::NoRoomForImage);
     }
-    put_image(words, tokens, tape, sections, &masks);
+    put_image(words, &tokens, tape, sections, &masks);
     Ok(sections.length)
 }

@@ -15,6 +15,8 @@ use tokens_masks::plane::{BACK_SOURCE, GATHER_BLOCK, LOOP_PLACE, PROPAGATE_BLOCK
 use tokens_masks::{Tape, row_of};
 
 // "A mask is .. in the image its first W words"
+// The words, the place and the width are three parameters, here and below: a struct that has the words lent would have to say of each call that the place and
+// the width stay as they were.
 fn put_row(words: &mut [u64], at: usize, width: usize, row: [u64; 8])
     requires { (width ≤ 8) × (at + width ≤ length_of words.old) }
     ensures { words.new ≡ sets words.old at (take width row) }
@@ -29,9 +31,9 @@ fn put_depth<const N: usize>(
     width: usize,
     depth: usize,
     first: usize,
-    masks: &[u64],
+    masks: &[u64; 936],
 )
-    requires { (width ≤ 8) × (depth < 9) × (at + N * width ≤ length_of words.old) × (first + N ≤ planes) × (length_of masks.now ≡ 936) }
+    requires { (width ≤ 8) × (depth < 9) × (at + N * width ≤ length_of words.old) × (first + N ≤ planes) }
     ensures { words.new ≡ sets words.old at (depth_masks width first N masks.now depth) }
 {
     for j in 0..N {
@@ -58,9 +60,9 @@ fn put_tables<const N: usize>(
     width: usize,
     depths: usize,
     first: usize,
-    masks: &[u64],
+    masks: &[u64; 936],
 )
-    requires { (width ≤ 8) × (depths ≤ 9) × (1 ≤ at) × (at + N * width * depths ≤ length_of words.old) × (first + N ≤ planes) × (length_of masks.now ≡ 936) }
+    requires { (width ≤ 8) × (depths ≤ 9) × (1 ≤ at) × (at + N * width * depths ≤ length_of words.old) × (first + N ≤ planes) }
     ensures { words.new ≡ sets words.old (at - 1) (section (join depths 0 (depth_masks width first N masks.now))) }
 {
     words[at - 1] = (N * width * depths) as u64;
@@ -72,21 +74,21 @@ fn put_tables<const N: usize>(
 // The whole image, from what lay out gives for the tape.
 pub fn put_image(
     words: &mut [u64],
-    tokens: [u64; 2555],
+    tokens: &[u64; 2555],
     tape: Tape,
     sections: Sections,
     masks: &[u64; 936],
 )
     requires limits { Within sections sections.length × (sections.letters ≡ letters_at) × (sections.length ≤ length_of words.old) × (tape.length < sections.states) }
     requires laid { Laid tape masks.now }
-    ensures { words.new ≡ sets words.old 0 (image_words sections tokens tape) }
+    ensures { words.new ≡ sets words.old 0 (image_words sections tokens.now tape) }
 {
     let letters = sections.letters;
     let width = sections.width;
     let depth = sections.depth;
     let loops = row_of(masks, 0, LOOP_PLACE);
     put_shape(words, sections);
-    put_letters(words, letters, width, &tokens, tape.length);
+    put_letters(words, letters, width, tokens, tape.length);
     put_repeats(words, letters, sections.repeats, width, loops);
     put_tables::<3>(words, sections.scatter, width, depth, SCATTER_BLOCK, masks);
     put_tables::<3>(words, sections.gather, width, depth, GATHER_BLOCK, masks);

@@ -6,9 +6,9 @@ use tokens::kind::kind_in;
 use tokens_masks::Tape;
 
 // The tokens without their classes.
-pub fn tape_of(tokens: [u64; 2555], length: usize) -> Tape
+pub fn tape_of(tokens: &[u64; 2555], length: usize) -> Tape
     ensures long { result.length ≡ length }
-    ensures kinds { KindsAre tokens result.kinds }
+    ensures kinds { KindsAre tokens.now result.kinds }
 {
     let mut kinds = [0u8; 512];
     for i in 0..511 {

@@ -23,5 +23,6 @@ pub record ShownTape (ws : List ℕ) (t : Tape) : Type 0 where
   pub tokens_are : tokens_of t ≡ bares (tape ws)
 
 pub data ApartSays (ws : List ℕ) (r : Option Apart) : Type 0 where
-  taken : Headed ws → (a : Apart) → r ≡ Some a → a.sections ≡ sections_in ws → LettersOf ws a.letters → ShownTape ws a.tape → ApartSays ws r
+  taken : Headed ws → (a : Apart) → r ≡ Some a → a.image.words.now ≡ ws → a.image.sections ≡ sections_in ws
+      → LettersOf ws a.letters → ShownTape ws a.tape → ApartSays ws r
   no_header : (Headed ws → ⊥) → r ≡ None → ApartSays ws r

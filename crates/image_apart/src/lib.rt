@@ -8,13 +8,13 @@ mod marks;
 ghost use Rattle.image_apart.specs.Says.{ApartSays};
 
 use crate::marks::{marks_of, shown_tape};
-use image_sections::{Sections, read_header};
+use image_sections::{Image, read_header};
 use tokens_masks::Tape;
 
-// The places of the sections; the states that some letter's mask has; and the tape.
+// The words with the places of their sections; the states that some letter's mask has; and the tape.
 #[derive(Clone, Copy)]
-pub struct Apart {
-    pub sections: Sections,
+pub struct Apart<'a> {
+    pub image: Image<'a>,
     pub letters: [u64; 8],
     pub tape: Tape,
 }
@@ -24,11 +24,12 @@ pub fn take_apart(words: &[u64]) -> Option<Apart>
     ensures { ApartSays words.now result }
 {
     let sections = read_header(words)?;
-    let marks = marks_of(words, sections);
+    let image = Image { words, sections };
+    let marks = marks_of(&image);
     let tape = shown_tape(marks, sections.states - 1);
     let letters = marks.letters;
     Some(Apart {
-        sections,
+        image,
         letters,
         tape,
     })

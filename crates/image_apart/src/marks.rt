@@ -1,11 +1,10 @@
 // What the masks show: the states that some of them have, and by these the tape. Anything odd is a bar: the comparison with what is laid out will tell.
-ghost use Rattle.std.specs.Prelude.{◌≡◌, ◌+◌, ◌*◌, ◌≤◌, ◌<◌, length as length_of};
+ghost use Rattle.std.specs.Prelude.{◌≡◌, suc, ◌+◌, ◌*◌, ◌≤◌, ◌<◌, length as length_of};
 ghost use Rattle.model.specs.Models.Apart.{mark_of, repeat_of};
-ghost use Rattle.image_sections.specs.Sections.{Within};
 ghost use Rattle.tokens.specs.Kinds.{mark_kind, repeat_kind};
 ghost use Rattle.image_apart.specs.Work.{ShownBy, entered_row, entered_words, kind_at, marks_of, or_first, some_row, some_word};
 
-use image_sections::Sections;
+use image_sections::Image;
 use mask::bits::row_has_bit;
 use tokens::kind::{
     BAR, CLOSE_OPTIONAL, CLOSE_STARRED, CLOSE_UNMARKED, ONCE, OPEN, OPTION, PLUS, STAR,
@@ -37,52 +36,55 @@ fn some_word(words: &[u64], at: usize, stride: usize, count: usize) -> u64
 }
 
 // The states of `count` masks, each `stride` words after the one before.
-fn some_row(words: &[u64], at: usize, stride: usize, width: usize, count: usize) -> [u64; 8]
-    requires { (width ≤ 8) × (stride ≤ 24) × (count ≤ 256) × (at + stride * count ≤ length_of words.now) × (width ≤ stride) }
-    ensures { result ≡ some_row words.now at stride width count }
+fn some_row(image: &Image, at: usize, stride: usize, count: usize) -> [u64; 8]
+    requires { (image.now.sections.width ≤ stride) × (stride ≤ 24) × (count ≤ 256) × (at + stride * count ≤ length_of image.now.words.now) }
+    ensures { result ≡ some_row image.now.words.now at stride image.now.sections.width count }
 {
     let mut row = [0u64; 8];
-    for j in 0..width {
-        row[j] = some_word(words, at + j, stride, count);
+    for j in 0..image.sections.width {
+        row[j] = some_word(image.words, at + j, stride, count);
     }
     row
 }
 
 // The states of the block at a place that are not in the source after it, those that an edge enters, put into a row.
-fn or_entered(row: &mut [u64; 8], words: &[u64], at: usize, width: usize)
-    requires { (width ≤ 8) × (at + 2 * width ≤ length_of words.now) }
-    ensures { row.new ≡ or_first row.old (entered_words words.now at width) }
+fn or_entered(row: &mut [u64; 8], image: &Image, at: usize)
+    requires { at + 2 * image.now.sections.width ≤ length_of image.now.words.now }
+    ensures { row.new ≡ or_first row.old (entered_words image.now.words.now at image.now.sections.width) }
 {
+    let words = image.words;
+    let width = image.sections.width;
     for j in 0..width {
         row[j] |= words[at + j] & !words[at + width + j];
     }
 }
 
-fn entered_row(words: &[u64], at: usize, width: usize, count: usize) -> [u64; 8]
-    requires { (width ≤ 8) × (count ≤ 9) × (at + 3 * width * count ≤ length_of words.now) }
-    ensures { result ≡ entered_row words.now at width count }
+// The states that a propagate edge enters, at whichever depth.
+fn entered_row(image: &Image) -> [u64; 8]
+    ensures { result ≡ entered_row image.now.words.now image.now.sections.propagate image.now.sections.width (suc image.now.sections.depth) }
 {
+    let sections = image.sections;
     let mut row = [0u64; 8];
-    for k in 0..count {
-        or_entered(&mut row, words, at + 3 * width * k, width);
+    for k in 0..sections.depth + 1 {
+        or_entered(&mut row, image, sections.propagate + 3 * sections.width * k);
     }
     row
 }
 
 // Each row once over all depths: a token then asks one bit of it, however deep the tree is.
-pub fn marks_of(words: &[u64], sections: Sections) -> Marks
-    requires { Within sections (length_of words.now) }
-    ensures { result ≡ marks_of words.now sections }
+pub fn marks_of(image: &Image) -> Marks
+    ensures { result ≡ marks_of image.now.words.now image.now.sections }
 {
+    let sections = image.sections;
     let width = sections.width;
     let depth = sections.depth;
     Marks {
-        letters: some_row(words, sections.letters, width, width, 256),
-        loops: some_row(words, sections.repeats, width, width, 256),
-        entered: entered_row(words, sections.propagate, width, depth + 1),
-        closes: some_row(words, sections.gather + 2 * width, 3 * width, width, depth),
-        opens: some_row(words, sections.scatter + width, 3 * width, width, depth),
-        returns: some_row(words, sections.back, 2 * width, width, depth),
+        letters: some_row(image, sections.letters, width, 256),
+        loops: some_row(image, sections.repeats, width, 256),
+        entered: entered_row(image),
+        closes: some_row(image, sections.gather + 2 * width, 3 * width, depth),
+        opens: some_row(image, sections.scatter + width, 3 * width, depth),
+        returns: some_row(image, sections.back, 2 * width, depth),
     }
 }
 

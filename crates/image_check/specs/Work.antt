@@ -12,6 +12,10 @@ use Rattle.image_sections.specs.declared.Sections.{Sections}
 use Rattle.image.specs.Work.{depth_masks, three_rows, two_rows}
 use Rattle.image_apart.specs.Work.{words_at}
 
+-- a byte's mask of the repeats, beside its mask of the letters at the loops' places
+abbrev pub same_repeat : List ℕ → Sections → (loops : List ℕ) → ℕ → Bool
+same_repeat ws p loops b = same_words (words_at ws (p.repeats + p.width * b) p.width) (and_words (words_at ws (p.letters + p.width * b) p.width) loops)
+
 -- the repeats, beside the letters at the loops' places
 abbrev pub same_repeats : List ℕ → (letters repeats W : ℕ) → List ℕ → Bool
 same_repeats ws letters repeats W loops = same_words (words_at ws repeats (W * 256)) (join 256 0 (λ b. and_words (words_at ws (letters + W * b) W) loops))

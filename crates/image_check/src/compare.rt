@@ -1,14 +1,9 @@
 // "The first word that differs ends the comparison, whichever section it lies in."
 ghost use Rattle.std.specs.Prelude.{◌≡◌, ◌+◌, ◌*◌, ◌≤◌, ◌<◌, length as length_of};
-ghost use Rattle.model.specs.Models.Verdict.{same_words};
-ghost use Rattle.model.specs.Models.Words.{and_words};
-ghost use Rattle.image.specs.Work.{depth_masks};
-ghost use Rattle.image_apart.specs.Work.{words_at};
-ghost use Rattle.image_sections.specs.Sections.{Within};
 ghost use Rattle.tokens_masks.specs.Masks.{planes};
-ghost use Rattle.image_check.specs.Work.{same_laid, same_masks, same_repeats};
+ghost use Rattle.image_check.specs.Work.{same_laid, same_masks, same_repeat, same_repeats};
 
-use image_sections::Sections;
+use image_sections::Image;
 use mask::bits::same_rows;
 use tokens_masks::plane::{
     BACK_SOURCE, GATHER_BLOCK, LETTER_PLACE, LOOP_PLACE, PROPAGATE_BLOCK, SCATTER_BLOCK,
@@ -16,10 +11,14 @@ use tokens_masks::plane::{
 use tokens_masks::row_of;
 
 // Whether a byte's mask of the repeats is its mask of the letters at the loops' places.
-fn same_repeat(words: &[u64], letters: usize, repeats: usize, width: usize, loops: [u64; 8]) -> bool
-    requires { (width ≤ 8) × (letters + width ≤ length_of words.now) × (repeats + width ≤ length_of words.now) }
-    ensures { result ≡ same_words (words_at words.now repeats width) (and_words (words_at words.now letters width) loops) }
+fn same_repeat(image: &Image, byte: usize, loops: [u64; 8]) -> bool
+    requires { byte < 256 }
+    ensures { result ≡ same_repeat image.now.words.now image.now.sections loops byte }
 {
+    let words = image.words;
+    let width = image.sections.width;
+    let letters = image.sections.letters + width * byte;
+    let repeats = image.sections.repeats + width * byte;
     for j in 0..width {
         if words[repeats + j] != words[letters + j] & loops[j] {
             return false;
@@ -29,81 +28,57 @@ fn same_repeat(words: &[u64], letters: usize, repeats: usize, width: usize, loop
 }
 
 // The same for each byte.
-fn same_repeats(words: &[u64], sections: Sections, loops: [u64; 8]) -> bool
-    requires { Within sections (length_of words.now) }
-    ensures { result ≡ same_repeats words.now sections.letters sections.repeats sections.width loops }
+fn same_repeats(image: &Image, loops: [u64; 8]) -> bool
+    ensures { result ≡ same_repeats image.now.words.now image.now.sections.letters image.now.sections.repeats image.now.sections.width loops }
 {
-    let width = sections.width;
     for byte in 0..256 {
-        let letters = sections.letters + width * byte;
-        let repeats = sections.repeats + width * byte;
-        if !same_repeat(words, letters, repeats, width, loops) {
+        if !same_repeat(image, byte, loops) {
             return false;
         }
     }
     true
 }
 
-// Whether the words from a place on are, of one depth, the masks laid out of `N` planes, from `first` on.
-fn same_depth<const N: usize>(
-    words: &[u64],
-    at: usize,
-    width: usize,
-    depth: usize,
-    first: usize,
-    masks: &[u64],
-) -> bool
-    requires { (width ≤ 8) × (depth < 9) × (at + N * width ≤ length_of words.now) × (first + N ≤ planes) × (length_of masks.now ≡ 936) }
-    ensures { result ≡ same_words (words_at words.now at (N * width)) (depth_masks width first N masks.now depth) }
-{
-    for j in 0..N {
-        let from = at + width * j;
-        let row = row_of(masks, depth, first + j);
-        if words[from..from + width] != row[..width] {
-            return false;
-        }
-    }
-    true
-}
-
-// The same for each of the first depths.
+// Whether the words from a place on are, for each of the first depths, the masks laid out of `N` planes, from `first` on.
 fn same_masks<const N: usize>(
-    words: &[u64],
+    image: &Image,
     at: usize,
-    width: usize,
     depths: usize,
     first: usize,
-    masks: &[u64],
+    masks: &[u64; 936],
 ) -> bool
-    requires { (width ≤ 8) × (depths ≤ 9) × (at + N * width * depths ≤ length_of words.now) × (first + N ≤ planes) × (length_of masks.now ≡ 936) }
-    ensures { result ≡ same_masks words.now at width depths first N masks.now }
+    requires { (depths ≤ 9) × (at + N * image.now.sections.width * depths ≤ length_of image.now.words.now) × (first + N ≤ planes) }
+    ensures { result ≡ same_masks image.now.words.now at image.now.sections.width depths first N masks.now }
 {
-    for k in 0..depths {
-        if !same_depth::<N>(words, at + N * width * k, width, k, first, masks) {
-            return false;
+    // Document 01, "Required forms by place": nested loops over depths, masks and words, left from inside by a label at the first difference.
+    let words = image.words;
+    let width = image.sections.width;
+    let mut same = true;
+    'search: for k in 0..depths {
+        for which in 0..N {
+            let from = at + (N * k + which) * width;
+            let row = row_of(masks, k, first + which);
+            for j in 0..width {
+                if words[from + j] != row[j] {
+                    same = false;
+                    break 'search;
+                }
+            }
         }
     }
-    true
+    same
 }
 
 // Whether the words are what is laid out in the masks: `letters` are the states that some letter's mask has.
-pub fn agrees(words: &[u64], sections: Sections, letters: [u64; 8], masks: &[u64; 936]) -> bool
-    requires { Within sections (length_of words.now) }
-    ensures { result ≡ same_laid words.now sections letters masks.now }
+pub fn agrees(image: &Image, letters: [u64; 8], masks: &[u64; 936]) -> bool
+    ensures { result ≡ same_laid image.now.words.now image.now.sections letters masks.now }
 {
-    let width = sections.width;
+    let sections = image.sections;
     let depth = sections.depth;
     same_rows(letters, row_of(masks, 0, LETTER_PLACE))
-        && same_repeats(words, sections, row_of(masks, 0, LOOP_PLACE))
-        && same_masks::<3>(words, sections.scatter, width, depth, SCATTER_BLOCK, masks)
-        && same_masks::<3>(words, sections.gather, width, depth, GATHER_BLOCK, masks)
-        && same_masks::<3>(
-            words,
-            sections.propagate,
-            width,
-            depth + 1,
-            PROPAGATE_BLOCK,
-            masks,
-        )
-        && same_masks::<2>(words, sections.back, width, depth, BACK_SOURCE, masks)
+        && same_repeats(image, row_of(masks, 0, LOOP_PLACE))
+        && same_masks::<3>(image, sections.scatter, depth, SCATTER_BLOCK, masks)
+        && same_masks::<3>(image, sections.gather, depth, GATHER_BLOCK, masks)
+        && same_masks::<3>(image, sections.propagate, depth + 1, PROPAGATE_BLOCK, masks)
+        && same_masks::<2>(image, sections.back, depth, BACK_SOURCE, masks)
 }

@@ -9,7 +9,7 @@ mod compare;
 ghost use Rattle.image_check.specs.Says.{CheckSays};
 
 use crate::compare::agrees;
-use image_apart::take_apart;
+use image_apart::{Apart, take_apart};
 use image_sections::Image;
 use tokens_masks::{Tape, lay_out};
 
@@ -24,19 +24,17 @@ pub struct Checked<'a> {
 pub fn check(words: &[u64]) -> Option<Checked>
     ensures { CheckSays words.now result }
 {
-    let parts = take_apart(words)?;
-    let sections = parts.sections;
-    let tape = parts.tape;
-    let mut masks = [0u64; 936];
-    let deepest = lay_out(tape, &mut masks)?;
-    if deepest != sections.depth {
-        return None;
-    }
-    if !agrees(words, sections, parts.letters, &masks) {
-        return None;
-    }
-    Some(Checked {
-        image: Image { words, sections },
+    let Apart {
+        image,
+        letters,
         tape,
-    })
+    } = take_apart(words)?;
+    let mut masks = [0u64; 936];
+    if lay_out(tape, &mut masks)? != image.sections.depth {
+        return None;
+    }
+    if !agrees(&image, letters, &masks) {
+        return None;
+    }
+    Some(Checked { image, tape })
 }

@@ -1,5 +1,5 @@
 -- THE PLACES OF AN IMAGE as one record: for W words to a mask, those of m states and depth d; and of words that have a shape, their own.
-use Rattle.std.specs.Prelude.{◌≡◌, List, ℕ, ◌+◌, ◌*◌, ◌≤◌, min, length}
+use Rattle.std.specs.Prelude.{◌≡◌, List, ℕ, ◌+◌, ◌*◌, ◌^◌, ◌≤◌, ◌<◌, min, get_or, length}
 use Rattle.model.specs.Image.{width}
 use Rattle.model.specs.Models.Sections.{back_at, depth_word, gather_at, image_length, letters_at, propagate_at, repeats_at, scatter_at, state_word, width_word}
 use Rattle.image_sections.specs.declared.Sections.{Sections}
@@ -53,6 +53,10 @@ pub record Placed (ws : List ℕ) (p : Sections) : Type 0 where
   pub few : state_word ws ≤ 512
   pub shallow : depth_word ws ≤ 8
   pub long : length ws ≡ p.length
+
+-- WORDS OF 64 BITS each
+abbrev pub AreWords : List ℕ → Type 0
+AreWords ws = (i : ℕ) → get_or ws i 0 < 2 ^ 64
 
 -- WORDS OF ONE WORD TO A MASK: the places where W is 1
 pub record Single (p : Sections) (n : ℕ) : Type 0 where

@@ -191,7 +191,7 @@ module _ (w : Plane) where
 
 -- ---- no state
 pub blank_held : {n : ℕ} {ms : List ℕ} → n ≡ 936 → ms ≡ replicate n 0 → Blank ms
-blank_held {n} {ms} l p = let e = p ∙ ap (λ (k : ℕ). replicate k 0) l in record { long = ap length e ∙ length-replicate {A = ℕ} 936 0; none = λ w. ap (λ (z : List ℕ). table_in z (number w)) e ∙ none w }
+blank_held {n} {ms} l p = let e = p ∙ ap (λ (k : ℕ). replicate k 0) l in λ w. ap (λ (z : List ℕ). table_in z (number w)) e ∙ none w
   where
     zeros : List ℕ
     zeros = replicate 936 0

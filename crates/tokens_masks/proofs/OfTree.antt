@@ -246,15 +246,15 @@ laid_of {t} {ms} {ms'} K J = record {
   gather_blocks = below gather-block (omega arith);
   gather_sources = below gather-source (omega arith);
   gather_targets = below gather-target (omega arith);
-  propagate_blocks = J.block ∙ ap₂ (join_tables Either) (K.held leaving) (K.held entering);
-  propagate_sources = J.source ∙ ap₂ (join_tables Only) (K.held leaving) (K.held entering);
-  propagate_targets = J.target ∙ ap₂ (join_tables Only) (K.held entering) (K.held leaving);
-  back_sources = J.above (number back-source) (omega arith) (omega arith) ∙ K.held back-source;
-  back_targets = J.above (number back-target) (omega arith) (omega arith) ∙ K.held back-target;
+  propagate_blocks = J.block ∙ ap₂ (join_tables Either) (K leaving) (K entering);
+  propagate_sources = J.source ∙ ap₂ (join_tables Only) (K leaving) (K entering);
+  propagate_targets = J.target ∙ ap₂ (join_tables Only) (K entering) (K leaving);
+  back_sources = J.above (number back-source) (omega arith) (omega arith) ∙ K back-source;
+  back_targets = J.above (number back-target) (omega arith) (omega arith) ∙ K back-target;
 }
   where
     below : (w : Plane) → number w < block_plane → table_in ms' (number w) ≡ table_of t w
-    below w h = J.below (number w) h ∙ K.held w
+    below w h = J.below (number w) h ∙ K w
 
     -- row 0 of a table
     first : (w : Plane) → table_in ms' (number w) ≡ table_of t w → row_in ms' (row_number 0 (number w)) ≡ get_or (table_of t w) 0 []

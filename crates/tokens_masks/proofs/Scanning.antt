@@ -43,14 +43,14 @@ pub record Scanning (t : Tape) (ms : List ℕ) (fs : List Frame) (q : Scan) (dee
 pub top_here : (q : Scan) (fs : List Frame) {k : ℕ} → k ≡ q.depth - 1 → Innermost q (get_or fs k no_frame) fs
 top_here q fs e = λ h. ap (λ (k : ℕ). get_or fs k no_frame) (sym e)
 
-pub scanning_begin : {t : Tape} {ms : List ℕ} {q : Scan} (fs : List Frame) → length t.kinds ≡ 512 → t.length ≤ 511 → Blank ms
+pub scanning_begin : {t : Tape} {ms : List ℕ} {q : Scan} (fs : List Frame) → length t.kinds ≡ 512 → t.length ≤ 511 → length ms ≡ 936 → Blank ms
     → length fs ≡ 9 → scan_of (with_frames q fs) ≡ begin → Scanning t ms fs q 0 0
-scanning_begin {t} {ms} {q} fs k h B n e = record {
+scanning_begin {t} {ms} {q} fs k h long B n e = record {
   nine = n;
-  long = B.long;
+  long = long;
   along = along_begin t (with_frames q fs) k h e;
   reaching = reaching_begin t (with_frames q fs) e;
-  painting = λ w. painting_begin t (with_frames q fs) w (table_in ms (number w)) e (B.none w);
+  painting = λ w. painting_begin t (with_frames q fs) w (table_in ms (number w)) e (B w);
 }
 
 module _ {t : Tape} {ms : List ℕ} {fs : List Frame} {q : Scan} {deepest i : ℕ} (S : Scanning t ms fs q deepest i) where
@@ -59,7 +59,7 @@ module _ {t : Tape} {ms : List ℕ} {fs : List Frame} {q : Scan} {deepest i : �
 
   -- a tape that is none, and one that is
   not_tree : is_tree t ≡ false → (None ≡ on_tape t) × ScanLays t ms
-  not_tree e = (sym (ap (λ (b : Bool). cond b (Some (reach (tokens_of t) begin)) None) e), record { long = S.long; held = λ z w. absurd (subst T e z) })
+  not_tree e = (sym (ap (λ (b : Bool). cond b (Some (reach (tokens_of t) begin)) None) e), λ z w. absurd (subst T e z))
 
   all_on : length (kinds_on t) ≡ t.length
   all_on = length-take-le t.length t.kinds (omega (arith, S.along.whole, S.along.short))
@@ -75,11 +75,8 @@ module _ {t : Tape} {ms : List ℕ} {fs : List Frame} {q : Scan} {deepest i : �
     scanning_tree e =
         let is = along_end t (with_frames q fs) i S.along past ∙ sym (says fs) ∙ e in (
           sym (ap₂ (λ (b : Bool) (d : ℕ). cond b (Some d) None) is (reaching_end t (with_frames q fs) i S.along deepest S.reaching past)),
-          record {
-            long = S.long;
-            held = λ z w. sym (ap (λ (b : Bool). cond b (paint_all (tokens_of t) begin w blank) blank) is
-                ∙ painting_end t (with_frames q fs) i S.along w (table_in ms (number w)) (S.painting w) past);
-          },
+          λ z w. sym (ap (λ (b : Bool). cond b (paint_all (tokens_of t) begin w blank) blank) is
+              ∙ painting_end t (with_frames q fs) i S.along w (table_in ms (number w)) (S.painting w) past),
         )
 
   -- at the token y, with the innermost frame, which stands at place k
@@ -133,10 +130,8 @@ none_told true x = refl
 none_told false x = refl
 
 module _ (t : Tape) {told : Option ℕ} (e : told ≡ on_tape t) where
-  pub planes_other : {ms : List ℕ} → is_some told ≡ false → Blank ms → PlanesHold t ms
-  planes_other q B = record {
-    long = B.long;
-    held = λ w. B.none w
-        ∙ sym (ap (λ (b : Bool). cond b (paint_all (tokens_of t) begin w blank) blank)
-        (sym (none_told (is_tree t) (reach (tokens_of t) begin)) ∙ ap is_some (sym e) ∙ q));
-  }
+  pub planes_other : (ms : List ℕ) → is_some told ≡ false → Blank ms → PlanesHold t ms
+  planes_other ms q B = λ w.
+      B w
+      ∙ sym (ap (λ (b : Bool). cond b (paint_all (tokens_of t) begin w blank) blank)
+      (sym (none_told (is_tree t) (reach (tokens_of t) begin)) ∙ ap is_some (sym e) ∙ q))

@@ -1,5 +1,5 @@
 -- MASKS IN A ROW OF WORDS: rows of eight words. A plane is one row for each of nine depths; for each depth the rows of all planes follow each other.
-use Rattle.std.specs.Prelude.{◌≡◌, List, [], ◌∷◌, ℕ, zero, suc, ◌+◌, ◌-◌, ◌*◌, ◌/◌, ◌%◌, ◌^◌, ◌<◌, drop, get_or, length, set, take}
+use Rattle.std.specs.Prelude.{◌≡◌, List, [], ◌∷◌, ℕ, zero, suc, ◌+◌, ◌-◌, ◌*◌, ◌/◌, ◌%◌, ◌^◌, ◌<◌, drop, get_or, set, take}
 use Rattle.std.specs.Int.Bits.{bit_or}
 use Rattle.model.specs.Models.LayOut.{entering, leaving, number, Stroke, strokes, Plane}
 use Rattle.tokens_masks.specs.Joins.{Either, join_tables, Only}
@@ -58,9 +58,8 @@ paint [] ms = ms
 paint (s ∷ ss) ms = paint ss (run_in ms (number s.plane) s.row s.from s.to)
 
 -- no mask has a state
-pub record Blank (ms : List ℕ) : Type 0 where
-  pub long : length ms ≡ 936
-  pub none : (w : Plane) → table_in ms (number w) ≡ blank
+abbrev pub Blank : List ℕ → Type 0
+Blank ms = (w : Plane) → table_in ms (number w) ≡ blank
 
 -- what a token marks
 abbrev pub MarkSays : Scan → Frame → Token → (ms ms' : List ℕ) → Type 0

@@ -58,11 +58,9 @@ abbrev pub propagate_target_table : Tape → Table
 propagate_target_table t = join_tables Only (table_of t entering) (table_of t leaving)
 
 -- the words hold, plane by plane, what is laid out, before propagate's masks are joined
-pub record PlanesHold (t : Tape) (ms : List ℕ) : Type 0 where
-  pub long : length ms ≡ 936
-  pub held : (w : Plane) → table_in ms (number w) ≡ table_of t w
+abbrev pub PlanesHold : Tape → List ℕ → Type 0
+PlanesHold t ms = (w : Plane) → table_in ms (number w) ≡ table_of t w
 
 -- they do if the tape is a tree's; of any other nothing is said
-pub record ScanLays (t : Tape) (ms : List ℕ) : Type 0 where
-  pub long : length ms ≡ 936
-  pub held : T (is_tree t) → (w : Plane) → table_in ms (number w) ≡ table_of t w
+abbrev pub ScanLays : Tape → List ℕ → Type 0
+ScanLays t ms = T (is_tree t) → PlanesHold t ms

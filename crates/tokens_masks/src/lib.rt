@@ -9,7 +9,7 @@ mod masks;
 pub mod plane;
 mod stroke;
 
-ghost use Rattle.std.specs.Prelude.{◌≡◌, ◌<◌, length};
+ghost use Rattle.std.specs.Prelude.{◌≡◌, ◌<◌};
 ghost use Rattle.tokens_masks.specs.Masks.{Blank, planes, row_in, row_number};
 ghost use Rattle.tokens_masks.specs.Says.{Laid, MasksSay, OnTapeSays};
 ghost use Rattle.tokens_masks.specs.Tapes.{deeper_by, on_tape, PlanesHold, ScanLays};
@@ -41,7 +41,7 @@ fn deeper(deepest: usize, depth: usize, token: Token) -> usize
 }
 
 // The scan over the whole tape, which marks what each token marks.
-fn scan_tape(tape: Tape, masks: &mut [u64]) -> Option<usize>
+fn scan_tape(tape: Tape, masks: &mut [u64; 936]) -> Option<usize>
     requires { Blank masks.old }
     ensures told { result ≡ on_tape tape }
     ensures masks { ScanLays tape masks.new }
@@ -68,8 +68,7 @@ fn scan_tape(tape: Tape, masks: &mut [u64]) -> Option<usize>
 }
 
 // What is marked for the tape. Where it is not a tree's, no mask has a state.
-fn lay_planes(tape: Tape, masks: &mut [u64]) -> Option<usize>
-    requires { length masks.old ≡ 936 }
+fn lay_planes(tape: Tape, masks: &mut [u64; 936]) -> Option<usize>
     ensures told { result ≡ on_tape tape }
     ensures planes { PlanesHold tape masks.new }
 {
@@ -95,8 +94,8 @@ pub fn lay_out(tape: Tape, masks: &mut [u64; 936]) -> Option<usize>
 }
 
 // The mask of a depth and a plane, of those that lay out gives.
-pub fn row_of(masks: &[u64], depth: usize, plane: usize) -> [u64; 8]
-    requires { (depth < 9) × (plane < planes) × (length masks.now ≡ 936) }
+pub fn row_of(masks: &[u64; 936], depth: usize, plane: usize) -> [u64; 8]
+    requires { (depth < 9) × (plane < planes) }
     ensures { result ≡ row_in masks.now (row_number depth plane) }
 {
     let at = place_of(depth, plane, 0);

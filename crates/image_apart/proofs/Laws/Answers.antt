@@ -7,14 +7,13 @@ use lib.ListN.{length}
 use Rattle.model.specs.Models.Sections.{depth_word, state_word, width_word}
 use Rattle.model.specs.Models.Words.{Fit}
 use Rattle.image_sections.specs.Header.{Headed, header_fits, header_if}
-use Rattle.image_sections.specs.Sections.{Within}
 use Rattle.std.specs.Prelude.{Option, Some}
 use Rattle.image_sections.specs.declared.Sections.{Sections}
-use Rattle.image_sections.proofs.Laws.Header.{header_is, own_words, placed, Told, told}
-use Rattle.image_sections.proofs.Laws.Within.{within}
+use Rattle.image_sections.proofs.Laws.Header.{header_is, own_words, Told, told}
 use Rattle.tokens_masks.specs.declared.Tape.{Tape}
 use Rattle.image_apart.specs.Says.{ApartSays, LettersOf, ShownTape, taken}
 use Rattle.image_apart.specs.Work.{marks_of, ShownBy}
+use Rattle.image_apart.specs.declared.Apart.{Apart}
 use Rattle.image_apart.specs.declared.marks.Marks.{Marks}
 use Rattle.image_apart.proofs.Laws.Apart.{apart_is, letters_fit, letters_long, letters_row, shows}
 
@@ -25,9 +24,6 @@ module _ {ws : List ℕ} {p : Sections} (D : Told (header_fits ws) ws p) where
 
   states_are : p.states ≡ state_word ws
   states_are = ap (λ (q : Sections). q.states) D.own
-
-  pub whole : Within p (length ws)
-  whole = within (placed D)
 
   pub counted : (1 ≤ p.states) × (p.states - 1 ≤ 511)
   counted = (omega (arith, states_are, headed.some), omega (arith, states_are, headed.few))
@@ -62,7 +58,8 @@ module _ {ws : List ℕ} {p : Sections} {marks : Marks} {t : Tape} (fit : Fit ws
 -- put together from what the parts have answered
 pub taken_says : {ws : List ℕ} {header : Option Sections} {p : Sections} {marks : Marks} {t : Tape} → Fit ws
     → header ≡ header_if (header_fits ws) ws → header ≡ Some p → marks ≡ marks_of ws p → ShownBy marks (p.states - 1) t
-    → length t.kinds ≡ 512 → ApartSays ws (Some (record { sections = p; letters = marks.letters; tape = t }))
-taken_says {ws} {t = t} f e g q s r =
+    → length t.kinds ≡ 512 → {a : Apart} → a.image.words.now ≡ ws → a.image.sections ≡ p → a.letters ≡ marks.letters → a.tape ≡ t → ApartSays ws (Some a)
+taken_says {ws} {t = t} f e g q s r words sections letters tape =
     let D = told (header_fits ws) ws e g in
-    taken ((header_is ws).0 D.passed) _ refl D.own (letters_are f D q s r) (tape_shown f D q s r)
+    taken ((header_is ws).0 D.passed) _ refl words (sections ∙ D.own) (subst (LettersOf ws) (sym letters) (letters_are f D q s r))
+    (subst (ShownTape ws) (sym tape) (tape_shown f D q s r))

@@ -1,10 +1,10 @@
 -- WHAT THE CHECK ANSWERS, at each of its ways out: a test that fails fails for no image, and words that pass all tests are one.
-use mathlib.Core.Path.{◌≡◌, refl, sym, ap, ◌∙◌, subst}
+use mathlib.Core.Path.{◌≡◌, refl, sym, ap, ap₂, ◌∙◌, subst}
 use mathlib.Core.Bool.{true, false}
 use mathlib.Core.List.{List}
 use Prim.Native.Nat.{ℕ}
 use lib.Dec.{T}
-use lib.ListN.{get_or, length}
+use lib.ListN.{get_or}
 use mir.Syntax.{w64}
 use mir.Val.{Fits}
 use Rattle.mask.proofs.Laws.Bits.{fit_row}
@@ -13,10 +13,11 @@ use Rattle.model.specs.Answers.{NoImage}
 use Rattle.model.specs.Models.Sections.{depth_word, state_word, width_word}
 use Rattle.model.specs.Models.Words.{Fit}
 use Rattle.image_sections.specs.Header.{Headed}
-use Rattle.image_sections.specs.Sections.{Placed, sections_for, sections_in, Within}
+use Rattle.image_sections.specs.Sections.{sections_for, sections_in}
 use Rattle.std.specs.Prelude.{Option, None, Some}
 use Rattle.image_sections.specs.declared.Sections.{Sections}
-use Rattle.image_sections.proofs.Laws.Header.{headed_placed, own_words}
+use Rattle.image_sections.specs.declared.image.Image.{Image}
+use Rattle.image_sections.proofs.Laws.Header.{own_words}
 use Rattle.image_sections.proofs.Laws.OfTree.{image_placed}
 use Rattle.image_sections.proofs.Laws.Within.{within}
 use Rattle.tokens_masks.specs.Tapes.{on_tape, TapeOf, tokens_of}
@@ -31,18 +32,20 @@ use Rattle.image_check.proofs.Laws.Verdict.{image_deep, image_headed, image_same
 
 -- no header
 pub not_headed : {ws : List ℕ} {r : Option Apart} → ((i : ℕ) → Fits w64 (get_or ws i 0)) → ApartSays ws r → r ≡ None → NoImage ws
-not_headed words (taken H a e own L S) f = absurd (let z : None ≡ Some a = sym f ∙ e in cc)
+not_headed words (taken H a e same own L S) f = absurd (let z : None ≡ Some a = sym f ∙ e in cc)
 not_headed {ws} words (no_header n e) f = λ s I. n (image_headed ws (fit_row ws words) s I)
 
 -- words with a header, and what was taken from them
 record Taken (ws : List ℕ) (a : Apart) : Type 0 where
   headed : Headed ws
-  own : a.sections ≡ sections_in ws
+  words-are : a.image.words.now ≡ ws
+  own : a.image.sections ≡ sections_in ws
   letters-of : LettersOf ws a.letters
   shown : ShownTape ws a.tape
 
 taken_of : {ws : List ℕ} {r : Option Apart} {a : Apart} → ApartSays ws r → r ≡ Some a → Taken ws a
-taken_of {ws} {r} {a} (taken H b e own L S) f = subst (Taken ws) (same (sym e ∙ f)) (record { headed = H; own = own; letters-of = L; shown = S })
+taken_of {ws} {r} {a} (taken H b e words own L S) f =
+    subst (Taken ws) (same (sym e ∙ f)) (record { headed = H; words-are = words; own = own; letters-of = L; shown = S })
   where
     same : Some b ≡ Some a → b ≡ a
     same z = cc
@@ -55,15 +58,16 @@ module _ {ws : List ℕ} {r : Option Apart} {a : Apart} (words : (i : ℕ) → F
   K : Taken ws a
   K = taken_of says is
 
-  -- the words have the sections that were read
-  pub placed_taken : Placed ws a.sections
-  placed_taken = headed_placed K.headed K.own
+  abbrev own_sections : Sections
+  own_sections = sections_for (state_word ws) (width_word ws) (depth_word ws)
 
-  -- what is asked of the words where they are compared
-  pub room_taken : Within a.sections (length ws)
-  room_taken = within placed_taken
+  -- the words compared are those that were taken apart
+  laid_is : {ms : List ℕ} → Laid a.tape ms → same_laid a.image.words.now a.image.sections a.letters ms ≡ same_all ws own_sections a.letters a.tape
+  laid_is {ms} L =
+      laid_same a.image.words.now a.letters ms (within a.image.placed) L
+      ∙ ap₂ (λ (ys : List ℕ) (q : Sections). same_all ys q a.letters a.tape) K.words-are (K.own ∙ own_words K.headed)
 
-  depth_is : a.sections.depth ≡ depth_word ws
+  depth_is : a.image.sections.depth ≡ depth_word ws
   depth_is = ap (λ (q : Sections). q.depth) K.own
 
   -- ---- NO
@@ -72,21 +76,17 @@ module _ {ws : List ℕ} {r : Option Apart} {a : Apart} (words : (i : ℕ) → F
       absurd
       (let z : None ≡ Some (reach (tokens_of a.tape) begin) = e ∙ tree_on_tape a.tape (image_tree ws fit s I K.letters-of K.shown) in cc)
 
-  pub other_depth : (k : ℕ) → Some k ≡ on_tape a.tape → (k ≡ a.sections.depth → ⊥) → NoImage ws
+  pub other_depth : (k : ℕ) → Some k ≡ on_tape a.tape → (k ≡ a.image.sections.depth → ⊥) → NoImage ws
   other_depth k e n s I = n (sym (on_tape_tree a.tape k (sym e)).1 ∙ image_deep ws fit s I K.letters-of K.shown ∙ sym depth_is)
 
-  own_places : a.sections ≡ sections_for (state_word ws) (width_word ws) (depth_word ws)
-  own_places = K.own ∙ own_words K.headed
-
-  pub words_differ : {ms : List ℕ} → Laid a.tape ms → false ≡ same_laid ws a.sections a.letters ms → NoImage ws
-  words_differ {ms} L e s I =
-      subst T (sym (e ∙ laid_same ws a.letters ms room_taken L ∙ ap (λ (q : Sections). same_all ws q a.letters a.tape) own_places)) (image_same ws fit s I K.letters-of K.shown)
+  pub words_differ : {ms : List ℕ} → Laid a.tape ms → false ≡ same_laid a.image.words.now a.image.sections a.letters ms → NoImage ws
+  words_differ {ms} L e s I = subst T (sym (e ∙ laid_is L)) (image_same ws fit s I K.letters-of K.shown)
 
   -- ---- YES
-  pub image_found : {ms : List ℕ} (k : ℕ) → Some k ≡ on_tape a.tape → k ≡ a.sections.depth → Laid a.tape ms → true ≡ same_laid ws a.sections a.letters ms
-      → {c : Checked} → c.image.words.now ≡ ws → c.image.sections ≡ a.sections → c.tape ≡ a.tape → CheckSays ws (Some c)
-  image_found {ms} k e n L same {c} words-are sections-are tape-is =
+  pub image_found : {ms : List ℕ} (k : ℕ) → Some k ≡ on_tape a.tape → k ≡ a.image.sections.depth → Laid a.tape ms
+      → true ≡ same_laid a.image.words.now a.image.sections a.letters ms → {c : Checked} → c.image ≡ a.image → c.tape ≡ a.tape → CheckSays ws (Some c)
+  image_found {ms} k e n L same {c} image-is tape-is =
       let q = on_tape_tree a.tape k (sym e) in
-      let y = yes ws fit K.headed K.letters-of K.shown q.0 (q.1 ∙ n ∙ depth_is)
-      (subst T (same ∙ laid_same ws a.letters ms room_taken L ∙ ap (λ (p : Sections). same_all ws p a.letters a.tape) own_places) tt) in
-      is_image y.0 y.1 c refl words-are (sections-are ∙ K.own ∙ sym (image_placed ws y.0 y.1).own) (subst (TapeOf y.0) (sym tape-is) y.2)
+      let y = yes ws fit K.headed K.letters-of K.shown q.0 (q.1 ∙ n ∙ depth_is) (subst T (same ∙ laid_is L) tt) in
+      is_image y.0 y.1 c refl (ap (λ (z : Image). z.words.now) image-is ∙ K.words-are)
+      (ap (λ (z : Image). z.sections) image-is ∙ K.own ∙ sym (image_placed ws y.0 y.1).own) (subst (TapeOf y.0) (sym tape-is) y.2)

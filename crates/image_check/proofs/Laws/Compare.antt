@@ -2,14 +2,12 @@
 -- joined, and where none does it is.
 use mathlib.Core.Path.{◌≡◌, sym, ap, ◌∙◌, subst}
 use mathlib.Core.Logic.{◌⊎◌, inl, inr}
-use mathlib.Core.Bool.{Bool, true, false, not, not-not}
+use mathlib.Core.Bool.{Bool, true, false}
 use mathlib.Core.List.{List, ◌++◌}
 use Prim.Native.Nat.{ℕ, zero, suc, ◌+◌, ◌-◌, ◌*◌, ◌≤◌, ◌<◌}
 use native.Mathlib.Nat.{le_of_suc-le-suc, mul-add, mul-le-mul_left, mul-suc, mul-zero, not-suc-le-zero, zero-add}
 use native.Mathlib.Omega.{arith}
-use lib.Dec.{T, eqb}
-use lib.Pointwise.{pointwise}
-use Rattle.std.specs.Cmp.Lexicographic.{other_text, same_text}
+use lib.Dec.{T}
 use lib.ListN.{drop, get_or, take, length, length-drop, get_or-append}
 use lib.Seq.{ext_get_or, get_or-append-add, get_or-drop, get_or-take, length-take-le}
 use Rattle.model.specs.Image.{join}
@@ -19,7 +17,8 @@ use Rattle.model.proofs.Image.Address.{part_fits}
 use Rattle.image.proofs.Laws.Parts.{AllLong, length_joined}
 use Rattle.model.proofs.Laws.Bool.{le_or_lt}
 use Rattle.image_apart.specs.Work.{words_at}
--- Repeats: the section of the repeats beside the letters at the loops' places.
+-- Repeats: the section of the repeats beside the letters at the loops' places. Masks: the masks laid out of some planes for each depth.
+pub mod Masks
 pub mod Repeats
 
 -- ---- word i of a section
@@ -29,6 +28,12 @@ module _ (ws : List ℕ) (at m : ℕ) where
 
   pub length_there : at + m ≤ length ws → length (words_at ws at m) ≡ m
   length_there h = length-take-le m (drop at ws) (omega (arith, length-drop at ws))
+
+  pub words_alike : (row : List ℕ) → at + m ≤ length ws → length row ≡ m → ((i : ℕ) → i < m → get_or ws (at + i) 0 ≡ get_or row i 0) → words_at ws at m ≡ row
+  words_alike row h long each =
+      ext_get_or 0 (words_at ws at m) row (length_there h ∙ sym long)
+      (λ i l. let inside : i < m = omega (arith, length_there h, l) in
+      word_there i inside ∙ each i inside)
 
 -- ---- word j of part k
 module _ (w : ℕ) (f : ℕ → List ℕ) where
@@ -66,9 +71,8 @@ module _ {ws : List ℕ} {at m w n : ℕ} {f : ℕ → List ℕ} {k : ℕ} (S : 
   pub same-all : n ≤ k → same_words (words_at ws at m) (join n 0 f) ≡ true
   same-all h =
       same_true (words_at ws at m) (join n 0 f)
-      (ext_get_or 0 (words_at ws at m) (join n 0 f) (length_there ws at m S.fits ∙ S.count ∙ sym (length_joined w n f S.long))
-      (λ i l. let inside : i < m = omega (arith, length_there ws at m S.fits, l) in
-      word_there ws at m i inside ∙ S.first i (omega (arith, S.count, inside, mul-le-mul_left w h))))
+      (words_alike ws at m (join n 0 f) S.fits (length_joined w n f S.long ∙ sym S.count)
+      (λ i inside. S.first i (omega (arith, S.count, inside, mul-le-mul_left w h))))
 
   module _ (part : k < n) where
     -- the part's words, and where they stand
@@ -80,8 +84,8 @@ module _ {ws : List ℕ} {at m w n : ℕ} {f : ℕ → List ℕ} {k : ℕ} (S : 
     pub part_in : at + w * k + w ≤ length ws
     part_in = omega (arith, part_fits w part, S.count, S.fits)
 
-    here_word : (j : ℕ) → j < w → get_or (words_at ws (at + w * k) w) j 0 ≡ get_or ws (at + (w * k + j)) 0
-    here_word j h = word_there ws (at + w * k) w j h ∙ (let e : at + w * k + j ≡ at + (w * k + j) = omega arith in ap (λ (i : ℕ). get_or ws i 0) e)
+    place : (j : ℕ) → get_or ws (at + w * k + j) 0 ≡ get_or ws (at + (w * k + j)) 0
+    place j = let e : at + w * k + j ≡ at + (w * k + j) = omega arith in ap (λ (i : ℕ). get_or ws i 0) e
 
     pub same_more : words_at ws (at + w * k) w ≡ f k → SameTo ws at m w n f (k + 1)
     same_more e = record { count = S.count; long = S.long; fits = S.fits; first = λ i h. go i h (le_or_lt (w * k) i) }
@@ -90,16 +94,17 @@ module _ {ws : List ℕ} {at m w n : ℕ} {f : ℕ → List ℕ} {k : ℕ} (S : 
         go i h (inr l) = S.first i l
         go i h (inl l) =
             let inside : i - w * k < w = omega (arith, h, l, mul-add w k 1) in
-            let place : w * k + (i - w * k) ≡ i = omega (arith, l) in
-            subst (λ (x : ℕ). get_or ws (at + x) 0 ≡ get_or (join n 0 f) x 0) place
-            (sym (here_word (i - w * k) inside) ∙ ap (λ (us : List ℕ). get_or us (i - w * k) 0) e ∙ sym (part_word (i - w * k) inside))
+            let its : w * k + (i - w * k) ≡ i = omega (arith, l) in
+            subst (λ (x : ℕ). get_or ws (at + x) 0 ≡ get_or (join n 0 f) x 0) its
+            (sym (word_there ws (at + w * k) w (i - w * k) inside ∙ place (i - w * k))
+            ∙ ap (λ (us : List ℕ). get_or us (i - w * k) 0) e
+            ∙ sym (part_word (i - w * k) inside))
 
     pub differ_here : (words_at ws (at + w * k) w ≡ f k → ⊥) → same_words (words_at ws at m) (join n 0 f) ≡ false
     differ_here d =
         same_false (words_at ws at m) (join n 0 f)
-        (λ e. d (ext_get_or 0 (words_at ws (at + w * k) w) (f k) (length_there ws (at + w * k) w part_in ∙ sym (S.long k part))
-        (λ j l. let word : j < w = omega (arith, length_there ws (at + w * k) w part_in, l) in
-        here_word j word
+        (λ e. d (words_alike ws (at + w * k) w (f k) part_in (S.long k part)
+        (λ j word. place j
         ∙ sym (word_there ws at m (w * k + j) (omega (arith, part_fits w part, S.count, word)))
         ∙ ap (λ (us : List ℕ). get_or us (w * k + j) 0) e
         ∙ part_word j word)))
@@ -110,17 +115,3 @@ module _ {ws : List ℕ} {at m w n : ℕ} {f : ℕ → List ℕ} {k : ℕ} (S : 
 
     pub fails : {same : Bool} → same ≡ same_words (words_at ws (at + w * k) w) (f k) → same ≡ false → false ≡ same_words (words_at ws at m) (join n 0 f)
     fails e t = sym (differ_here (λ q. subst T (sym (same_true (words_at ws (at + w * k) w) (f k) q) ∙ sym e ∙ t) tt))
-
--- ---- two slices compared: the words from a place on, and the first of a row
-module _ (ws row : List ℕ) (from W : ℕ) where
-  sliced : take (from + W - from) (drop from ws) ≡ words_at ws from W
-  sliced = let e : from + W - from ≡ W = omega arith in ap (λ (n : ℕ). take n (drop from ws)) e
-
-  abbrev alike : Bool
-  alike = pointwise eqb (take (from + W - from) (drop from ws)) (take W row)
-
-  pub slices_same : {differ : Bool} → differ ≡ not alike → differ ≡ false → words_at ws from W ≡ take W row
-  slices_same e f = sym sliced ∙ same_text _ _ (ap not (sym f ∙ e) ∙ not-not alike)
-
-  pub slices_differ : {differ : Bool} → differ ≡ not alike → differ ≡ true → words_at ws from W ≡ take W row → ⊥
-  slices_differ e f q = other_text _ _ (ap not (sym f ∙ e) ∙ not-not alike) (sliced ∙ q)

@@ -12,7 +12,7 @@ use Rattle.model.specs.Models.Sections.{back_count, Counted, depth_word, gather_
 use Rattle.model.proofs.Laws.Bool.{and_both, and_split}
 use Rattle.image_sections.specs.Header.{counts_fit, Headed, header_fits, header_if, holds, shape_fits}
 use Rattle.image_sections.specs.Sections.{Placed, sections_for, sections_in, sections_of}
-use Rattle.std.specs.Prelude.{Option, None, Some}
+use Rattle.std.specs.Prelude.{Option, Some}
 use Rattle.image_sections.specs.declared.Sections.{Sections}
 
 equal : (m n : ℕ) → m ≡ n → T (eqb m n)

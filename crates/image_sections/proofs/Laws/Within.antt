@@ -1,13 +1,14 @@
 -- EVERY SECTION LIES WITHIN THE WORDS, one after another: by the places alone, so that whoever reads at a place needs no number.
 use mathlib.Core.Path.{◌≡◌, refl, sym, ap, ◌∙◌, subst}
-use mathlib.Core.List.{List}
+use mathlib.Core.List.{List, [], ◌∷◌}
 use Prim.Native.Nat.{ℕ, suc, ◌+◌, ◌*◌, ◌≤◌}
 use native.Mathlib.Nat.{mul-add, mul_assoc, mul_comm, mul-le-mul, mul_left_comm, mul-suc}
 use native.Mathlib.Omega.{arith}
 use lib.ListN.{length}
 use Rattle.model.specs.Image.{width}
 use Rattle.model.specs.Models.Sections.{back_at, depth_word, gather_at, image_length, propagate_at, repeat_place, scatter_at, state_word}
-use Rattle.image_sections.specs.Sections.{Placed, sections_in, sections_of, Single, width_of, Within}
+use Rattle.model.specs.Models.Words.{Fit}
+use Rattle.image_sections.specs.Sections.{AreWords, Placed, sections_in, sections_of, Single, width_of, Within}
 use Rattle.image_sections.specs.declared.Sections.{Sections}
 
 within_of : (m d : ℕ) → m ≤ 512 → d ≤ 8 → Within (sections_of m d) (sections_of m d).length
@@ -80,6 +81,11 @@ module _ {ws : List ℕ} {p : Sections} (P : Placed ws p) where
   -- a byte's masks
   pub bytes_fit : repeat_place p.width 256 ≤ length ws
   bytes_fit = let I = within P in omega (arith, I.scatters, I.gathers, I.propagates, I.backs, scatter_is)
+
+-- words of 64 bits each, as the model says it
+pub words_fit : (ws : List ℕ) → AreWords ws → Fit ws
+words_fit [] h = tt
+words_fit (w ∷ ws) h = (h 0, words_fit ws (λ i. h (suc i)))
 
 -- where a mask has one word
 pub single : {ws : List ℕ} {p : Sections} → Placed ws p → p.states ≤ 64 → Single p (length ws)

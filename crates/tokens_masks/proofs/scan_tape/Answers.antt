@@ -17,12 +17,12 @@ returns-then-tape-gt511 c =
     let t = c.args.tape in
     let no = too_long t c.if-tape-gt511.true in record {
       told = sym (ap (λ (b : Bool). cond b (Some (reach (tokens_of t) begin)) None) no);
-      masks = record { long = c.requires.long; held = λ z w. absurd (subst T no z) };
+      masks = λ z w. absurd (subst T no z);
     }
 
 pub loop-kind-init : goal.loop-kind-init
 loop-kind-init c =
-    scanning_begin _ (search rules) c.if-tape-gt511.false c.requires refl (c.begin_scan-scan.ensures (replicate 9 c.no_frame-frames.result))
+    scanning_begin _ (search rules) c.if-tape-gt511.false (search rules) c.requires refl (c.begin_scan-scan.ensures (replicate 9 c.no_frame-frames.result))
 
 pub offset_bounds-frames-innermost : goal.offset_bounds-frames-innermost
 offset_bounds-frames-innermost c = omega (arith, scanning_depth c.loop-kind.invariant, c.innermost.ensures)
@@ -35,8 +35,8 @@ returns-then-not-fits c =
     let said = scanning_misfit c.loop-kind.invariant c.loop-kind-test.true c.read_kind-token.ensures c.innermost.ensures c.fits.ensures c.if-not-fits.true in
     record { told = said.0; masks = said.1 }
 
-pub mark_token-requires-clause-ready : goal.mark_token-requires-clause-ready
-mark_token-requires-clause-ready c =
+pub mark_token-requires : goal.mark_token-requires
+mark_token-requires c =
     scanning_ready c.loop-kind.invariant c.loop-kind-test.true c.read_kind-token.ensures c.innermost.ensures c.fits.ensures c.if-not-fits.false
 
 pub deeper-deepest-requires : goal.deeper-deepest-requires

@@ -2,6 +2,7 @@
 use mathlib.Core.Path.{refl}
 use Prim.Native.Nat.{◌*◌}
 use native.Mathlib.Omega.{arith}
+use borrow.Author.Rules.{rules}
 use Rattle.image.proofs.Laws.Lengths.{masks_long}
 use Rattle.image.proofs.Laws.Parts.{parts_all, parts_more, parts_none}
 use Rattle.image.proofs.sections.put_tables.Goals as goal
@@ -10,7 +11,7 @@ pub loop-k-init : goal.loop-k-init
 loop-k-init g c =
     let a = c.args in
     let r = c.requires in
-    parts_none (masks_long g.row.N a.masks.now a.first r.0 r.1 r.4 r.5)
+    parts_none (masks_long g.row.N a.masks.now a.first r.0 r.1 r.4 (search rules))
 
 pub loop-k-preserved : goal.loop-k-preserved
 loop-k-preserved g c = parts_more c.loop-k.invariant c.loop-k-test.true c.put_depth.ensures

@@ -4,4 +4,4 @@ use Rattle.image_apart.specs.Work.{entered_row}
 use Rattle.image_apart.proofs.marks.entered_row.Given as goal
 
 abbrev pub invariant-loop-k : goal.invariant-loop-k
-invariant-loop-k l = l.row ≡ entered_row l.words l.at l.width l.k
+invariant-loop-k l = let p = l.image.sections in l.row ≡ entered_row l.image.words.now p.propagate p.width l.k

@@ -3,4 +3,4 @@ use Rattle.image_apart.proofs.Laws.Rows.{RowTo}
 use Rattle.image_apart.proofs.marks.some_row.Given as goal
 
 abbrev pub invariant-loop-j : goal.invariant-loop-j
-invariant-loop-j l = RowTo l.words l.at l.stride l.count l.j l.row
+invariant-loop-j l = RowTo l.image.words.now l.at l.stride l.count l.j l.row

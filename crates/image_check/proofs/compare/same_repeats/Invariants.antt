@@ -6,5 +6,5 @@ use Rattle.image_check.proofs.compare.same_repeats.Given as goal
 
 abbrev pub invariant-loop-byte : goal.invariant-loop-byte
 invariant-loop-byte l =
-    let p = l.sections in
-    SameTo l.words p.repeats (p.width * 256) p.width 256 (looped_row l.words p.letters p.width l.loops) l.byte
+    let p = l.image.sections in
+    SameTo l.image.words.now p.repeats (p.width * 256) p.width 256 (looped_row l.image.words.now p.letters p.width l.loops) l.byte

@@ -18,21 +18,22 @@ shallow : {q : Scan} {f : Frame} {y : Token} → ReadyAt q f y → q.depth < 9
 shallow {q} {f} {y} R = omega (arith, ready_depth (with_frames q R.frames) y R.ready)
 
 pub mark_letter-requires : goal.mark_letter-requires
-mark_letter-requires c = (c.requires.ready.ready.below, shallow c.requires.ready, c.requires.long)
+mark_letter-requires c = (c.requires.ready.below, shallow c.requires)
 
 pub mark_open-requires : goal.mark_open-requires
-mark_open-requires c = (c.requires.ready.ready.below, shallow c.requires.ready, c.requires.long)
+mark_open-requires c = (c.requires.ready.below, shallow c.requires)
 
 pub mark_bar-requires : goal.mark_bar-requires
-mark_bar-requires c = (c.requires.ready.ready.below, omega (arith, shallow c.requires.ready), c.requires.long)
+mark_bar-requires c = (c.requires.ready.below, omega (arith, shallow c.requires))
 
 pub mark_close-requires : goal.mark_close-requires
 mark_close-requires c =
-    let q = with_frames c.args.scan c.requires.ready.frames in
-    let R = c.requires.ready.ready in
+    let q = with_frames c.args.scan c.requires.frames in
+    let R = c.requires.ready in
     let inner = ready_close q c.args.token R c.in-Close.shown c.in-Close.is in
-    let top = subst (λ (f : Frame). (f.alternative < 511) × (f.start < 511)) (c.requires.ready.top inner) (ready_top q c.args.token R c.in-Close.shown c.in-Close.is) in
-    (R.below, omega (arith, shallow c.requires.ready), top.0, top.1, c.requires.long)
+    let top =
+    subst (λ (f : Frame). (f.alternative < 511) × (f.start < 511)) (c.requires.top inner) (ready_top q c.args.token R c.in-Close.shown c.in-Close.is) in
+    (R.below, omega (arith, shallow c.requires), top.0, top.1)
 
 pub returns-in-Letter : goal.returns-in-Letter
 returns-in-Letter c = λ fs I.
@@ -45,11 +46,11 @@ returns-in-Open c = λ fs I.
 
 pub returns-in-Bar : goal.returns-in-Bar
 returns-in-Bar c = λ fs I.
-    let inner = ready_bar (with_frames c.args.scan c.requires.ready.frames) c.args.token c.requires.ready.ready c.in-Bar.is in
+    let inner = ready_bar (with_frames c.args.scan c.requires.frames) c.args.token c.requires.ready c.in-Bar.is in
     c.mark_bar.ensures ∙ ap (λ (ss : List Stroke). paint ss c.args.masks.now) (bar-strokes c.args.scan fs inner c.in-Bar.is)
 
 pub returns-in-Close : goal.returns-in-Close
 returns-in-Close c = λ fs I.
-    let inner = ready_close (with_frames c.args.scan c.requires.ready.frames) c.args.token c.requires.ready.ready c.in-Close.shown c.in-Close.is in
+    let inner = ready_close (with_frames c.args.scan c.requires.frames) c.args.token c.requires.ready c.in-Close.shown c.in-Close.is in
     c.mark_close.ensures
     ∙ ap (λ (ss : List Stroke). paint ss c.args.masks.now) (close-strokes c.args.scan fs inner c.args.frame I c.in-Close.shown c.in-Close.is)

@@ -4,11 +4,10 @@
 
 #![tactic(auto)]
 
-ghost use Rattle.std.specs.Prelude.{◌≡◌, ◌-◌, ◌/◌, ◌%◌, ◌<◌, ◌≤◌, length};
-ghost use Rattle.model.specs.Models.Sections.{letter_place};
+ghost use Rattle.std.specs.Prelude.{◌≡◌, ◌-◌, ◌/◌, ◌%◌, ◌<◌};
 ghost use Rattle.image_classes.specs.Classes.{ColumnOf, four_of, Table, With};
 
-use image_sections::{Image, letters_at};
+use image_sections::Image;
 
 // A byte put into the classes of those states that its word has.
 fn put_word(classes: &mut [u64; 256], byte: usize, word: u64)
@@ -25,25 +24,18 @@ fn put_word(classes: &mut [u64; 256], byte: usize, word: u64)
     }
 }
 
-// The classes of a column's states, four words for each: byte b is bit b mod 64 of word b / 64. Lent as a slice and not in an image, where it would not show
-// that they are of 64 bits.
-fn put_bytes(words: &[u64], width: usize, column: usize, classes: &mut [u64; 256])
-    requires { (width ≤ 8) × (column < width) × (letter_place width 256 ≤ length words.now) }
-    ensures { ColumnOf words.now width column classes.new }
-{
-    *classes = [0u64; 256];
-    let first = letters_at(width, 0) + column;
-    for byte in 0..256 {
-        put_word(classes, byte, words[first + width * byte]);
-    }
-}
-
-// The same of an image.
+// The classes of a column's states, four words for each: byte b is bit b mod 64 of word b / 64.
 pub fn put_column(image: &Image, column: usize, classes: &mut [u64; 256])
     requires { column < image.now.sections.width }
     ensures { ColumnOf image.now.words.now image.now.sections.width column classes.new }
 {
-    put_bytes(image.words, image.sections.width, column, classes);
+    *classes = [0u64; 256];
+    let words = image.words;
+    let width = image.sections.width;
+    let first = image.sections.letters + column;
+    for byte in 0..256 {
+        put_word(classes, byte, words[first + width * byte]);
+    }
 }
 
 // The column of a state, where that of the state before it is at hand. The table is lent beside the image, not kept in one record with it: as the result of

@@ -8,7 +8,6 @@ use Rattle.image_sections.specs.declared.Sections.{Sections}
 use Rattle.run_word.specs.declared.stretch.From.{From}
 use Rattle.run_word.specs.declared.stretch.Ran.{Ran}
 use Rattle.run_word.specs.declared.work.Work.{Work}
-use Rattle.model.specs.Models.Words.{Fit}
 
 -- what a stretch leads to on masks of one word
 abbrev pub RanFrom : Masks → (d last : ℕ) (stretch : List ℕ) → From → (before : List ℕ) → Ran → (after : List ℕ) → Type 0
@@ -33,9 +32,8 @@ pub record Chosen (ws stretch : List ℕ) (from : From) (last d : ℕ) (any : Bo
   pub none : NoChain table d any
   pub edges : Backs ws d backs
 
--- the masks of work are those of an image with these sections; and its words are of 64 bits, which a slice within a record does not show
+-- the masks of work are those of an image with these sections
 pub record WorkOf (ws : List ℕ) (p : Sections) (w : Work) : Type 0 where
-  pub words : Fit ws
   pub depth : w.depth ≡ p.depth
   pub last : w.last ≡ p.states - 1
   pub entered : Entered ws w.depth w.table

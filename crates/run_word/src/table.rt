@@ -1,7 +1,5 @@
 // The masks of work, from the image's words: the table, with those of scatter, gather and propagate for each depth, and beside it those of the back edges.
 ghost use Rattle.std.specs.Prelude.{◌≡◌, ◌<◌, ◌≤◌, length};
-ghost use Rattle.model.specs.Models.Sections.{back_at, image_length};
-ghost use Rattle.model.specs.Models.Words.{Fit};
 ghost use Rattle.image_sections.specs.Sections.{Single};
 ghost use Rattle.run_word.specs.Stretch.{WorkOf};
 ghost use Rattle.run_word.specs.One.{Backs, Entered, entry_at, NoBack, NoChain};
@@ -55,16 +53,15 @@ fn any_chain(table: &[u64; 81], depth: usize) -> bool
     false
 }
 
-// Source and target of the back edges of each depth below d, from the words at their section's place, zeros after. That the words are of 64 bits is
-// told here: a slice within a record does not show it.
-fn backs(words: &[u64], at: usize, depth: usize) -> [u64; 16]
-    requires { (at ≡ back_at 1 depth) × (depth ≤ 8) × (length words.now ≡ image_length 1 depth) }
-    ensures words { Fit words.now }
-    ensures edges { Backs words.now depth result }
+// Source and target of the back edges of each depth below d, zeros after.
+fn backs(image: &Image) -> [u64; 16]
+    requires { Single image.now.sections (length image.now.words.now) }
+    ensures { Backs image.now.words.now image.now.sections.depth result }
 {
-    let count = 2 * depth;
+    let at = image.sections.back;
+    let count = 2 * image.sections.depth;
     let mut r = [0u64; 16];
-    r[..count].copy_from_slice(&words[at..at + count]);
+    r[..count].copy_from_slice(&image.words[at..at + count]);
     r
 }
 
@@ -80,7 +77,7 @@ pub fn work_of(image: &Image) -> Work
         last: image.sections.states - 1,
         any: any_chain(&table, depth),
         table,
-        backs: backs(image.words, image.sections.back, depth),
+        backs: backs(image),
     }
 }
 

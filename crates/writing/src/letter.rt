@@ -6,7 +6,7 @@ ghost use Rattle.image_classes.specs.Classes.{class_in};
 ghost use Rattle.tokens.specs.Tokens.{repeat_of};
 ghost use Rattle.writing.specs.Work.{bytes_if};
 
-use image_classes::Column;
+use image_classes::class_of;
 use tokens::token::Repeat;
 use writing_letters::classes::write_class;
 use writing_letters::set_byte;
@@ -43,17 +43,17 @@ fn write_sign(out: &mut [u8], at: usize, repeat: Repeat) -> usize
 
 // A letter to a state of the column at hand.
 pub fn write_letter(
-    column: &Column,
+    classes: &[u64; 256],
     repeat: Repeat,
     state: usize,
     out: &mut [u8],
     at: usize,
 ) -> usize
     requires { at < 2 ^ 30 }
-    ensures place { result ≡ at + length (class_writing (class_in column.now.classes (state % 64)) ++ repeat_writing (repeat_of repeat)) }
-    ensures written { out.new ≡ sets out.old at (class_writing (class_in column.now.classes (state % 64)) ++ repeat_writing (repeat_of repeat)) }
+    ensures place { result ≡ at + length (class_writing (class_in classes.now (state % 64)) ++ repeat_writing (repeat_of repeat)) }
+    ensures written { out.new ≡ sets out.old at (class_writing (class_in classes.now (state % 64)) ++ repeat_writing (repeat_of repeat)) }
 {
-    let class = column.class_of(state);
+    let class = class_of(classes, state);
     let p = write_class(out, at, class);
     write_sign(out, p, repeat)
 }

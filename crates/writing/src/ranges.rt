@@ -3,12 +3,12 @@ ghost use Rattle.std.specs.Prelude.{◌≡◌, ◌+◌, ◌-◌, ◌*◌, ◌/�
 ghost use Rattle.std.proofs.lemmas.List.Edits.{sets};
 ghost use Rattle.model.specs.Bytes.{byte};
 ghost use Rattle.model.specs.Writing.{mark_writing};
-ghost use Rattle.image_classes.specs.Classes.{class_in};
+ghost use Rattle.image_classes.specs.Classes.{class_in, ColumnOf};
 ghost use Rattle.tokens.specs.Tokens.{mark_of};
 ghost use Rattle.writing.specs.Work.{range_text, token_text};
 
 use crate::letter::{write_if, write_letter};
-use image_classes::Column;
+use image_classes::{move_on, put_column};
 use image_sections::Image;
 use tokens::kind::read_kind;
 use tokens::token::{Mark, Token};
@@ -57,13 +57,13 @@ fn write_close(out: &mut [u8], at: usize, mark: Mark) -> usize
 }
 
 // The token before a state of the column at hand.
-fn write_token(column: &Column, token: Token, state: usize, out: &mut [u8], at: usize) -> usize
+fn write_token(classes: &[u64; 256], token: Token, state: usize, out: &mut [u8], at: usize) -> usize
     requires { at < 2 ^ 30 }
-    ensures place { result ≡ at + length_of (token_text (class_in column.now.classes (state % 64)) token) }
-    ensures written { out.new ≡ sets out.old at (token_text (class_in column.now.classes (state % 64)) token) }
+    ensures place { result ≡ at + length_of (token_text (class_in classes.now (state % 64)) token) }
+    ensures written { out.new ≡ sets out.old at (token_text (class_in classes.now (state % 64)) token) }
 {
     match token {
-        Token::Letter(repeat) => write_letter(column, repeat, state, out, at),
+        Token::Letter(repeat) => write_letter(classes, repeat, state, out, at),
         Token::Open => {
             set_byte(out, at, b'(');
             at + 1
@@ -77,32 +77,32 @@ fn write_token(column: &Column, token: Token, state: usize, out: &mut [u8], at: 
 }
 
 // The tokens from `from` to `to` less 1. After a union's open its alternatives are written by the same function on the inner range, which is shorter.
-// The column is that of the state reached so far.
+// The classes are those of the column of the state reached so far.
 fn write_range(
-    column: &mut Column,
+    image: &Image,
+    classes: &mut [u64; 256],
     kinds: &[u8; 512],
     out: &mut [u8],
     at: usize,
     from: usize,
     to: usize,
 ) -> usize
-    requires { (from ≤ to) × (to < column.old.image.sections.states) × (at ≤ 4096 * from) × (column.old.number ≡ from / 64) }
-    ensures place { result ≡ at + length_of (range_text column.old.image.words.now column.old.image.sections.width kinds.now (to - from) from) }
-    ensures written { out.new ≡ sets out.old at (range_text column.old.image.words.now column.old.image.sections.width kinds.now (to - from) from) }
+    requires { (from ≤ to) × (to < image.now.sections.states) × (at ≤ 4096 * from) × ColumnOf image.now.words.now image.now.sections.width (from / 64) classes.old }
+    ensures place { result ≡ at + length_of (range_text image.now.words.now image.now.sections.width kinds.now (to - from) from) }
+    ensures written { out.new ≡ sets out.old at (range_text image.now.words.now image.now.sections.width kinds.now (to - from) from) }
     ensures bound { result ≤ 4096 * to }
-    ensures image { column.new.image ≡ column.old.image }
-    ensures number { column.new.number ≡ to / 64 }
+    ensures column { ColumnOf image.now.words.now image.now.sections.width (to / 64) classes.new }
 {
     let mut p = at;
     let mut i = from;
     // No for: a union's inner range is passed in one turn.
     while i < to {
-        column.move_on(i + 1);
+        move_on(image, i + 1, classes);
         let token = read_kind(kinds[i]);
-        let next = write_token(column, token, i + 1, out, p);
+        let next = write_token(classes, token, i + 1, out, p);
         if let Token::Open = token {
             let close = close_of(kinds, i + 1, to);
-            let end = write_range(column, kinds, out, next, i + 1, close);
+            let end = write_range(image, classes, kinds, out, next, i + 1, close);
             p = end;
             i = close;
         } else {
@@ -119,6 +119,7 @@ pub fn write_tokens(image: &Image, kinds: &[u8; 512], length: usize, out: &mut [
     ensures place { result ≡ length_of (range_text image.now.words.now image.now.sections.width kinds.now length 0) }
     ensures written { out.new ≡ sets out.old 0 (range_text image.now.words.now image.now.sections.width kinds.now length 0) }
 {
-    let mut column = Column::first(*image);
-    write_range(&mut column, kinds, out, 0, 0, length)
+    let mut classes = [0u64; 256];
+    put_column(image, 0, &mut classes);
+    write_range(image, &mut classes, kinds, out, 0, 0, length)
 }

@@ -1,6 +1,6 @@
 -- TOKENS ONE AFTER ANOTHER: a range's text is that of its first tokens and then that of the rest, wherever it is cut; each token takes at most
 -- 4096 bytes, which bounds the places.
-use mathlib.Core.Path.{◌≡◌, sym, ap, ap₂, ◌∙◌, subst}
+use mathlib.Core.Path.{◌≡◌, sym, ap, ap₂, ◌∙◌}
 use mathlib.Core.List.{List, ◌++◌, append_assoc, append-nil}
 use Prim.Native.Nat.{ℕ, zero, suc, ◌+◌, ◌-◌, ◌*◌, ◌/◌, ◌%◌, ◌≤◌}
 use native.Mathlib.Nat.{add-zero, zero-add}
@@ -8,8 +8,6 @@ use native.Mathlib.Omega.{arith}
 use lib.ListN.{get_or, length}
 use Rattle.model.specs.Image.{join}
 use Rattle.image_classes.specs.Classes.{class_in, class_to, ColumnOf}
-use Rattle.image_classes.specs.declared.column.Column.{Column}
-use Rattle.image_sections.specs.declared.image.Image.{Image}
 use Rattle.tokens.specs.Kinds.{read_kind}
 use Rattle.tokens.specs.declared.token.Token.{Token}
 use Rattle.writing_letters.proofs.Laws.Texts.{Writes, writes_as, writes_then}
@@ -57,12 +55,6 @@ module _ (g : ℕ → List ℕ) (before : List ℕ) (at from : ℕ) where
 -- ---- THE TOKENS OF A TAPE
 abbrev pub tokens_of : List ℕ → ℕ → List ℕ → ℕ → List ℕ
 tokens_of ws W kinds i = token_text (class_to ws W (suc i)) (read_kind (get_or kinds i 0))
-
--- what a column has for its own image and number it has for those that they are
-pub column_of : (column : Column) {image : Image} → column.image ≡ image → {n : ℕ} → column.number ≡ n → ColumnOf image.words.now image.sections.width n column.classes
-column_of column e {n} d =
-    subst (λ (y : Image). ColumnOf y.words.now y.sections.width n column.classes) e
-    (subst (λ (k : ℕ). ColumnOf column.image.words.now column.image.sections.width k column.classes) d column.filled)
 
 -- one token more, by the class that the column at hand has for its state
 pub wrote_token : (ws : List ℕ) (W : ℕ) (kinds before : List ℕ) (at from : ℕ) {i : ℕ} {now : List ℕ} {p : ℕ}

@@ -26,7 +26,7 @@ returns c =
     let a = c.args in
     let k = c.write_class-p.ensures in
     let r = c.write_sign.ensures in
-    let said = writes_then a.out.now a.at (class_writing (class_in a.column.now.classes (a.state % 64))) (repeat_writing (repeat_of a.repeat))
+    let said = writes_then a.out.now a.at (class_writing (class_in a.classes.now (a.state % 64))) (repeat_writing (repeat_of a.repeat))
     (writes_as a.out.now a.at (ap (λ (w : List ℕ). class_writing (value w)) c.class_of-class.ensures) (k.place, k.written))
     (r.place, r.written) in
     record { place = said.0; written = said.1 }

@@ -11,5 +11,5 @@ pub returns-in-Letter : goal.returns-in-Letter
 returns-in-Letter c =
     let a = c.args in
     let w = c.write_letter.ensures in
-    let said = writes_as a.out.now a.at (sym (ap (λ (y : Token). token_text (class_in a.column.now.classes (a.state % 64)) y) c.in-Letter.is)) (w.place, w.written) in
+    let said = writes_as a.out.now a.at (sym (ap (λ (y : Token). token_text (class_in a.classes.now (a.state % 64)) y) c.in-Letter.is)) (w.place, w.written) in
     record { place = said.0; written = said.1 }

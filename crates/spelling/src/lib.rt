@@ -36,6 +36,7 @@ pub fn check_spelling(
 }
 
 // Places and length first, and then the states. One pass for each byte: a short proposal costs little.
+// No record of the proposal: it comes in as the three arguments of the C interface, and goes on as two of them once its length is known.
 fn is_right(image: &Image, text: &[u8], start: usize, end: usize, states: &[u32]) -> bool
     ensures { RightSays image.now.words.now text.now start end states.now result }
 {

@@ -11,7 +11,7 @@ ghost use Rattle.spelling.specs.Work.{RightSays};
 
 use crate::follow::follow;
 use answers::Refusal;
-use image_check::check;
+use image_check::{Checked, check};
 use image_sections::Image;
 use run_edges::Edges;
 
@@ -26,16 +26,18 @@ pub fn check_spelling(
 ) -> Result<bool, Refusal>
     ensures { CheckSays image.now text.now start end states.now (judgement result) }
 {
-    let Some(checked) = check(image) else {
+    // The image alone is kept, so that the tape's place on the stack is free for the masks of work.
+    let Some(Checked { image: found, .. }) = check(image) else {
         return Err(Refusal::NotAnImage);
     };
     if text.len() > 65535 {
         return Err(Refusal::TextTooLong);
     }
-    Ok(is_right(&checked.image, text, start, end, states))
+    Ok(is_right(&found, text, start, end, states))
 }
 
 // Places and length first, and then the states. One pass for each byte: a short proposal costs little.
+// No record of the proposal: it comes in as the three arguments of the C interface, and goes on as two of them once its length is known.
 fn is_right(image: &Image, text: &[u8], start: usize, end: usize, states: &[u32]) -> bool
     ensures { RightSays image.now.words.now text.now start end states.now result }
 {

@@ -11,6 +11,7 @@ use mask::logic::and;
 use run_edges::Edges;
 
 // The sets of the places after lo up to hi, from that of hi.
+// No record of text, lo and hi: the clauses name each of the three, and would grow by more than the two functions that take them would save.
 fn fill(origins: &Origins, text: &[u8], lo: usize, hi: usize, set: [u64; 8], sets: &mut Kept)
     requires { Stretch text.now lo hi }
     ensures { FillSays origins.now.edges.now.image.words.now text.now lo hi set sets.new }

@@ -38,7 +38,8 @@ fn read_member(text: &[u8]) -> Result<(Class, &[u8]), &[u8]>
     read_upper(rest, lo)
 }
 
-// A class, after its `[`: one or more members and `]`.
+// A class, after its `[`: one or more members and `]`. A call of its own: so the frames of those who read brackets stay small.
+#[inline(never)]
 fn read_members(text: &[u8]) -> Result<(Class, &[u8]), &[u8]>
     ensures { ClassTells text.now result }
 {

@@ -30,7 +30,7 @@ pub struct Proposed {
 }
 
 impl Refusal {
-    // The number of a refusal.
+    // The number of a refusal, the documents' and C's: the one place in code that has the numbers.
     pub fn number(self) -> u64
         ensures { result ≡ number_of self }
     {

@@ -16,7 +16,7 @@ use crate::parts::Part;
 use crate::readers::read_alternatives;
 use answers::Refusal;
 
-// The tree of a rule: how many states it has, and its tokens, five words for each, with 0 after them.
+// The tree of a rule: how many states it has, and its tokens, five words for each, with 0 after them (an array and a number: fixed memory, no heap).
 #[derive(Clone, Copy)]
 pub struct Tree {
     pub states: usize,

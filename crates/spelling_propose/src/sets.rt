@@ -22,7 +22,7 @@ pub fn either(a: [u64; 8], b: [u64; 8]) -> [u64; 8]
     r.words
 }
 
-// The lowest state of a row; 0 where it has none.
+// The lowest state of a row; 0 where it has none. No `Option`: its one caller has a row with a state, and would have to show that once more.
 pub fn lowest(row: [u64; 8]) -> usize
     ensures { LowestSays row result }
 {

@@ -1,4 +1,6 @@
 // Kinds: the numbers that stand for tokens. A tape has them as bytes, and a row of tokens has each as the first of a token's five words.
+// Numbers, and no enum: lay out answers for tapes of any bytes (`OnTapeSays`), and a type of nine values would ask more of whoever calls it. Functions, and no
+// `From`: the numbers are of one table for two enums, which `mark_kind(mark)` says and `u8::from(mark)` would not.
 ghost use Rattle.std.specs.Prelude.{◌≡◌};
 ghost use Rattle.tokens.specs.Kinds.{kind_in, mark_kind, read_kind, repeat_kind};
 ghost use Rattle.tokens.specs.Tokens.{mark_of, repeat_of};

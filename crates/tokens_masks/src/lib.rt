@@ -22,7 +22,7 @@ use tokens::kind::read_kind;
 use tokens::token::Token;
 use tokens::{begin_scan, fits, innermost, is_ended, no_frame, step_over};
 
-// The first `length` of the kinds are a tree's tokens (crate `tokens`, module `kind`).
+// The first `length` of the kinds are a tree's tokens (crate `tokens`, module `kind`). An array with a length: fixed memory, no heap.
 #[derive(Clone, Copy)]
 pub struct Tape {
     pub kinds: [u8; 512],

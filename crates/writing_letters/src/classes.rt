@@ -8,7 +8,8 @@ ghost use Rattle.writing_letters.specs.Runs.{FirstIn, FirstOut};
 
 use crate::{set_byte, write_byte, write_run};
 
-// The first byte of the class from b on; 256 if there is none. What is left of a word is looked at as a whole.
+// The first byte of the class from b on; 256 if there is none, the end at which the loop over the runs stops: an `Option` would have to be made that end
+// again. What is left of a word is looked at as a whole.
 fn next_in(class: [u64; 4], b: usize) -> usize
     requires { b ≤ 256 }
     ensures { FirstIn (value class) b result }

@@ -1,12 +1,13 @@
 -- ALTERNATIVES MADE ONE ITEM: what `group` and its callers read and write.
 use Rattle.std.specs.Prelude.{◌≡◌, Bool, true, List, ℕ, Ok, Result}
-use Rattle.std.specs.Borrow.{Bor}
 use Rattle.model.specs.Bytes.{byte}
 use Rattle.model.specs.Edges.{alts_empty}
 use Rattle.model.specs.Grammar.{bracket, grouped}
 use Rattle.model.specs.Models.Reader.{bind, got, past, Read, read_mark}
 use Rattle.model.specs.Models.Tokens.{several}
 use Rattle.model.specs.Tree.{Alts, Repeat, Seq}
+use Rattle.rule_bytes.specs.Places.{Took}
+use Rattle.rule_bytes.specs.declared.Unreadable.{Unreadable}
 use Rattle.rule.specs.Parts.{AlternativesSay, PartSays, seq_tokens}
 use Rattle.rule.specs.Tokens.{between, Stands}
 use Rattle.rule.specs.declared.parts.Alternatives.{Alternatives}
@@ -20,17 +21,18 @@ Groups n next v e k now after r =
 
 -- ---- alternatives that were read
 -- a whole rule's, as one item
-abbrev pub WholeSays : Read Alts → List ℕ → List ℕ → Part → Type 0
-WholeSays m before after r = (a : Alts) × (m ≡ got a r.rest.now) × Stands before after 0 r.next (seq_tokens (bracket a))
+abbrev pub WholeSays : List ℕ → Read Alts → List ℕ → List ℕ → Part → Type 0
+WholeSays rule m before after r = (a : Alts) × Took rule m a r.place × Stands before after 0 r.next (seq_tokens (bracket a))
 
 abbrev pub Wholes : Alternatives → List ℕ → List ℕ → Part → Type 0
-Wholes alternatives now after r = (m : Read Alts) (before : List ℕ) → AlternativesSay 0 m before now (Ok alternatives) → WholeSays m before after r
+Wholes alternatives now after r =
+    (rule : List ℕ) (m : Read Alts) (before : List ℕ) → AlternativesSay rule 0 m before now (Ok alternatives) → WholeSays rule m before after r
 
 -- bracketed ones, before their `)`
 abbrev pub closed : Read Alts → Read Seq
 closed m = bind m (λ a r. bind (past (byte ")") r) (λ y r'. bind (read_mark r') (λ k r''. got (grouped a k) r'')))
 
 -- whatever was read into the buffer as it was before, closing it is what the model does
-abbrev pub Closes : ℕ → Alternatives → List ℕ → List ℕ → Result Part (Bor (List ℕ)) → Type 0
-Closes n alternatives now after r =
-    (m : Read Alts) (before : List ℕ) → AlternativesSay n m before now (Ok alternatives) → PartSays true n (closed m) before after r
+abbrev pub Closes : List ℕ → ℕ → Alternatives → List ℕ → List ℕ → Result Part Unreadable → Type 0
+Closes rule n alternatives now after r =
+    (m : Read Alts) (before : List ℕ) → AlternativesSay rule n m before now (Ok alternatives) → PartSays true rule n (closed m) before after r

@@ -1,5 +1,5 @@
 -- WHAT READING A RULE SAYS: the rows of build's table up to number 3, in the terms of document 01, and the tokens of the tree.
-use Rattle.std.specs.Prelude.{◌≡◌, cond, List, [], ℕ, ◌+◌, ◌-◌, ◌≤◌, ◌<◌, ltb, length, Result, Ok, Err}
+use Rattle.std.specs.Prelude.{◌≡◌, cond, List, [], ℕ, ◌+◌, ◌≤◌, ◌<◌, ltb, length, Result, Ok, Err}
 use Rattle.model.specs.Edges.{states}
 use Rattle.model.specs.Grammar.{IsRule}
 use Rattle.model.specs.Models.Tokens.{tokens}
@@ -23,5 +23,4 @@ pub data ReadSays (rule : List ℕ) (r : Result Tree Refusal) : Type 0 where
 
 -- how many states, by the whole rule read as one item, and the rule's length
 abbrev pub states_of : Part → ℕ → Result ℕ Refusal
-states_of whole n =
-    cond (ltb 0 (length whole.rest.now)) (Err (NotARule (n - length whole.rest.now))) (cond (ltb 511 whole.next) (Err TooManyStates) (Ok (whole.next + 1)))
+states_of whole n = cond (ltb whole.place n) (Err (NotARule whole.place)) (cond (ltb 511 whole.next) (Err TooManyStates) (Ok (whole.next + 1)))

@@ -1,7 +1,8 @@
 // Groups: alternatives made one item. "A bracketed group may take `?`. The tree keeps it as a union .. But a `?` on a group that can already be empty
 // is dropped" (document 02, Wish 3). "A bracketed group may take `*` .. `+` on a group is the group and then its `*`" (Wish 12).
-ghost use Rattle.std.specs.Prelude.{◌≡◌};
-ghost use Rattle.model.specs.Models.Reader.{got, read_mark};
+ghost use Rattle.std.specs.Prelude.{◌≡◌, ◌≤◌, drop, length};
+ghost use Rattle.rule_bytes.specs.Places.{Took};
+ghost use Rattle.model.specs.Models.Reader.{read_mark};
 ghost use Rattle.model.specs.Models.Tokens.{shown as shownOf};
 ghost use Rattle.model.specs.Tree.{once, unmarked};
 ghost use Rattle.tokens.specs.Tokens.{mark_of, repeat_of};
@@ -10,18 +11,28 @@ ghost use Rattle.rule.specs.Tokens.{Numbered};
 
 use crate::parts::{Alternatives, Part};
 use crate::rows::{double, enclose};
+use rule_bytes::{Unreadable, byte_at};
 use tokens::token::{Mark, Repeat, can_skip};
 
+// The sign of a group, and the place after it.
+#[derive(Clone, Copy)]
+struct GroupSign {
+    repeat: Repeat,
+    place: usize,
+}
+
 // The sign of a group, if it has one that a group may take; any other byte is left to those who read on.
-fn read_mark(text: &[u8]) -> (Repeat, &[u8])
-    ensures { got (repeat_of result.0) result.1.now ≡ read_mark text.now }
+fn read_mark(rule: &[u8], at: usize) -> GroupSign
+    requires { (at ≤ length rule.now) × (length rule.now ≤ 1024) }
+    ensures { Took rule.now (read_mark (drop at rule.now)) (repeat_of result.repeat) result.place }
 {
-    match text {
-        [b'?', rest @ ..] => (Repeat::Option, rest),
-        [b'*', rest @ ..] => (Repeat::Star, rest),
-        [b'+', rest @ ..] => (Repeat::Plus, rest),
-        _ => (Repeat::Once, text),
-    }
+    let (repeat, place) = match byte_at(rule, at) {
+        b'?' => (Repeat::Option, at + 1),
+        b'*' => (Repeat::Star, at + 1),
+        b'+' => (Repeat::Plus, at + 1),
+        _ => (Repeat::Once, at),
+    };
+    GroupSign { repeat, place }
 }
 
 // What the close of a union without a mark of its own shows: whether an alternative can be empty.
@@ -81,45 +92,46 @@ fn group(
 }
 
 // The alternatives of a whole rule as one item.
-pub fn bracket<'a>(tokens: &mut [u64; 2555], alternatives: Alternatives<'a>) -> Part<'a>
+pub fn bracket(tokens: &mut [u64; 2555], alternatives: Alternatives) -> Part
     requires { Numbered 0 alternatives.next }
-    ensures { Wholes alternatives.entry tokens.old tokens.new result }
+    ensures { Wholes alternatives tokens.old tokens.new result }
 {
     let Alternatives {
-        rest,
+        place,
         next,
         several,
         empty,
     } = alternatives;
     Part {
-        rest,
+        place,
         next: unite(tokens, 0, next, several, empty),
         empty,
     }
 }
 
 // Bracketed alternatives, before their `)`.
-pub fn close_item<'a>(
+pub fn close_item(
+    rule: &[u8],
     tokens: &mut [u64; 2555],
     n: usize,
-    alternatives: Alternatives<'a>,
-) -> Result<Part<'a>, &'a [u8]>
-    requires { Numbered n alternatives.next }
-    ensures { Closes n alternatives.entry tokens.old tokens.new result }
+    alternatives: Alternatives,
+) -> Result<Part, Unreadable>
+    requires { (length rule.now ≤ 1024) × Numbered n alternatives.next }
+    ensures { Closes rule.now n alternatives tokens.old tokens.new result }
 {
-    let [b')', after @ ..] = alternatives.rest else {
-        return Err(alternatives.rest);
-    };
     let Alternatives {
+        place,
         next,
         several,
         empty,
-        ..
     } = alternatives;
-    let (repeat, rest) = read_mark(after);
+    if byte_at(rule, place) != b')' {
+        return Err(Unreadable(place));
+    }
+    let sign = read_mark(rule, place + 1);
     Ok(Part {
-        rest,
-        next: group(tokens, n, next, several, empty, repeat),
-        empty: can_skip(repeat) | empty,
+        place: sign.place,
+        next: group(tokens, n, next, several, empty, sign.repeat),
+        empty: can_skip(sign.repeat) | empty,
     })
 }

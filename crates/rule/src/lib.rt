@@ -1,9 +1,9 @@
-// Rules read: document 01, "The grammar". Readers are given the rest of a rule, go over it letter by letter (crate rule_letters), and answer the bytes
-// after what they read, or the bytes from the first one on that cannot be read. What an answer says is defined in specs/Parts.antt.
+// Rules read: document 01, "The grammar". Readers go over the rule's bytes from a place on, letter by letter (crate rule_letters), and answer the place
+// after what they read, or the place of the first byte that cannot be read. What an answer says is defined in specs/Parts.antt.
 
 #![tactic(auto)]
 
-ghost use Rattle.std.specs.Prelude.{◌≡◌, ◌≤◌, length as length_of};
+ghost use Rattle.std.specs.Prelude.{◌≡◌};
 ghost use Rattle.rule.specs.Says.{ReadSays, states_of};
 
 mod groups;
@@ -26,11 +26,10 @@ pub struct Tree {
 // How many states a rule's tree has, by its alternatives, read as one item, and the rule's length: refused with 2 and its place, or 3 (document 01,
 // "Numbers given back"). Bytes after the alternatives are refused where these end: no rule goes on there.
 fn count_states(whole: Part, length: usize) -> Result<usize, Refusal>
-    requires { length_of whole.rest.now ≤ length }
-    ensures { result ≡ states_of whole.entry length }
+    ensures { result ≡ states_of whole length }
 {
-    if !whole.rest.is_empty() {
-        return Err(Refusal::NotARule(length - whole.rest.len()));
+    if whole.place < length {
+        return Err(Refusal::NotARule(whole.place));
     }
     if whole.next > 511 {
         return Err(Refusal::TooManyStates);
@@ -46,10 +45,8 @@ pub fn read_rule(rule: &[u8]) -> Result<Tree, Refusal>
         return Err(Refusal::RuleTooLong);
     }
     let mut tokens = [0; 2555];
-    let alternatives = match read_alternatives(rule, &mut tokens, 0) {
-        Ok(alternatives) => alternatives,
-        Err(rest) => return Err(Refusal::NotARule(rule.len() - rest.len())),
-    };
+    let read = read_alternatives(rule, 0, &mut tokens, 0);
+    let alternatives = read.map_err(|e| Refusal::NotARule(e.0))?;
     let whole = bracket(&mut tokens, alternatives);
     let states = count_states(whole, rule.len())?;
     Ok(Tree { states, tokens })

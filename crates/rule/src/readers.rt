@@ -1,6 +1,6 @@
 // The three readers that call each other: "Alternatives hold sequences, sequences hold items, items hold alternatives" (document 01). Each writes
 // the tokens of what it reads from token n on. The bytes that remain fall from call to call, so brackets may nest as deep as the rule is long.
-ghost use Rattle.std.specs.Prelude.{true, ◌≡◌, ℕ};
+ghost use Rattle.std.specs.Prelude.{true, ◌≡◌, ℕ, drop};
 ghost use Rattle.model.specs.Edges.{seq_empty};
 ghost use Rattle.model.specs.Grammar.{IsItem, IsSeq, repeated};
 ghost use Rattle.model.specs.Models.Places.{free, Piece};
@@ -12,6 +12,7 @@ ghost use Rattle.rule.specs.Parts.{after_letter, AlternativesTell, PartSays, Par
 use crate::groups::close_item;
 use crate::parts::{Alternatives, Part};
 use crate::rows::{put_letter, put_union};
+use rule_bytes::{Unreadable, byte_at};
 use rule_letters::{Class, read_letter};
 use rule_signs::{HowOften, read_sign};
 use tokens::kind::BAR;
@@ -28,104 +29,116 @@ fn can_be_left_out(how_often: HowOften) -> bool
 }
 
 // The repeat sign of a letter.
-fn read_repeated<'a>(
-    text: &'a [u8],
+fn read_repeated(
+    rule: &[u8],
+    at: usize,
     class: Class,
     tokens: &mut [u64; 2555],
     n: usize,
-) -> Result<Part<'a>, &'a [u8]>
-    requires { Ready tokens.old n }
-    ensures { PartSays true n (after_letter (bytes_of class) text.now) tokens.old tokens.new result }
+) -> Result<Part, Unreadable>
+    requires { Ready rule.now at tokens.old n }
+    ensures { PartSays true rule.now n (after_letter (bytes_of class) (drop at rule.now)) tokens.old tokens.new result }
 {
-    let (how_often, rest) = read_sign(text)?;
+    let (how_often, place) = read_sign(rule, at)?;
     Ok(Part {
-        rest,
+        place,
         next: put_letter(tokens, n, class, how_often),
         empty: can_be_left_out(how_often),
     })
 }
 
 // A letter with at most one repeat sign.
-fn read_piece<'a>(text: &'a [u8], tokens: &mut [u64; 2555], n: usize) -> Result<Part<'a>, &'a [u8]>
-    requires { Ready tokens.old n }
-    ensures { PartTells Piece free read_piece text.now n tokens.old tokens.new result }
+fn read_piece(
+    rule: &[u8],
+    at: usize,
+    tokens: &mut [u64; 2555],
+    n: usize,
+) -> Result<Part, Unreadable>
+    requires { Ready rule.now at tokens.old n }
+    ensures { PartTells Piece free read_piece rule.now at n tokens.old tokens.new result }
 {
-    let (class, rest) = read_letter(text)?;
-    read_repeated(rest, class, tokens, n)
+    let (class, place) = read_letter(rule, at)?;
+    read_repeated(rule, place, class, tokens, n)
 }
 
 // Whether a sequence is over here: before `|`, before `)` and at the end.
-fn is_over(text: &[u8]) -> bool
-    ensures { result ≡ over text.now }
+fn is_over(rule: &[u8], at: usize) -> bool
+    ensures { result ≡ over (drop at rule.now) }
 {
-    matches!(text, [] | [b'|' | b')', ..])
+    if at >= rule.len() {
+        return true;
+    }
+    let x = rule[at];
+    x == b'|' || x == b')'
 }
 
 // A letter with at most one repeat sign, or bracketed alternatives, with `?`, `*` or `+` or without.
 #[cycle(read_alternatives_read_item_read_sequence)]
-fn read_item<'a>(text: &'a [u8], tokens: &mut [u64; 2555], n: usize) -> Result<Part<'a>, &'a [u8]>
-    requires { Ready tokens.old n }
-    ensures { PartTells IsItem free item_of text.now n tokens.old tokens.new result }
+fn read_item(rule: &[u8], at: usize, tokens: &mut [u64; 2555], n: usize) -> Result<Part, Unreadable>
+    requires { Ready rule.now at tokens.old n }
+    ensures { PartTells IsItem free item_of rule.now at n tokens.old tokens.new result }
 {
-    if let [b'(', rest @ ..] = text {
-        let alternatives = read_alternatives(rest, tokens, n)?;
-        return close_item(tokens, n, alternatives);
+    if byte_at(rule, at) != b'(' {
+        return read_piece(rule, at, tokens, n);
     }
-    read_piece(text, tokens, n)
+    let alternatives = read_alternatives(rule, at + 1, tokens, n)?;
+    close_item(rule, tokens, n, alternatives)
 }
 
 // One or more items. "An item that isn't read ends the whole reading at once."
 #[cycle(read_alternatives_read_item_read_sequence)]
-fn read_sequence<'a>(
-    text: &'a [u8],
+fn read_sequence(
+    rule: &[u8],
+    at: usize,
     tokens: &mut [u64; 2555],
     n: usize,
-) -> Result<Part<'a>, &'a [u8]>
-    requires { Ready tokens.old n }
-    ensures { PartTells IsSeq over seq text.now n tokens.old tokens.new result }
+) -> Result<Part, Unreadable>
+    requires { Ready rule.now at tokens.old n }
+    ensures { PartTells IsSeq over seq rule.now at n tokens.old tokens.new result }
 {
-    let mut rest = text;
+    let mut place = at;
     let mut next = n;
     let mut empty = true;
-    // No for: the rest is what an item leaves.
+    // No for: the place moves on by what was read.
     loop {
-        let answer = read_item(rest, tokens, next);
+        let answer = read_item(rule, place, tokens, next);
         let Ok(item) = answer else {
             return answer;
         };
-        rest = item.rest;
+        place = item.place;
         next = item.next;
         empty = empty & item.empty;
-        if is_over(rest) {
-            return Ok(Part { rest, next, empty });
+        if is_over(rule, place) {
+            return Ok(Part { place, next, empty });
         }
     }
 }
 
 // One or more sequences, with `|` between them.
 #[cycle(read_alternatives_read_item_read_sequence)]
-pub fn read_alternatives<'a>(
-    text: &'a [u8],
+pub fn read_alternatives(
+    rule: &[u8],
+    at: usize,
     tokens: &mut [u64; 2555],
     n: usize,
-) -> Result<Alternatives<'a>, &'a [u8]>
-    requires { Ready tokens.old n }
-    ensures { AlternativesTell text.now n tokens.old tokens.new result }
+) -> Result<Alternatives, Unreadable>
+    requires { Ready rule.now at tokens.old n }
+    ensures { AlternativesTell rule.now at n tokens.old tokens.new result }
 {
-    let Part { rest, next, empty } = read_sequence(text, tokens, n)?;
-    if let [b'|', after @ ..] = rest {
-        let to = put_union(tokens, next, BAR);
-        let others = read_alternatives(after, tokens, to)?;
+    let first = read_sequence(rule, at, tokens, n)?;
+    if byte_at(rule, first.place) != b'|' {
         return Ok(Alternatives {
-            several: true,
-            empty: empty | others.empty,
-            ..others
+            place: first.place,
+            next: first.next,
+            several: false,
+            empty: first.empty,
         });
     }
+    let after = put_union(tokens, first.next, BAR);
+    let rest = read_alternatives(rule, first.place + 1, tokens, after)?;
     Ok(Alternatives {
-        rest,
-        next,
-        several: false,
-        empty,
+        several: true,
+        empty: first.empty | rest.empty,
+        ..rest
     })
 }

@@ -1,3 +1,3 @@
--- Kinds: the kinds of the table. Readers: what the readers' answers say.
+-- Kinds: the kinds of the table. Places: what the readers' answers say.
 pub mod Kinds
-pub mod Readers
+pub mod Places

@@ -1,8 +1,9 @@
-// The kinds of the bytes of a rule, "A 256-entry table gives each byte its kind" (document 01), with the tests that the readers make by it.
+// The bytes of a rule: the byte at a place, and its kind, "A 256-entry table gives each byte its kind" (document 01), with the tests that the readers
+// make by it.
 
 #![tactic(auto)]
 
-ghost use Rattle.std.specs.Prelude.{◌≡◌, ◌∷◌};
+ghost use Rattle.std.specs.Prelude.{◌≡◌, ◌∷◌, get_or};
 ghost use Rattle.model.specs.Bytes.{byte, digital, hexadecimal, kind, plain, signs};
 ghost use Rattle.model.specs.Grammar.{bare};
 ghost use Rattle.model.specs.Lists.{within};
@@ -123,3 +124,14 @@ pub fn is_escaped(b: u8) -> bool
 {
     b == b'-' || is_sign(b)
 }
+
+// The byte at a place; at the rule's end 0, which no reader takes.
+pub fn byte_at(rule: &[u8], at: usize) -> u8
+    ensures { result ≡ get_or rule.now at 0 }
+{
+    rule.get(at).copied().unwrap_or(0)
+}
+
+// The place of the first byte of a rule that cannot be read.
+#[derive(Clone, Copy)]
+pub struct Unreadable(pub usize);

@@ -1,10 +1,10 @@
 // Escapes, after their `\`. A reader is told the least byte lo that will do, and stops where no byte of at least lo can come any more.
-ghost use Rattle.std.specs.Prelude.{true, ◌≡◌, ◌≤◌};
+ghost use Rattle.std.specs.Prelude.{true, ◌≡◌, ◌≤◌, drop, length};
 ghost use Rattle.model.specs.Bytes.{hexadecimal};
 ghost use Rattle.model.specs.Models.Reader.{hex_value, read_escape, read_hex, read_hexes};
-ghost use Rattle.rule_letters.specs.Answers.{byte_read};
+ghost use Rattle.rule_letters.specs.Answers.{ByteSays};
 
-use rule_bytes::{is_escaped, is_hex};
+use rule_bytes::{Unreadable, byte_at, is_escaped, is_hex};
 
 fn hex_value(x: u8) -> u8
     requires { hexadecimal x ≡ true }
@@ -18,43 +18,51 @@ fn hex_value(x: u8) -> u8
 }
 
 // The second hex digit, after the first one h.
-fn read_hex(text: &[u8], lo: u8, h: u8) -> Result<(u8, &[u8]), &[u8]>
-    requires { h ≤ 15 }
-    ensures { byte_read result ≡ read_hex lo h text.now }
+fn read_hex(rule: &[u8], at: usize, lo: u8, h: u8) -> Result<(u8, usize), Unreadable>
+    requires { (at ≤ length rule.now) × (h ≤ 15) }
+    ensures { ByteSays rule.now (read_hex lo h (drop at rule.now)) result }
 {
-    if let [x, rest @ ..] = text
-        && is_hex(*x)
-    {
-        let b = 16 * h + hex_value(*x);
-        if lo <= b {
-            return Ok((b, rest));
-        }
+    let x = byte_at(rule, at);
+    if !is_hex(x) {
+        return Err(Unreadable(at));
     }
-    Err(text)
+    let b = 16 * h + hex_value(x);
+    if b < lo {
+        return Err(Unreadable(at));
+    }
+    Ok((b, at + 1))
 }
 
 // Two hex digits, after `\x`.
-fn read_hexes(text: &[u8], lo: u8) -> Result<(u8, &[u8]), &[u8]>
-    ensures { byte_read result ≡ read_hexes lo text.now }
+fn read_hexes(rule: &[u8], at: usize, lo: u8) -> Result<(u8, usize), Unreadable>
+    requires { at ≤ length rule.now }
+    ensures { ByteSays rule.now (read_hexes lo (drop at rule.now)) result }
 {
-    if let [x, rest @ ..] = text
-        && is_hex(*x)
-    {
-        let h = hex_value(*x);
-        if lo <= 16 * h + 15 {
-            return read_hex(rest, lo, h);
-        }
+    let x = byte_at(rule, at);
+    if !is_hex(x) {
+        return Err(Unreadable(at));
     }
-    Err(text)
+    let h = hex_value(x);
+    if 16 * h + 15 < lo {
+        return Err(Unreadable(at));
+    }
+    read_hex(rule, at + 1, lo, h)
 }
 
 // An escape, after its `\`.
-pub fn read_escape(text: &[u8], lo: u8) -> Result<(u8, &[u8]), &[u8]>
-    ensures { byte_read result ≡ read_escape lo text.now }
+pub fn read_escape(rule: &[u8], at: usize, lo: u8) -> Result<(u8, usize), Unreadable>
+    requires { at ≤ length rule.now }
+    ensures { ByteSays rule.now (read_escape lo (drop at rule.now)) result }
 {
-    match text {
-        [x, rest @ ..] if is_escaped(*x) && lo <= *x => Ok((*x, rest)),
-        [b'x', rest @ ..] => read_hexes(rest, lo),
-        _ => Err(text),
+    let x = byte_at(rule, at);
+    if is_escaped(x) {
+        if x < lo {
+            return Err(Unreadable(at));
+        }
+        return Ok((x, at + 1));
     }
+    if x != b'x' {
+        return Err(Unreadable(at));
+    }
+    read_hexes(rule, at + 1, lo)
 }

@@ -5,18 +5,23 @@ use mathlib.Core.Bool.{Bool, true, false, ◌||◌, and-true, cond}
 use mathlib.Core.List.{List, [], ◌∷◌, ◌++◌}
 use Prim.Native.Nat.{ℕ, ◌+◌, ◌-◌, ◌≤◌}
 use native.Mathlib.Omega.{arith}
+use lib.ListN.{drop, get_or}
 use Rattle.model.specs.Bytes.{byte}
 use Rattle.model.specs.Edges.{alts_empty, seq_empty}
 use Rattle.model.specs.Grammar.{bracket, cycle, grouped}
-use Rattle.model.specs.Models.Reader.{bad, got, past, Read, read_mark}
+use Rattle.model.specs.Models.Reader.{bind, got, past, Read, read_mark}
 use Rattle.model.specs.Models.Tokens.{a_close, an_open, several, shown, Token}
 use Rattle.model.specs.Tree.{Alts, can_skip, end, last, more, once, option, optional, plus, Repeat, star, starred, union, unmarked}
 use Rattle.model.proofs.Image.Groups.{empty_bracket, empty_glue, option_tokens, plus_tokens, star_tokens}
-use Rattle.std.proofs.Common.{Bor, Ok}
+use Rattle.std.proofs.Common.{Ok}
+use Rattle.rule_bytes.specs.Places.{Stopped, Took}
 use Rattle.rule.specs.Groups.{closed}
 use Rattle.rule.specs.Parts.{AlternativesSay, PartSays, seq_tokens, Wrote}
 use Rattle.rule.specs.Tokens.{between, copied, cut, enclosed, Numbered, Stands}
 use Rattle.rule.specs.declared.parts.Alternatives.{Alternatives}
+use Rattle.rule_bytes.proofs.Laws.Binds.{bind_stops}
+use Rattle.rule_bytes.proofs.Laws.Places.{inside}
+use Rattle.rule.proofs.Laws.Cycle.{past_one}
 use Rattle.rule.proofs.Laws.Rows.{alts_onto, tokens_onto}
 use Rattle.rule.proofs.Laws.Stands.{as_union, stands_again, stands_append, stands_union}
 
@@ -72,22 +77,23 @@ module _ (a : Alts) {before now : List ℕ} {n next : ℕ} (s : Stands before no
 
 -- ---- alternatives that were read
 -- the number of the token after them is counted
-pub says_counted : (n : ℕ) (m : Read Alts) (before now : List ℕ) (r : Alternatives) → n ≤ 512 → AlternativesSay n m before now (Ok r) → Numbered n r.next
-says_counted n m before now r h (a, w, s) = (omega (arith, w.stands.count), omega (arith, w.stands.count))
+pub says_counted : (rule : List ℕ) (n : ℕ) (m : Read Alts) (before now : List ℕ) (r : Alternatives) → n ≤ 512
+    → AlternativesSay rule n m before now (Ok r) → Numbered n r.next
+says_counted rule n m before now r h (a, w, s) = (omega (arith, w.stands.count), omega (arith, w.stands.count))
 
 -- before their `)`
-module _ (n : ℕ) (m : Read Alts) (before : List ℕ) where
-  module _ {now : List ℕ} {a : Alts} {rest : List ℕ} {next : ℕ} {e : Bool} (w : Wrote between alts_empty n m before now a rest next e) where
-    pub close_missing : past (byte ")") rest ≡ bad rest → closed m ≡ bad rest
-    close_missing o = ap closed w.took ∙ rw o
+module _ (rule : List ℕ) (n : ℕ) (m : Read Alts) (before : List ℕ) where
+  pub close_stops : {p : ℕ} → Stopped rule m p → Stopped rule (closed m) p
+  close_stops h = bind_stops (λ a r. bind (past (byte ")") r) (λ y r'. bind (read_mark r') (λ k r''. got (grouped a k) r''))) h
 
-    pub close_here : (behind : List ℕ) → past (byte ")") rest ≡ got tt behind → (k : Repeat) (q : Bor (List ℕ)) → got k q.now ≡ read_mark behind
-        → {after : List ℕ} {to : ℕ} → Stands before after n to (seq_tokens (grouped a k)) → {f : Bool} → f ≡ can_skip k
-        → PartSays true n (closed m) before after (Ok (record { rest = q; next = to; empty = f || e }))
-    close_here behind o k q t s c = (
+  module _ {now : List ℕ} {a : Alts} {p next : ℕ} {e : Bool} (w : Wrote between alts_empty rule n m before now a p next e) {x : ℕ} (g : x ≡ get_or rule p 0) where
+    pub close_here : x ≡ byte ")" → (k : Repeat) {q : ℕ} → Took rule (read_mark (drop (p + 1) rule)) k q → {after : List ℕ} {to : ℕ}
+        → Stands before after n to (seq_tokens (grouped a k)) → {f : Bool} → f ≡ can_skip k
+        → PartSays true rule n (closed m) before after (Ok (record { place = q; next = to; empty = f || e }))
+    close_here o k t s c = (
       grouped a k,
       record {
-        took = ap closed w.took ∙ rw (o, sym t);
+        took = record { reads = rw (w.took.reads, past_one rule p g (byte ")") (inside rule p g (λ z. omega (arith, z, o))) o, t.reads); inside = t.inside };
         stands = s;
         empties = ap₂ ◌||◌ c w.empties ∙ sym (grouped_empty a k);
       },

@@ -1,19 +1,28 @@
--- RANGES: what the model reads after the single lo, by whether `-` comes next.
-use mathlib.Core.Path.{◌≡◌, sym}
-use mathlib.Core.List.{List}
-use Prim.Native.Nat.{ℕ}
+-- SINGLES AND RANGES: what the models make of a list by its first byte.
+use mathlib.Core.Path.{◌≡◌}
+use mathlib.Core.Bool.{true, false}
+use mathlib.Core.List.{List, ◌∷◌}
+use Prim.Native.Nat.{ℕ, ◌≤◌, ◌<◌}
 use Rattle.model.specs.Bytes.{byte}
-use Rattle.model.specs.Grammar.{span}
-use Rattle.model.specs.Models.Reader.{bad, got, past, read_single}
+use Rattle.model.specs.Grammar.{bare, span}
+use Rattle.model.specs.Models.Reader.{bad, got, read_escape, read_single}
+use Rattle.model.proofs.Laws.Bool.{le_false, le_true, unequal}
 use Rattle.rule_letters.specs.Classes.{after_lower}
 
-module _ (lo : ℕ) (text : List ℕ) where
-  pub lower_alone : {v : ℕ} → v ≡ span lo lo → past (byte "-") text ≡ bad text → got v text ≡ after_lower lo text
-  lower_alone e p = rw (p, e)
+module _ (lo x : ℕ) (xs : List ℕ) where
+  -- ---- a single
+  pub single_low : bare x ≡ true → x < lo → read_single lo (x ∷ xs) ≡ bad (x ∷ xs)
+  single_low d l = rw (d, le_false lo x l)
 
-  module _ (rest : List ℕ) (p : past (byte "-") text ≡ got tt rest) where
-    pub upper_stops : {q : List ℕ} → bad q ≡ read_single lo rest → bad q ≡ after_lower lo text
-    upper_stops s = rw (p, sym s)
+  pub single_bare : bare x ≡ true → lo ≤ x → read_single lo (x ∷ xs) ≡ got x xs
+  single_bare d l = rw (d, le_true lo x l)
 
-    pub upper_goes : {hi v : ℕ} {q : List ℕ} → v ≡ span lo hi → got hi q ≡ read_single lo rest → got v q ≡ after_lower lo text
-    upper_goes e s = rw (p, sym s, e)
+  pub single_other : bare x ≡ false → (x ≡ byte "\\" → ⊥) → read_single lo (x ∷ xs) ≡ bad (x ∷ xs)
+  single_other d n = rw (d, unequal x (byte "\\") n)
+
+  pub single_escape : x ≡ byte "\\" → read_single lo (x ∷ xs) ≡ read_escape lo xs
+  single_escape e = rw e
+
+  -- ---- after the single lo
+  pub lower_alone : (x ≡ byte "-" → ⊥) → after_lower lo (x ∷ xs) ≡ got (span lo lo) (x ∷ xs)
+  lower_alone n = rw (unequal x (byte "-") n)

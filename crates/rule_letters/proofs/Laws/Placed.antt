@@ -1,23 +1,22 @@
 -- WHERE THE READERS STOP: what they answer is what the model read, and the model stops at its place.
-use mathlib.Core.Path.{◌≡◌, sym, subst}
-use mathlib.Core.List.{List, ◌∷◌}
+use mathlib.Core.List.{List}
 use Prim.Native.Nat.{ℕ, ◌≤◌}
-use Rattle.model.specs.Bytes.{byte}
-use Rattle.model.specs.Grammar.{IsLetter, IsSingle}
-use Rattle.model.specs.Models.Places.{anything, Least, Placed}
+use lib.ListN.{drop, length}
 use Rattle.model.specs.Models.Reader.{read_letter, read_single}
 use Rattle.model.proofs.Reading.Placed.{class_placed, letter_placed, single_placed}
-use Rattle.rule_letters.specs.Answers.{byte_read, ClassTells, letter_read, LetterTells, SingleTells}
-use Rattle.rule_letters.specs.Classes.{after_bracket}
+use Rattle.rule_letters.specs.Answers.{ByteSays, ClassTells, LetterSays, LetterTells, SingleTells}
+use Rattle.rule_letters.specs.Classes.{after_bracket, bytes_of}
 use Rattle.rule_letters.specs.declared.classes.Class.{Class}
-use Rattle.std.proofs.Common.{Bor, Result}
+use Rattle.rule_bytes.proofs.Laws.Answers.{placed}
+use Rattle.rule_bytes.specs.declared.Unreadable.{Unreadable}
+use Rattle.std.proofs.Common.{Result}
 
-module _ (text : List ℕ) where
-  pub single_tells : (lo : ℕ) (r : Result (ℕ × Bor (List ℕ)) (Bor (List ℕ))) → lo ≤ 255 → byte_read r ≡ read_single lo text → SingleTells lo text r
-  single_tells lo r k e = record { reads = e; place = subst (Placed (Least lo IsSingle) anything text) (sym e) (single_placed lo k text) }
+module _ (rule : List ℕ) (at : ℕ) where
+  pub single_tells : (lo : ℕ) (r : Result (ℕ × ℕ) Unreadable) → lo ≤ 255 → at ≤ length rule → ByteSays rule (read_single lo (drop at rule)) r → SingleTells lo rule at r
+  single_tells lo r k h s = record { reads = s; place = placed (λ b. b) rule at h r s (single_placed lo k (drop at rule)) }
 
-  pub class_tells : (r : Result (Class × Bor (List ℕ)) (Bor (List ℕ))) → letter_read r ≡ after_bracket text → ClassTells text r
-  class_tells r e = record { reads = e; place = subst (Placed (λ w. IsLetter (byte "[" ∷ w)) anything text) (sym e) (class_placed text) }
+  pub class_tells : (r : Result (Class × ℕ) Unreadable) → at ≤ length rule → LetterSays rule (after_bracket (drop at rule)) r → ClassTells rule at r
+  class_tells r h s = record { reads = s; place = placed bytes_of rule at h r s (class_placed (drop at rule)) }
 
-  pub letter_tells : (r : Result (Class × Bor (List ℕ)) (Bor (List ℕ))) → letter_read r ≡ read_letter text → LetterTells text r
-  letter_tells r e = record { reads = e; place = subst (Placed IsLetter anything text) (sym e) (letter_placed text) }
+  pub letter_tells : (r : Result (Class × ℕ) Unreadable) → LetterSays rule (read_letter (drop at rule)) r → LetterTells rule at r
+  letter_tells r s = record { reads = s; place = λ h. placed bytes_of rule at h r s (letter_placed (drop at rule)) }

@@ -11,11 +11,8 @@ use Rattle.model.specs.Models.Reader.{bad, bind, case, got, Read, read_escape, r
 use Rattle.model.proofs.Laws.Bool.{cond_cases}
 use Rattle.model.proofs.Reading.Answers.{Holds, past_cases, sound_holds}
 use Rattle.model.proofs.Reading.Escapes.{escape_tail, sound_escape}
+use Rattle.rule_bytes.proofs.Laws.Progress.{Falls}
 use Rattle.rule_letters.specs.Classes.{after_lower, after_minus}
-
--- fewer bytes are left than l has
-abbrev Falls : {A : Type 0} → List ℕ → Read A → Type 0
-Falls l m = Holds (λ a r. length r < length l) m
 
 holds_bind : {A B : Type 0} (P : A → List ℕ → Type 0) (Q : B → List ℕ → Type 0) (m : Read A) (f : A → List ℕ → Read B) → Holds P m
     → ((a : A) (r : List ℕ) → P a r → Holds Q (f a r)) → Holds Q (bind m f)

@@ -1,21 +1,19 @@
 -- WHERE THE READERS STOP: what they answer is what the model read, and the model stops at its place.
-use mathlib.Core.Path.{◌≡◌, sym, subst}
 use mathlib.Core.List.{List}
-use Prim.Native.Nat.{ℕ}
-use Rattle.model.specs.Grammar.{IsNumber, IsSign}
-use Rattle.model.specs.Models.Places.{free, halts, Least, Placed}
+use Prim.Native.Nat.{ℕ, ◌≤◌}
+use lib.ListN.{drop, length}
 use Rattle.model.specs.Models.Reader.{read_number, read_sign}
 use Rattle.model.proofs.Reading.Placed.{number_placed, sign_placed}
-use Rattle.rule_signs.specs.Answers.{number_read, NumberTells, sign_read, SignTells}
+use Rattle.rule_signs.specs.Answers.{NumberSays, NumberTells, sign_of, SignSays, SignTells}
 use Rattle.rule_signs.specs.declared.HowOften.{HowOften}
-use Rattle.std.proofs.Common.{Bor, Result}
+use Rattle.rule_bytes.proofs.Laws.Answers.{placed}
+use Rattle.rule_bytes.specs.declared.Unreadable.{Unreadable}
+use Rattle.std.proofs.Common.{Result}
 
-pub number_tells : (least : ℕ) (text : List ℕ) (r : Result (ℕ × Bor (List ℕ)) (Bor (List ℕ))) → number_read r ≡ read_number least text
-    → NumberTells least text r
-number_tells least text r e = record {
-  reads = e;
-  place = λ k. subst (Placed (Least least IsNumber) halts text) (sym e) (number_placed least k text);
-}
+module _ (rule : List ℕ) (at : ℕ) where
+  pub number_tells : (least : ℕ) (r : Result (ℕ × ℕ) Unreadable) → at ≤ length rule → NumberSays rule (read_number least (drop at rule)) r
+      → NumberTells least rule at r
+  number_tells least r h s = record { reads = s; place = λ k. placed (λ n. n) rule at h r s (number_placed least k (drop at rule)) }
 
-pub sign_tells : (text : List ℕ) (r : Result (HowOften × Bor (List ℕ)) (Bor (List ℕ))) → sign_read r ≡ read_sign text → SignTells text r
-sign_tells text r e = record { reads = e; place = subst (Placed IsSign free text) (sym e) (sign_placed text) }
+  pub sign_tells : (r : Result (HowOften × ℕ) Unreadable) → SignSays rule (read_sign (drop at rule)) r → SignTells rule at r
+  sign_tells r s = record { reads = s; place = λ h. placed sign_of rule at h r s (sign_placed (drop at rule)) }

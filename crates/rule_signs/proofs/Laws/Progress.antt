@@ -1,13 +1,15 @@
 -- THE NUMBERS IN A SIGN'S BRACES have at most three digits, so they are at most 999.
-use mathlib.Core.Path.{◌≡◌, sym, subst}
 use mathlib.Core.List.{List}
 use Prim.Native.Nat.{ℕ, ◌≤◌}
 use native.Mathlib.Omega.{arith}
+use lib.ListN.{drop}
 use Rattle.model.specs.Bytes.{digit}
 use Rattle.model.specs.Grammar.{absent, asterisk, both, braces, cross, IsBounds, IsNumber, IsSign, one, question, same, Sign, three, two, upto}
-use Rattle.model.specs.Models.Reader.{got, read_sign}
+use Rattle.model.specs.Models.Reader.{read_sign}
 use Rattle.model.proofs.Reading.Answers.{Holds, sound_holds}
 use Rattle.model.proofs.Reading.Signs.{sound_sign}
+use Rattle.rule_bytes.specs.Places.{Took}
+use Rattle.rule_bytes.proofs.Laws.Progress.{told}
 use Rattle.rule_signs.specs.Repeats.{Bounded}
 
 number_small : {w : List ℕ} {n : ℕ} → IsNumber w n → n ≤ 999
@@ -30,5 +32,5 @@ bounded (braces p q h k b) = rw q (h, k, bounds_small b)
 sign_holds : (l : List ℕ) → Holds (λ q r. Bounded q) (read_sign l)
 sign_holds l = sound_holds (λ q r. Bounded q) (sound_sign l) (λ u q r e d. bounded d)
 
-pub sign_bounded : (text : List ℕ) {rest : List ℕ} {q : Sign} → got q rest ≡ read_sign text → Bounded q
-sign_bounded text e = subst (Holds (λ q r. Bounded q)) (sym e) (sign_holds text)
+pub sign_bounded : (rule : List ℕ) (at : ℕ) {p : ℕ} {q : Sign} → Took rule (read_sign (drop at rule)) q p → Bounded q
+sign_bounded rule at t = told rule t (λ q r. Bounded q) (sign_holds (drop at rule))

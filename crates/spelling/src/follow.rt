@@ -5,13 +5,7 @@ ghost use Rattle.spelling.specs.Work.{FollowSays};
 use mask::bits::has_bit;
 use run_edges::Edges;
 
-pub fn follow(
-    edges: &Edges,
-    text: &[u8],
-    start: usize,
-    states: &[u32],
-    last: usize,
-) -> bool
+pub fn follow(edges: &Edges, text: &[u8], start: usize, states: &[u32], last: usize) -> bool
     requires { start + length states.now ≤ length text.now }
     ensures { FollowSays edges.now.image.words.now last text.now start states.now result }
 {

@@ -146,6 +146,18 @@ pub record Steps (ws : List ℕ) (W d : ℕ) : Type 0 where
   pub long : repeat_place W 256 ≤ length ws
   pub shallow : d ≤ 8
 
+-- of one byte of a rule with back edges, of which a row has all sources
+pub record Turns (ws : List ℕ) (W d : ℕ) (table : List (List ℕ)) (row : List ℕ) : Type 0 where
+  pub steps : Steps ws W d
+  pub whole : Whole table d
+  pub sources : Sources table d row
+
+-- of the loop over a stretch
+pub record Overs (p : Sections) (stretch : List ℕ) (place found d : ℕ) (table : List (List ℕ)) : Type 0 where
+  pub many : 64 < p.states
+  pub limits : Limits place found stretch
+  pub whole : Whole table d
+
 -- of a stretch from the words of a mask: as many of them as the image's masks have
 pub record Goes (ws : List ℕ) (p : Sections) (mask : List ℕ) (place : ℕ) (stretch : List ℕ) : Type 0 where
   pub placed : Placed ws p

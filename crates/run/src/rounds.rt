@@ -3,7 +3,7 @@
 ghost use Rattle.std.specs.Prelude.{[], ◌≡◌, ◌+◌, ◌*◌, ◌≤◌, ◌<◌, get_or, take};
 ghost use Rattle.model.specs.Models.Run.{close_words, returns_words, return_words, second_round};
 ghost use Rattle.model.specs.Models.Words.{or_words};
-ghost use Rattle.run.specs.Work.{pass_masks};
+ghost use Rattle.run.specs.Work.{pass_masks, Sources, Whole};
 
 use crate::steps::pass;
 use crate::table::{Table, Work};
@@ -40,12 +40,13 @@ fn returns(first: Mask, n: usize, work: &Work) -> Mask
     r
 }
 
-// The same by all sources: mostly none of them is live, and nothing is added.
+// The same where all sources are at hand: mostly none of them is live, and nothing is added.
 #[inline(always)]
-pub fn come_round(first: Mask, n: usize, work: &Work) -> Mask
+pub fn come_round(first: Mask, n: usize, work: &Work, sources: Mask) -> Mask
+    requires { Whole work.now.table work.now.depth × Sources work.now.table work.now.depth sources.words }
     ensures { take n result.words ≡ returns_words (pass_masks n work.now.table) work.now.depth (take n first.words) (take n first.words) }
 {
-    if meet(work.sources, first, n) {
+    if meet(sources, first, n) {
         return returns(first, n, work);
     }
     first

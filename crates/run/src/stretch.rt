@@ -2,12 +2,13 @@
 ghost use Rattle.std.specs.Prelude.{◌≡◌, ◌-◌, ◌/◌, ◌<◌, false, length, take};
 ghost use Rattle.model.specs.Bits.{bit};
 ghost use Rattle.model.specs.Models.Words.{value};
-ghost use Rattle.run.specs.Work.{NoBack, rule_masks};
-ghost use Rattle.run_word.specs.Ends.{Limits, RanOver};
+ghost use Rattle.run.specs.Work.{NoBack, Overs, rule_masks, Sources};
+ghost use Rattle.run_word.specs.Ends.{RanOver};
 
-use crate::table::Work;
+use crate::table::{Work, all_sources};
 use crate::widths::step_by;
 use image_sections::Image;
+use mask::Mask;
 use run_word::places::note;
 
 // The live states after a stretch, and the total of its ends with those found before.
@@ -40,8 +41,10 @@ fn run_by<const BACK: bool>(
     places: &mut [u32],
     from: From,
     work: &Work,
+    sources: Mask,
 ) -> Ran
-    requires { (64 < image.now.sections.states) × Limits from.place from.found stretch.now × (BACK ≡ false → NoBack work.now.table work.now.depth) }
+    requires { Overs image.now.sections stretch.now from.place from.found work.now.depth work.now.table
+        × Sources work.now.table work.now.depth sources.words × (BACK ≡ false → NoBack work.now.table work.now.depth) }
     ensures { RanOver (rule_masks image.now.words.now image.now.sections.width work.now.table) image.now.sections.width work.now.depth
         (image.now.sections.states - 1) from.place from.found stretch.now (take image.now.sections.width from.live)
         places.old result.words result.total places.new }
@@ -52,7 +55,7 @@ fn run_by<const BACK: bool>(
     let mut live = from.live;
     let mut total = from.found;
     for (p, byte) in stretch.iter().enumerate() {
-        step_by::<BACK>(&mut live, words, width, *byte, work);
+        step_by::<BACK>(&mut live, words, width, *byte, work, sources);
         total = note(
             places,
             total,
@@ -74,13 +77,14 @@ pub(crate) fn run_over(
     from: From,
     work: &Work,
 ) -> Ran
-    requires { (64 < image.now.sections.states) × Limits from.place from.found stretch.now }
+    requires { Overs image.now.sections stretch.now from.place from.found work.now.depth work.now.table }
     ensures { RanOver (rule_masks image.now.words.now image.now.sections.width work.now.table) image.now.sections.width work.now.depth
         (image.now.sections.states - 1) from.place from.found stretch.now (take image.now.sections.width from.live)
         places.old result.words result.total places.new }
 {
-    if work.sources.words == [0; 8] {
-        return run_by::<false>(image, stretch, places, from, work);
+    let sources = all_sources(work);
+    if sources.words == [0; 8] {
+        return run_by::<false>(image, stretch, places, from, work, sources);
     }
-    run_by::<true>(image, stretch, places, from, work)
+    run_by::<true>(image, stretch, places, from, work, sources)
 }

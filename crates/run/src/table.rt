@@ -9,15 +9,12 @@ use mask::Mask;
 use mask::logic::or;
 use run_moves::less_one;
 
-// The masks of work, how deep the rule is, and all sources of its back edges.
+// The masks of work, and how deep the rule is: of the table's masks those of the depths up to it.
 #[derive(Drop)]
 pub struct Work {
     pub table: Table,
     pub depth: usize,
-    pub sources: Mask,
     ghost deep: { depth ≤ 8 },
-    ghost whole: { Whole table depth },
-    ghost all: { Sources table depth sources.words },
 }
 
 // A series: one of the three masks of a section, block, source or target, for each of the depths 0 to 8.
@@ -95,17 +92,17 @@ fn put_backs(table: &mut Table, image: &Image)
     }
 }
 
-// All sources of the back edges up to a depth.
-fn all_sources(table: &Table, depth: usize) -> Mask
-    requires { (depth ≤ 8) × Whole table.now depth }
-    ensures { Sources table.now depth result.words }
+// All sources of the back edges.
+pub fn all_sources(work: &Work) -> Mask
+    requires { Whole work.now.table work.now.depth }
+    ensures { Sources work.now.table work.now.depth result.words }
 {
     let mut r = mask::none();
-    for k in 0..depth {
+    for k in 0..work.depth {
         r = or(
             r,
             Mask {
-                words: table[81 + 2 * k],
+                words: work.table[81 + 2 * k],
             },
             8,
         );
@@ -119,17 +116,14 @@ impl Work {
         ensures tabled { Tabled image.now.words.now image.now.sections.width image.now.sections.depth result.table }
     {
         let none = [0u64; 8];
-        let mut table = [none; 97];
+        let mut r = Work {
+            table: [none; 97],
+            depth: image.sections.depth,
+        };
         for j in 0..9 {
-            put_series(&mut table, j, series(image, j));
+            put_series(&mut r.table, j, series(image, j));
         }
-        put_backs(&mut table, image);
-        let depth = image.sections.depth;
-        let sources = all_sources(&table, depth);
-        Work {
-            table,
-            depth,
-            sources,
-        }
+        put_backs(&mut r.table, image);
+        r
     }
 }

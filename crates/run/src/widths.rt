@@ -2,7 +2,7 @@
 // that is called on the way is unfolded. Which number it is is asked once for each byte. The live states are borrowed and not handed on, so that only the
 // words that count are moved.
 ghost use Rattle.std.specs.Prelude.{◌≡◌, false};
-ghost use Rattle.run.specs.Work.{NoBack, SteppedOn, Steps};
+ghost use Rattle.run.specs.Work.{NoBack, SteppedOn, Turns};
 
 use crate::rounds::come_round;
 use crate::steps::{moved, pass};
@@ -12,8 +12,14 @@ use run_moves::same;
 
 // With N words. The second round is made only in a rule with back edges, and only where they add something.
 #[inline(always)]
-fn step<const N: usize, const BACK: bool>(live: &mut [u64; 8], image: &[u64], byte: u8, work: &Work)
-    requires { Steps image.now N work.now.depth × (BACK ≡ false → NoBack work.now.table work.now.depth) }
+fn step<const N: usize, const BACK: bool>(
+    live: &mut [u64; 8],
+    image: &[u64],
+    byte: u8,
+    work: &Work,
+    sources: Mask,
+)
+    requires { Turns image.now N work.now.depth work.now.table sources.words × (BACK ≡ false → NoBack work.now.table work.now.depth) }
     ensures { SteppedOn N image.now byte work.now.depth work.now.table live.old live.new }
 {
     let words = *live;
@@ -24,7 +30,7 @@ fn step<const N: usize, const BACK: bool>(live: &mut [u64; 8], image: &[u64], by
         *live = words;
         return;
     }
-    let more = come_round(first, N, work);
+    let more = come_round(first, N, work, sources);
     if same(more, first, N) {
         let words = first.words;
         *live = words;
@@ -43,27 +49,28 @@ pub fn step_by<const BACK: bool>(
     n: usize,
     byte: u8,
     work: &Work,
+    sources: Mask,
 )
-    requires { Steps image.now n work.now.depth × (BACK ≡ false → NoBack work.now.table work.now.depth) }
+    requires { Turns image.now n work.now.depth work.now.table sources.words × (BACK ≡ false → NoBack work.now.table work.now.depth) }
     ensures { SteppedOn n image.now byte work.now.depth work.now.table live.old live.new }
 {
     if n <= 4 {
         if n <= 2 {
-            return step::<2, BACK>(live, image, byte, work);
+            return step::<2, BACK>(live, image, byte, work, sources);
         }
         if n == 3 {
-            return step::<3, BACK>(live, image, byte, work);
+            return step::<3, BACK>(live, image, byte, work, sources);
         }
-        return step::<4, BACK>(live, image, byte, work);
+        return step::<4, BACK>(live, image, byte, work, sources);
     }
     if n <= 6 {
         if n == 5 {
-            return step::<5, BACK>(live, image, byte, work);
+            return step::<5, BACK>(live, image, byte, work, sources);
         }
-        return step::<6, BACK>(live, image, byte, work);
+        return step::<6, BACK>(live, image, byte, work, sources);
     }
     if n == 7 {
-        return step::<7, BACK>(live, image, byte, work);
+        return step::<7, BACK>(live, image, byte, work, sources);
     }
-    step::<8, BACK>(live, image, byte, work);
+    step::<8, BACK>(live, image, byte, work, sources);
 }

@@ -65,11 +65,10 @@ pub tabled : {ws : List ℕ} {W d : ℕ} {table new : List (List ℕ)} → Enter
 tabled I P = record { passes = λ k j h l. P.there (9 * k + j) (omega arith) ∙ I k j h l; backs = P.here }
 
 -- each is a whole mask
-pub whole_backs : {ws : List ℕ} {p : Sections} (table : List (List ℕ)) → Placed ws p
-    → ((i : ℕ) → i < 2 * p.depth → get_or table (81 + i) [] ≡ row_at ws (back_at p.width p.depth + p.width * i) p.width) → Whole table p.depth
+pub whole_backs : {ws : List ℕ} {p : Sections} (table : List (List ℕ)) → Placed ws p → Tabled ws p.width p.depth table → Whole table p.depth
 whole_backs {ws} {p} table P E i h =
     let T = within P in
-    ap length (E i h)
+    ap length (E.backs i h)
     ∙ row_long ws (back_at p.width p.depth + p.width * i) p.width T.narrow
     (omega (arith, T.backs, back_is P, part_fits p.width {k = i} {n = 2 * p.depth} h))
 

@@ -8,5 +8,5 @@ use Rattle.run.proofs.rounds.come_round.Goals as goal
 pub returns : goal.returns
 returns c =
     let a = c.args in
-    sym (returns_none a.n a.work.now.table a.work.now.depth a.work.now.sources.words a.work.now.whole a.work.now.all a.first.words (search rules)
+    sym (returns_none a.n a.work.now.table a.work.now.depth a.sources.words c.requires.0 c.requires.1 a.first.words (search rules)
     (c.meet.ensures.0 c.if-meet.false) a.work.now.depth (le_refl a.work.now.depth))

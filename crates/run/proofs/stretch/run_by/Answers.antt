@@ -12,7 +12,14 @@ pub step_by-requires : goal.step_by-requires
 step_by-requires g c =
     let P = c.args.image.now.placed in
     let I = within P in
-    (record { wide = omega (arith, I.room, c.requires.0); narrow = I.narrow; long = bytes_fit P; shallow = c.args.work.now.deep }, c.requires.2)
+    let O = c.requires.0 in (
+      record {
+        steps = record { wide = omega (arith, I.room, O.many); narrow = I.narrow; long = bytes_fit P; shallow = c.args.work.now.deep };
+        whole = O.whole;
+        sources = c.requires.1;
+      },
+      c.requires.2,
+    )
 
 pub loop-p-preserved : goal.loop-p-preserved
 loop-p-preserved g c =
@@ -24,7 +31,7 @@ loop-p-preserved g c =
     let last = a.image.now.sections.states - 1 in
     let hit = c.is_live.result in
     let e : a.from.place + l.p + 1 ≡ a.from.place + (l.p + 1) = omega arith in
-    at_next (rule_masks a.image.now.words.now wide a.work.now.table) a.work.now.depth last a.from.place a.stretch.now c.requires.1.small (take wide b.new.live) l.invariant
+    at_next (rule_masks a.image.now.words.now wide a.work.now.table) a.work.now.depth last a.from.place a.stretch.now c.requires.0.limits.small (take wide b.new.live) l.invariant
     (omega arith) b.ensures.made hit (c.is_live.ensures ∙ take_bit wide b.new.live last (omega (arith, (within P).room, own_states P, P.some)))
     (c.note-total.ensures.counted ∙ ap (λ (n : ℕ). (l.total + length (noted hit n)) % 2 ^ 64) e)
     (c.note-total.ensures.written ∙ ap (λ (n : ℕ). sets l.places l.total (noted hit n)) e)

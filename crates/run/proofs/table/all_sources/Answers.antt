@@ -10,7 +10,7 @@ loop-k-preserved c =
     let k = c.loop-k.k in
     let h = c.loop-k-test.true in (
       omega arith,
-      sources_more c.args.table.now k c.loop-k.r.words c.or-r.result.words c.loop-k.invariant.1 c.loop-k.invariant.2
-          (c.requires.1 (2 * k) (omega arith)) (λ i. search rules) c.or-r.ensures,
+      sources_more c.args.work.now.table k c.loop-k.r.words c.or-r.result.words c.loop-k.invariant.1 c.loop-k.invariant.2
+          (c.requires (2 * k) (omega arith)) (λ i. search rules) c.or-r.ensures,
       search rules,
     )

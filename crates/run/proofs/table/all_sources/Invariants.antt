@@ -6,4 +6,4 @@ use Rattle.run.specs.Work.{Sources}
 use Rattle.run.proofs.table.all_sources.Given as goal
 
 abbrev pub invariant-loop-k : goal.invariant-loop-k
-invariant-loop-k l = (l.k ≤ l.depth) × Sources l.table l.k l.r.words × (length l.r.words ≡ 8)
+invariant-loop-k l = (l.k ≤ l.work.depth) × Sources l.work.table l.k l.r.words × (length l.r.words ≡ 8)

@@ -8,4 +8,4 @@ pub returns-then-not-this : goal.returns-then-not-this
 returns-then-not-this g c =
     let a = c.args in
     once_made (step_made g.row.N a.image.now a.byte a.work.now.depth a.work.now.table a.live.now c.moved-on.result.words c.pass-first.result.words c.moved-on.ensures c.pass-first.ensures (search rules))
-    a.work.now.whole (c.requires.1 (search rules))
+    c.requires.0.whole (c.requires.1 (search rules))

@@ -7,4 +7,4 @@ use Rattle.run.specs.Work.{series_row}
 use Rattle.run.proofs.table.Work.of.Given as goal
 
 abbrev pub invariant-loop-j : goal.invariant-loop-j
-invariant-loop-j l = (length l.table ≡ 97) × ((k i : ℕ) → k < 9 → i < l.j → get_or l.table (9 * k + i) [] ≡ series_row l.image.words.now l.image.sections.width l.image.sections.depth i k)
+invariant-loop-j l = (l.r.1.0 ≡ l.image.sections.depth) × (length l.r.0 ≡ 97) × ((k i : ℕ) → k < 9 → i < l.j → get_or l.r.0 (9 * k + i) [] ≡ series_row l.image.words.now l.image.sections.width l.image.sections.depth i k)

@@ -382,7 +382,7 @@ fn main() {
     let mut documents: Vec<String> = ["README.md", "tests/README.md", "vectors/README.md", "include/lavumbishe.h"].map(String::from).to_vec();
     let docs = fs::read_dir("docs").expect("docs").map(|entry| entry.expect("an entry").path());
     let cited = docs.filter(|path| path.is_file()).map(|path| path.to_str().expect("a name").to_string());
-    documents.extend(cited.filter(|path| !path.starts_with("docs/PORT") && path != "docs/DESIGN-PASS.md"));
+    documents.extend(cited.filter(|path| path.ends_with(".md") && !path.starts_with("docs/PORT") && path != "docs/DESIGN-PASS.md"));
     documents.sort();
     for document in &documents {
         // What is in backticks in these is mostly rules and texts.

@@ -20,7 +20,7 @@ def sources():
 
 def functions(text):
     """Each function: its line, name, parameters, contract and body."""
-    for m in re.finditer(r"^ *(?:pub )?(?:extern \"C\" )?fn (\w+)(<[^(]*>)?\(", text, re.M):
+    for m in re.finditer(r"^ *(?:pub )?(?:extern \"C\" )?fn (\w+)(<.*?>)?\(", text, re.M):
         at, deep = m.end(), 1
         while deep:
             deep += {"(": 1, ")": -1}.get(text[at], 0)
@@ -47,7 +47,7 @@ def show(title, rows):
 
 files = list(sources())
 show("1 enums", (f"{n}:{t.count(chr(10), 0, m.start()) + 1} {m[1]}" for n, t in files for m in re.finditer(r"^(?:pub )?enum (\w+)", t, re.M)))
-show("1 flags in structs", (f"{n}:{t.count(chr(10), 0, m.start()) + 1} {m[1]}" for n, t in files for m in re.finditer(r"^    (?:pub )?(\w+): bool,$", t, re.M)))
+show("1 flags, fields and parameters on lines of their own", (f"{n}:{t.count(chr(10), 0, m.start()) + 1} {m[1]}" for n, t in files for m in re.finditer(r"^    (?:pub )?(\w+): bool,$", t, re.M)))
 show("1 numbers by name", (f"{n} {' '.join(found)}" for n, t in files if (found := re.findall(r"^(?:pub )?const (\w+): (?:u8|u32|u64|usize) = \d", t, re.M))))
 shapes, facts, pairs = defaultdict(list), defaultdict(list), defaultdict(list)
 for name, text in files:

@@ -1,7 +1,7 @@
 // "The first word that differs ends the comparison, whichever section it lies in."
 ghost use Rattle.std.specs.Prelude.{◌≡◌, ◌+◌, ◌*◌, ◌≤◌, ◌<◌, length as length_of};
 ghost use Rattle.tokens_masks.specs.Masks.{planes};
-ghost use Rattle.image_check.specs.Work.{same_laid, same_masks, same_repeat, same_repeats};
+ghost use Rattle.image_check.specs.Work.{same_laid, same_masks, same_repeats};
 
 use image_sections::Image;
 use mask::bits::same_rows;
@@ -10,33 +10,25 @@ use tokens_masks::plane::{
 };
 use tokens_masks::row_of;
 
-// Whether a byte's mask of the repeats is its mask of the letters at the loops' places.
-fn same_repeat(image: &Image, byte: usize, loops: [u64; 8]) -> bool
-    requires { byte < 256 }
-    ensures { result ≡ same_repeat image.now.words.now image.now.sections loops byte }
-{
-    let words = image.words;
-    let width = image.sections.width;
-    let letters = image.sections.letters + width * byte;
-    let repeats = image.sections.repeats + width * byte;
-    for j in 0..width {
-        if words[repeats + j] != words[letters + j] & loops[j] {
-            return false;
-        }
-    }
-    true
-}
-
-// The same for each byte.
+// Whether each byte's mask of the repeats is its mask of the letters at the loops' places.
 fn same_repeats(image: &Image, loops: [u64; 8]) -> bool
     ensures { result ≡ same_repeats image.now.words.now image.now.sections.letters image.now.sections.repeats image.now.sections.width loops }
 {
-    for byte in 0..256 {
-        if !same_repeat(image, byte, loops) {
-            return false;
+    // By bytes and words, in the form of `same_masks`.
+    let words = image.words;
+    let width = image.sections.width;
+    let mut same = true;
+    'search: for byte in 0..256 {
+        let letters = image.sections.letters + width * byte;
+        let repeats = image.sections.repeats + width * byte;
+        for j in 0..width {
+            if words[repeats + j] != words[letters + j] & loops[j] {
+                same = false;
+                break 'search;
+            }
         }
     }
-    true
+    same
 }
 
 // Whether the words from a place on are, for each of the first depths, the masks laid out of `N` planes, from `first` on.

@@ -1,19 +1,33 @@
--- `compare::same_repeats`: at the first byte whose masks differ the sections do, and where none does they are the same.
-use mathlib.Core.Path.{sym}
+-- `compare::same_repeats`: at the first word that differs the sections do, and where none does they are the same.
+use mathlib.Core.Path.{refl, sym, ◌∙◌}
+use native.Mathlib.Omega.{arith}
 use Rattle.std.proofs.Common.{rules}
 use Rattle.image_sections.proofs.Laws.Within.{within}
 use Rattle.image_check.proofs.Laws.Compare.{fails, passes, same-all}
-use Rattle.image_check.proofs.Laws.Compare.Repeats.{repeats_none}
+use Rattle.image_check.proofs.Laws.Compare.Repeats.{repeat_differs, repeat_same, repeats_none}
 use Rattle.image_check.proofs.compare.same_repeats.Goals as goal
 
-pub loop-byte-init : goal.loop-byte-init
-loop-byte-init c = repeats_none c.args.image.now.words.now c.args.loops (within c.args.image.now.placed) (search rules)
+pub search-init : goal.search-init
+search-init c = (refl, repeats_none c.args.image.now.words.now c.args.loops (within c.args.image.now.placed) (search rules))
 
-pub returns-then-not-same_repeat : goal.returns-then-not-same_repeat
-returns-then-not-same_repeat c = fails c.loop-byte.invariant c.loop-byte-test.true c.same_repeat.ensures c.if-not-same_repeat.true
+pub search-preserved : goal.search-preserved
+search-preserved c =
+    let a = c.args in
+    (
+      c.loop-j.invariant.0,
+      passes c.search.invariant.1 c.search-test.true
+      (repeat_same a.image.now.words.now a.loops (within a.image.now.placed) (search rules) c.search-test.true
+      (λ j h. c.loop-j.invariant.1 j (omega (arith, h, c.loop-j-test.false))))
+      refl,
+    )
 
-pub loop-byte-preserved : goal.loop-byte-preserved
-loop-byte-preserved c = passes c.loop-byte.invariant c.loop-byte-test.true c.same_repeat.ensures c.if-not-same_repeat.false
+pub returns-after-search : goal.returns-after-search
+returns-after-search c = c.search.invariant.0 ∙ sym (same-all c.search.invariant.1 c.search-test.false)
 
-pub returns : goal.returns
-returns c = sym (same-all c.loop-byte.invariant c.loop-byte-test.false)
+pub returns-then-words-repeats : goal.returns-then-words-repeats
+returns-then-words-repeats c =
+    let a = c.args in
+    fails c.search.invariant.1 c.search-test.true
+    (repeat_differs a.image.now.words.now a.loops (within a.image.now.placed) (search rules) c.search-test.true c.loop-j.j c.loop-j-test.true
+    c.if-words-repeats.true)
+    refl

@@ -1,5 +1,6 @@
 -- `compare::same_repeats`: at the first word that differs the sections do, and where none does they are the same.
 use mathlib.Core.Path.{refl, sym, ◌∙◌}
+use Prim.Native.Nat.{◌<◌}
 use native.Mathlib.Omega.{arith}
 use Rattle.std.proofs.Common.{rules}
 use Rattle.image_sections.proofs.Laws.Within.{within}
@@ -13,13 +14,11 @@ search-init c = (refl, repeats_none c.args.image.now.words.now c.args.loops (wit
 pub search-preserved : goal.search-preserved
 search-preserved c =
     let a = c.args in
-    (
-      c.loop-j.invariant.0,
-      passes c.search.invariant.1 c.search-test.true
-      (repeat_same a.image.now.words.now a.loops (within a.image.now.placed) (search rules) c.search-test.true
-      (λ j h. c.loop-j.invariant.1 j (omega (arith, h, c.loop-j-test.false))))
-      refl,
-    )
+    let b : c.search.byte < 256 = omega (arith, c.search-test.true) in
+    let same = repeat_same a.image.now.words.now a.loops (within a.image.now.placed) (search rules) b
+    (λ j h. c.loop-j.invariant.1 j (omega (arith, h, c.loop-j-test.false)))
+    in
+    (c.loop-j.invariant.0, passes c.search.invariant.1 b same refl)
 
 pub returns-after-search : goal.returns-after-search
 returns-after-search c = c.search.invariant.0 ∙ sym (same-all c.search.invariant.1 c.search-test.false)
@@ -27,7 +26,8 @@ returns-after-search c = c.search.invariant.0 ∙ sym (same-all c.search.invaria
 pub returns-then-words-repeats : goal.returns-then-words-repeats
 returns-then-words-repeats c =
     let a = c.args in
-    fails c.search.invariant.1 c.search-test.true
-    (repeat_differs a.image.now.words.now a.loops (within a.image.now.placed) (search rules) c.search-test.true c.loop-j.j c.loop-j-test.true
+    let b : c.search.byte < 256 = omega (arith, c.search-test.true) in
+    fails c.search.invariant.1 b
+    (repeat_differs a.image.now.words.now a.loops (within a.image.now.placed) (search rules) b c.loop-j.j c.loop-j-test.true
     c.if-words-repeats.true)
     refl

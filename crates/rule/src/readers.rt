@@ -57,6 +57,7 @@ fn read_piece(
     requires { Ready rule.now at tokens.old n }
     ensures { PartTells Piece free read_piece rule.now at n tokens.old tokens.new result }
 {
+    // No `?`: the must-fail edit place_of_the_items_start is one wrong arm of this.
     match read_letter(rule, at) {
         Ok((class, place)) => read_repeated(rule, place, class, tokens, n),
         Err(unread) => Err(unread),

@@ -18,7 +18,7 @@ use run::ends::find;
 pub fn build(rule: &[u8], image: &mut [u64]) -> Result<usize, Refusal>
     ensures { BuildSays rule.now image.old (answered result image.new) }
 {
-    // No `?`: the must-fail edit one_number_for_all is the wrong arm of this.
+    // No `?`: the must-fail edit one_number_for_all is one wrong arm of this.
     match read_rule(rule) {
         Ok(tree) => store(tree.tokens, tree.states - 1, image),
         Err(refusal) => Err(refusal),

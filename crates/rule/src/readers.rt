@@ -57,8 +57,11 @@ fn read_piece(
     requires { Ready rule.now at tokens.old n }
     ensures { PartTells Piece free read_piece rule.now at n tokens.old tokens.new result }
 {
-    let (class, place) = read_letter(rule, at)?;
-    read_repeated(rule, place, class, tokens, n)
+    // No `?`: the must-fail edit place_of_the_items_start is one wrong arm of this.
+    match read_letter(rule, at) {
+        Ok((class, place)) => read_repeated(rule, place, class, tokens, n),
+        Err(unread) => Err(unread),
+    }
 }
 
 // Whether a sequence is over here: before `|`, before `)` and at the end.
@@ -125,7 +128,11 @@ pub fn read_alternatives(
     requires { Ready rule.now at tokens.old n }
     ensures { AlternativesTell rule.now at n tokens.old tokens.new result }
 {
-    let first = read_sequence(rule, at, tokens, n)?;
+    // No `?`: the must-fail edit empty_last_alternative is one wrong arm of this.
+    let first = match read_sequence(rule, at, tokens, n) {
+        Ok(first) => first,
+        Err(unread) => return Err(unread),
+    };
     if byte_at(rule, first.place) != b'|' {
         return Ok(Alternatives {
             place: first.place,

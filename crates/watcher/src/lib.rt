@@ -18,8 +18,11 @@ use run::ends::find;
 pub fn build(rule: &[u8], image: &mut [u64]) -> Result<usize, Refusal>
     ensures { BuildSays rule.now image.old (answered result image.new) }
 {
-    let tree = read_rule(rule)?;
-    store(tree.tokens, tree.states - 1, image)
+    // No `?`: the must-fail edit one_number_for_all is one wrong arm of this.
+    match read_rule(rule) {
+        Ok(tree) => store(tree.tokens, tree.states - 1, image),
+        Err(refusal) => Err(refusal),
+    }
 }
 
 // Read back: from an image to the plain writing of its tree, in lent bytes. The refusals are 6 and 8; done gives the writing's length.

@@ -14,7 +14,7 @@ use Rattle.model.specs.Models.Tokens.{a_bar, Token}
 use Rattle.model.specs.Tree.{Alts, glue, last, more, Seq}
 use Rattle.model.proofs.Image.Groups.{empty_glue}
 use Rattle.model.proofs.Laws.Bool.{is_true, unequal}
-use Rattle.model.proofs.Reading.Cycle.{alts_is, item_falls, item_is, seq_is}
+use Rattle.model.proofs.Reading.Cycle.{alts_is, item_falls, item_is, seq_falls, seq_is}
 use Rattle.std.proofs.Common.{Err, Ok, Result}
 use Rattle.rule_bytes.specs.Places.{Stopped}
 use Rattle.rule_bytes.specs.declared.Unreadable.{Unreadable}
@@ -95,6 +95,9 @@ module _ (rule : List ℕ) (at n : ℕ) {before : List ℕ} where
     after_sequence =
         alts_is (drop at rule)
         ∙ ap (λ m. bind m (λ s r. case (past (byte "|") r) (λ x r'. bind (alts r') (λ a r''. got (more s a) r'')) (got (last s) r))) w.took.reads
+
+    pub sequence_on : at < p
+    sequence_on = further rule w.took at (seq_falls (drop at rule))
 
     pub alternatives_end : (x ≡ byte "|" → ⊥) → AlternativesSay rule n (alts (drop at rule)) before after
         (Ok (record { place = p; next = next; several = false; empty = c }))

@@ -79,24 +79,23 @@ read_sequence-loop-item-preserved t c =
     }
 
 -- ---- alternatives
-pub read_alternatives-returns-in_err-first : goal.read_alternatives-returns-in_err-first
-read_alternatives-returns-in_err-first t c =
+pub read_alternatives-returns-in-Err : goal.read_alternatives-returns-in-Err
+read_alternatives-returns-in-Err t c =
     let a = c.args in
-    rw (given_on c.from_residual.ensures.1)
-    (alternatives_tell _ _ _ _ _ c.requires.inside _ (alternatives_stop a.rule.now a.at c.in_err-first.ensures.reads))
+    alternatives_tell _ _ _ _ _ c.requires.inside _ (alternatives_stop a.rule.now a.at c.in-Err.ensures.reads)
 
 pub read_alternatives-returns-then-byte_at-ne124 : goal.read_alternatives-returns-then-byte_at-ne124
 read_alternatives-returns-then-byte_at-ne124 t c =
     let a = c.args in
     alternatives_tell _ _ _ _ _ c.requires.inside _
-    (alternatives_end a.rule.now a.at a.n c.in_ok-first.ensures.reads.1 c.byte_at.ensures c.if-byte_at-ne124.true)
+    (alternatives_end a.rule.now a.at a.n c.in-Ok.ensures.reads.1 c.byte_at.ensures c.if-byte_at-ne124.true)
 
 pub read_alternatives-returns-in_err-rest : goal.read_alternatives-returns-in_err-rest
 read_alternatives-returns-in_err-rest t c =
     let a = c.args in
-    rw (given_on c.from_residual-in_err-rest.ensures.1)
+    rw (given_on c.from_residual.ensures.1)
     (alternatives_tell _ _ _ _ _ c.requires.inside _
-    (alternatives_stop_later a.rule.now a.at a.n c.in_ok-first.ensures.reads.1 c.byte_at.ensures c.if-byte_at-ne124.false c.in_err-rest.ensures.reads))
+    (alternatives_stop_later a.rule.now a.at a.n c.in-Ok.ensures.reads.1 c.byte_at.ensures c.if-byte_at-ne124.false c.in_err-rest.ensures.reads))
 
 pub read_alternatives-returns : goal.read_alternatives-returns
 read_alternatives-returns t c =
@@ -105,6 +104,6 @@ read_alternatives-returns t c =
     let u = c.put_union-after.ensures in
     let k = c.in_ok-rest in
     alternatives_tell _ _ _ _ _ c.requires.inside _
-    (alternatives_go a.rule.now a.at a.n c.in_ok-first.ensures.reads.1 c.byte_at.ensures c.if-byte_at-ne124.false r.new.tokens k.rest
-    (subst₂ (λ (l : List ℕ) (n : ℕ). AlternativesSay a.rule.now n (alts (drop (c.in_ok-first.first.place + 1) a.rule.now)) l r.new.tokens (Ok k.rest))
+    (alternatives_go a.rule.now a.at a.n c.in-Ok.ensures.reads.1 c.byte_at.ensures c.if-byte_at-ne124.false r.new.tokens k.rest
+    (subst₂ (λ (l : List ℕ) (n : ℕ). AlternativesSay a.rule.now n (alts (drop (c.in-Ok.first.place + 1) a.rule.now)) l r.new.tokens (Ok k.rest))
     u.written u.count k.ensures.reads))

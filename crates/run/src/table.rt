@@ -10,7 +10,7 @@ use mask::logic::or;
 use run_moves::less_one;
 
 // The masks of work, and how deep the rule is: of the table's masks those of the depths up to it.
-#[derive(Drop)]
+#[derive(Clone, Copy)]
 pub struct Work {
     pub table: Table,
     pub depth: usize,

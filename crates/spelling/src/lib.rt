@@ -40,7 +40,7 @@ pub fn check_spelling(
 // Places and length first, and then the states. One pass for each byte: a short proposal costs little.
 // No record of the proposal: it comes in as the three arguments of the C interface, and goes on as two of them once its length is known.
 // Not unfolded, for else the masks of work lie on the stack while the image is checked; and the edges are made here, where they lie: as a result of
-// `Edges::of` they stand there twice more, and a call takes 29,800 bytes of stack for 17,300.
+// `Edges::of` they stand there twice more, and a call takes 29,800 bytes of stack where it takes 17,400.
 #[inline(never)]
 fn is_right(image: &Image, text: &[u8], start: usize, end: usize, states: &[u32]) -> bool
     ensures { RightSays image.now.words.now text.now start end states.now result }

@@ -153,9 +153,10 @@ pub record Turns (ws : List ℕ) (W d : ℕ) (table : List (List ℕ)) (row : Li
   pub sources : Sources table d row
 
 -- of the loop over a stretch
-pub record Overs (p : Sections) (stretch : List ℕ) (place found d : ℕ) (table : List (List ℕ)) : Type 0 where
-  pub many : 64 < p.states
+pub record Overs (ws stretch : List ℕ) (place found W d last : ℕ) (table : List (List ℕ)) : Type 0 where
+  pub steps : Steps ws W d
   pub limits : Limits place found stretch
+  pub within : last < 64 * W
   pub whole : Whole table d
 
 -- of a stretch from the words of a mask: as many of them as the image's masks have

@@ -20,15 +20,24 @@ fn find_words(image: &Image, text: &[u8], ends: &mut [u32]) -> u64
         ends.old result ends.new }
 {
     let masks = Work::of(image);
+    let last = image.sections.states - 1;
     let first = close(start(), 8, &masks);
     let live = first.words;
-    let found = note(ends, 0, 0, is_live(&live, image.sections.states - 1));
+    let found = note(ends, 0, 0, is_live(&live, last));
     let from = From {
         live,
         place: 0,
         found,
     };
-    let ran = run_over(image, text, ends, from, &masks);
+    let ran = run_over(
+        image.words,
+        text,
+        ends,
+        from,
+        image.sections.width,
+        last,
+        &masks,
+    );
     ran.total
 }
 
@@ -48,12 +57,22 @@ fn go_on_words(image: &Image, mask: &[u64], place: u64, stretch: &[u8], ends: &m
     requires { Goes image.now.words.now image.now.sections mask.now place stretch.now × (64 < image.now.sections.states) }
     ensures { GoOnSays image.now.words.now mask.now place stretch.now ends.old result.words result.total ends.new }
 {
+    let width = image.sections.width;
+    let last = image.sections.states - 1;
     let from = From {
-        live: row_at(mask, 0, image.sections.width),
+        live: row_at(mask, 0, width),
         place,
         found: 0,
     };
-    run_over(image, stretch, ends, from, &Work::of(image))
+    run_over(
+        image.words,
+        stretch,
+        ends,
+        from,
+        width,
+        last,
+        &Work::of(image),
+    )
 }
 
 // The same of a rule of at most 64 states.

@@ -10,7 +10,8 @@ use image_sections::Image;
 use mask::Mask;
 use run_moves::start;
 
-// Both rounds with the table of the image, on all eight words.
+// Both rounds with the table of the image, on all eight words. Not unfolded: in a call that checks its image too, the table would lie on the stack meanwhile.
+#[inline(never)]
 fn close_of(image: &Image, live: Mask) -> Mask
     ensures { take 8 result.words ≡ take 8 (close_words (masks_of image.now.words.now) image.now.sections.depth live.words) }
 {

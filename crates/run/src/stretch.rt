@@ -1,5 +1,5 @@
 // The run over a stretch of bytes, from any live states and any place, for a rule of any size.
-ghost use Rattle.std.specs.Prelude.{◌≡◌, ◌-◌, ◌/◌, ◌<◌, false, length, take};
+ghost use Rattle.std.specs.Prelude.{◌≡◌, ◌/◌, ◌<◌, false, length, take};
 ghost use Rattle.model.specs.Bits.{bit};
 ghost use Rattle.model.specs.Models.Words.{value};
 ghost use Rattle.run.specs.Work.{NoBack, Overs, rule_masks, Sources};
@@ -7,7 +7,6 @@ ghost use Rattle.run_word.specs.Ends.{RanOver};
 
 use crate::table::{Work, all_sources};
 use crate::widths::step_by;
-use image_sections::Image;
 use mask::Mask;
 use run_word::places::note;
 
@@ -36,26 +35,24 @@ pub struct From {
 
 // A step for each byte, and its place in the whole text noted if the accepting state is then live.
 fn run_by<const BACK: bool>(
-    image: &Image,
+    image: &[u64],
     stretch: &[u8],
     places: &mut [u32],
     from: From,
+    width: usize,
+    last: usize,
     work: &Work,
     sources: Mask,
 ) -> Ran
-    requires { Overs image.now.sections stretch.now from.place from.found work.now.depth work.now.table
+    requires { Overs image.now stretch.now from.place from.found width work.now.depth last work.now.table
         × Sources work.now.table work.now.depth sources.words × (BACK ≡ false → NoBack work.now.table work.now.depth) }
-    ensures { RanOver (rule_masks image.now.words.now image.now.sections.width work.now.table) image.now.sections.width work.now.depth
-        (image.now.sections.states - 1) from.place from.found stretch.now (take image.now.sections.width from.live)
+    ensures { RanOver (rule_masks image.now width work.now.table) width work.now.depth last from.place from.found stretch.now (take width from.live)
         places.old result.words result.total places.new }
 {
-    let words = image.words;
-    let width = image.sections.width;
-    let last = image.sections.states - 1;
     let mut live = from.live;
     let mut total = from.found;
     for (p, byte) in stretch.iter().enumerate() {
-        step_by::<BACK>(&mut live, words, width, *byte, work, sources);
+        step_by::<BACK>(&mut live, image, width, *byte, work, sources);
         total = note(
             places,
             total,
@@ -70,21 +67,22 @@ fn run_by<const BACK: bool>(
 }
 
 // Whether there are back edges is asked once: asked at each byte, a rule without them would pay for them.
-pub(crate) fn run_over(
-    image: &Image,
+pub fn run_over(
+    image: &[u64],
     stretch: &[u8],
     places: &mut [u32],
     from: From,
+    width: usize,
+    last: usize,
     work: &Work,
 ) -> Ran
-    requires { Overs image.now.sections stretch.now from.place from.found work.now.depth work.now.table }
-    ensures { RanOver (rule_masks image.now.words.now image.now.sections.width work.now.table) image.now.sections.width work.now.depth
-        (image.now.sections.states - 1) from.place from.found stretch.now (take image.now.sections.width from.live)
+    requires { Overs image.now stretch.now from.place from.found width work.now.depth last work.now.table }
+    ensures { RanOver (rule_masks image.now width work.now.table) width work.now.depth last from.place from.found stretch.now (take width from.live)
         places.old result.words result.total places.new }
 {
     let sources = all_sources(work);
     if sources.words == [0; 8] {
-        return run_by::<false>(image, stretch, places, from, work, sources);
+        return run_by::<false>(image, stretch, places, from, width, last, work, sources);
     }
-    run_by::<true>(image, stretch, places, from, work, sources)
+    run_by::<true>(image, stretch, places, from, width, last, work, sources)
 }

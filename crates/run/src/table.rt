@@ -10,7 +10,7 @@ use mask::logic::or;
 use run_moves::less_one;
 
 // The masks of work, and how deep the rule is: of the table's masks those of the depths up to it.
-#[derive(Drop)]
+#[derive(Clone, Copy)]
 pub struct Work {
     pub table: Table,
     pub depth: usize,
@@ -110,7 +110,20 @@ pub fn all_sources(work: &Work) -> Mask
     r
 }
 
+// All masks of an image into theirs.
+fn put_masks(table: &mut Table, image: &Image)
+    requires { length table.old ≡ 97 }
+    ensures { Tabled image.now.words.now image.now.sections.width image.now.sections.depth table.new }
+{
+    for j in 0..9 {
+        put_series(table, j, series(image, j));
+    }
+    put_backs(table, image);
+}
+
 impl Work {
+    // Unfolded where it is called: as a call's result the table would stand on the stack once more.
+    #[inline(always)]
     pub fn of(image: &Image) -> Work
         ensures deep { result.depth ≡ image.now.sections.depth }
         ensures tabled { Tabled image.now.words.now image.now.sections.width image.now.sections.depth result.table }
@@ -120,10 +133,7 @@ impl Work {
             table: [none; 97],
             depth: image.sections.depth,
         };
-        for j in 0..9 {
-            put_series(&mut r.table, j, series(image, j));
-        }
-        put_backs(&mut r.table, image);
+        put_masks(&mut r.table, image);
         r
     }
 }

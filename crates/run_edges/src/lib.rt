@@ -42,8 +42,33 @@ fn repeats(image: &Image, byte: u8) -> [u64; 8]
     row_at(image.words, repeats_at(width, byte), width)
 }
 
+// The states that a byte enters from those of a mask.
+pub fn enter(image: &Image, live: Mask, byte: u8) -> Mask
+    ensures computed { result.words ≡ enter_words image.now.words.now byte live.words }
+    ensures entered { EnterSays image.now.words.now byte live.words result.words }
+{
+    let l = letters(image, byte);
+    let p = repeats(image, byte);
+    let none = mask::none();
+    advance(live, Mask { words: l }, Mask { words: p }, none, 8)
+}
+
+// The states that a byte leaves into those of a mask.
+pub fn leave(image: &Image, set: Mask, byte: u8) -> Mask
+    ensures computed { result.words ≡ leave_words image.now.words.now byte set.words }
+    ensures left { LeaveSays image.now.words.now byte set.words result.words }
+{
+    let l = letters(image, byte);
+    let p = repeats(image, byte);
+    let taken = and(set, Mask { words: l }, 8);
+    let row = taken.words;
+    let back = unshift(row);
+    let stayed = and(set, Mask { words: p }, 8);
+    or(Mask { words: back }, stayed, 8)
+}
+
 // An image with the masks of work made once from it, to go along many edges.
-#[derive(Drop)]
+#[derive(Clone, Copy)]
 pub struct Edges<'a> {
     pub image: Image<'a>,
     pub masks: Work,
@@ -71,28 +96,18 @@ impl<'a> Edges<'a> {
         close(one, 8, &self.masks)
     }
 
-    // The states that a byte enters from those of a mask.
+    // The functions `enter` and `leave`, beside `reach`.
     pub fn enter(&self, live: Mask, byte: u8) -> Mask
         ensures computed { result.words ≡ enter_words self.now.image.words.now byte live.words }
         ensures entered { EnterSays self.now.image.words.now byte live.words result.words }
     {
-        let l = letters(&self.image, byte);
-        let p = repeats(&self.image, byte);
-        let none = mask::none();
-        advance(live, Mask { words: l }, Mask { words: p }, none, 8)
+        enter(&self.image, live, byte)
     }
 
-    // The states that a byte leaves into those of a mask.
     pub fn leave(&self, set: Mask, byte: u8) -> Mask
         ensures computed { result.words ≡ leave_words self.now.image.words.now byte set.words }
         ensures left { LeaveSays self.now.image.words.now byte set.words result.words }
     {
-        let l = letters(&self.image, byte);
-        let p = repeats(&self.image, byte);
-        let taken = and(set, Mask { words: l }, 8);
-        let row = taken.words;
-        let back = unshift(row);
-        let stayed = and(set, Mask { words: p }, 8);
-        or(Mask { words: back }, stayed, 8)
+        leave(&self.image, set, byte)
     }
 }

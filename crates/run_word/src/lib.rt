@@ -9,4 +9,4 @@ mod rounds;
 mod steps;
 pub mod stretch;
 mod table;
-mod work;
+pub mod work;

@@ -13,6 +13,7 @@ use crate::follow::follow;
 use answers::Refusal;
 use image_check::{Checked, check};
 use image_sections::Image;
+use run::table::Work;
 use run_edges::Edges;
 
 // Whether a proposal is right: a start place, an end place, and for each byte between them the state that it enters. The image is checked in this same
@@ -38,6 +39,9 @@ pub fn check_spelling(
 
 // Places and length first, and then the states. One pass for each byte: a short proposal costs little.
 // No record of the proposal: it comes in as the three arguments of the C interface, and goes on as two of them once its length is known.
+// Not unfolded, for else the masks of work lie on the stack while the image is checked; and the edges are made here, where they lie: as a result of
+// `Edges::of` they stand there twice more, and a call takes 29,800 bytes of stack where it takes 17,400.
+#[inline(never)]
 fn is_right(image: &Image, text: &[u8], start: usize, end: usize, states: &[u32]) -> bool
     ensures { RightSays image.now.words.now text.now start end states.now result }
 {
@@ -51,5 +55,9 @@ fn is_right(image: &Image, text: &[u8], start: usize, end: usize, states: &[u32]
         return false;
     }
     let last = image.sections.states - 1;
-    follow(&Edges::of(*image), text, start, states, last)
+    let edges = Edges {
+        image: *image,
+        masks: Work::of(image),
+    };
+    follow(&edges, text, start, states, last)
 }

@@ -17,12 +17,13 @@ use Rattle.run_moves.specs.Less.{less_one, plus_words}
 use Rattle.run_moves.proofs.Laws.Less.{plus_less}
 use Rattle.image_sections.specs.Sections.{Placed, sections_in, width_of}
 use Rattle.image_sections.specs.declared.Sections.{Sections}
-use Rattle.image_sections.proofs.Laws.Within.{own_depth, own_width}
+use Rattle.image_sections.proofs.Laws.Within.{bytes_fit, own_depth, own_states, own_width, within}
+use Rattle.run_word.specs.Ends.{Limits}
 use Rattle.run_word.proofs.Laws.Back.{BackCut}
 use Rattle.run_word.proofs.Laws.Cut.{close_cut, Cut, ends_cut}
 use Rattle.run_word.proofs.Laws.Nine.{nine_scatter}
-use Rattle.run.specs.Work.{cut_masks, masks_of, pass_masks, Put, PutTo, row_at, rule_masks, series_at, Tabled, work_masks}
-use Rattle.run.proofs.Laws.Backs.{masks_low}
+use Rattle.run.specs.Work.{cut_masks, masks_of, Overs, pass_masks, Put, PutTo, row_at, rule_masks, series_at, Tabled, Whole, work_masks}
+use Rattle.run.proofs.Laws.Backs.{masks_low, whole_backs}
 use Rattle.run.proofs.Laws.Rounds.{close_letters}
 use Rattle.run.proofs.Laws.Rows.{fit_at, row_short, series-row}
 
@@ -147,3 +148,15 @@ series_entered {c} rows {masks} {table} {new} I h P M k j l =
 pub tabled_of : {ws : List ℕ} {p : Sections} (table : List (List ℕ)) → Placed ws p → Tabled ws p.width p.depth table → Tabled ws (width_of ws) (depth_word ws) table
 tabled_of {ws} {p} table P I =
     subst (λ (x : ℕ). Tabled ws (width_of ws) x table) (own_depth P) (subst (λ (x : ℕ). Tabled ws x p.depth table) (own_width P) I)
+
+-- with it, of a rule of more than 64 states, the loop over a stretch has what it asks
+pub overs : {ws stretch : List ℕ} {p : Sections} {place found deep : ℕ} {table : List (List ℕ)} → Placed ws p → 64 < p.states → Limits place found stretch → deep ≡ p.depth
+    → Tabled ws p.width p.depth table → Overs ws stretch place found p.width deep (p.states - 1) table
+overs {p = p} {table = table} P many L e E =
+    let I = within P in
+    record {
+      steps = record { wide = omega (arith, I.room, many); narrow = I.narrow; long = bytes_fit P; shallow = omega (arith, e, I.deep) };
+      limits = L;
+      within = omega (arith, I.room, own_states P, P.some);
+      whole = subst (Whole table) (sym e) (whole_backs table P E);
+    }

@@ -14,4 +14,4 @@ pub returns-then-states-end : goal.returns-then-states-end
 returns-then-states-end c = λ t I. (λ f. absurd f, λ s. c.if-states-end.true s.each)
 
 pub returns : goal.returns
-returns c = followed c.if-end-text.false c.if-start-end.false c.if-states-end.false (own_states c.args.image.now.placed) c.follow.result (rw c.of.ensures at c.follow.ensures)
+returns c = followed c.if-end-text.false c.if-start-end.false c.if-states-end.false (own_states c.args.image.now.placed) c.follow.result c.follow.ensures

@@ -11,20 +11,17 @@ use Rattle.run_word.specs.Ends.{Noted}
 use Rattle.run_word.proofs.Laws.Bytes.{all_bytes}
 use Rattle.run_word.proofs.Laws.Cut.{take_bit}
 use Rattle.run_word.proofs.Laws.Stretch.{begun, noted_few}
-use Rattle.run.specs.Work.{masks_of, rule_masks, Whole}
-use Rattle.run.proofs.Laws.Backs.{whole_backs}
-use Rattle.run.proofs.Laws.Table.{close_wide, tabled_of, work_ends}
+use Rattle.run.specs.Work.{masks_of, rule_masks}
+use Rattle.run.proofs.Laws.Table.{close_wide, overs, tabled_of, work_ends}
 use Rattle.run.proofs.ends.find_words.Goals as goal
 
 pub run_over-ran-requires : goal.run_over-ran-requires
 run_over-ran-requires c =
     let m = c.of-masks in
     let small = c.requires.1 in
-    record {
-      many = c.requires.0;
-      limits = record { small = small; near = omega (arith, small); few = omega (arith, c.note-found.ensures.counted, noted_few c.is_live.result 0) };
-      whole = subst (Whole m.result.table) (sym m.ensures.deep) (whole_backs m.result.table c.args.image.now.placed m.ensures.tabled);
-    }
+    overs c.args.image.now.placed c.requires.0
+    (record { small = small; near = omega (arith, small); few = omega (arith, c.note-found.ensures.counted, noted_few c.is_live.result 0) })
+    m.ensures.deep m.ensures.tabled
 
 pub returns : goal.returns
 returns c =

@@ -1,5 +1,5 @@
 -- `go_on_words`: the loop with the table of work, from the words of a mask (`went`).
-use mathlib.Core.Path.{sym, subst}
+use mathlib.Core.Path.{subst}
 use Prim.Native.Nat.{ℕ, ◌-◌}
 use lib.ListN.{take}
 use native.Mathlib.Omega.{arith}
@@ -7,20 +7,13 @@ use Rattle.mask.proofs.Laws.Bits.{fit_row}
 use Rattle.image_sections.proofs.Laws.Within.{words_fit}
 use Rattle.run_word.specs.Ends.{RanOver}
 use Rattle.run_word.proofs.Laws.Bytes.{all_bytes}
-use Rattle.run.specs.Work.{rule_masks, Whole}
+use Rattle.run.specs.Work.{rule_masks}
 use Rattle.run.proofs.Image.Stretch.{went}
-use Rattle.run.proofs.Laws.Backs.{whole_backs}
-use Rattle.run.proofs.Laws.Table.{tabled_of}
+use Rattle.run.proofs.Laws.Table.{overs, tabled_of}
 use Rattle.run.proofs.ends.go_on_words.Goals as goal
 
 pub run_over-requires : goal.run_over-requires
-run_over-requires c =
-    let m = c.of in
-    record {
-      many = c.requires.1;
-      limits = c.requires.0.limits;
-      whole = subst (Whole m.result.table) (sym m.ensures.deep) (whole_backs m.result.table c.args.image.now.placed m.ensures.tabled);
-    }
+run_over-requires c = let m = c.of in overs c.args.image.now.placed c.requires.1 c.requires.0.limits m.ensures.deep m.ensures.tabled
 
 pub returns : goal.returns
 returns c = λ t I M.

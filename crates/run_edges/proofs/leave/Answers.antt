@@ -6,12 +6,12 @@ use Rattle.run_edges.specs.Reach.{leave_words}
 use Rattle.run_edges.proofs.Laws.Image.{leave_says}
 use Rattle.run_edges.proofs.Laws.Reached.{leave_whole}
 use borrow.Author.Rules.{rules}
-use Rattle.run_edges.proofs.Edges.leave.Goals as goal
+use Rattle.run_edges.proofs.leave.Goals as goal
 
 pub returns : goal.returns
 returns c =
     let a = c.args in
-    let ws = a.self.now.image.words.now in
+    let ws = a.image.now.words.now in
     let v = a.set.words in
     let l = c.letters-l in
     let p = c.repeats-p in

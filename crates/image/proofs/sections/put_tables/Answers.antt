@@ -1,6 +1,4 @@
--- `sections::put_tables`: the masks of each depth are written where those of the depth before it end.
-use mathlib.Core.Path.{refl}
-use Prim.Native.Nat.{◌*◌}
+-- `sections::put_tables`: the masks of each depth are written where those of the depth before it end. The count is searched for, however it is written.
 use native.Mathlib.Omega.{arith}
 use borrow.Author.Rules.{rules}
 use Rattle.image.proofs.Laws.Lengths.{masks_long}
@@ -19,4 +17,4 @@ loop-k-preserved g c = parts_more c.loop-k.invariant c.loop-k-test.true c.put_de
 pub returns : goal.returns
 returns g c =
     let a = c.args in
-    parts_all a.words.now a.at (g.row.N * a.width * a.depths) c.loop-k.invariant c.requires.2 refl (omega arith)
+    parts_all a.words.now a.at _ c.loop-k.invariant c.requires.2 (search rules) (omega arith)

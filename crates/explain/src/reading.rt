@@ -25,40 +25,41 @@ pub struct Unreadable {
 
 // What comes after the next blank of the line.
 fn past_blank(bytes: &[u8]) -> Option<&[u8]> {
-    let stop = bytes
-        .iter()
-        .position(|byte| *byte == b' ' || *byte == b'\n')?;
-    bytes[stop..].strip_prefix(b" ")
+    let mut rest = bytes.iter();
+    let stop = rest.find(|byte| **byte == b' ' || **byte == b'\n')?;
+    if *stop == b' ' {
+        Some(rest.as_slice())
+    } else {
+        None
+    }
 }
 
-// A million stands for every larger number: no place and no state is as large.
-fn value_of(digits: &[u8]) -> usize
+// One digit more. A million stands for every larger number: no place and no state is as large.
+fn with_digit(value: usize, digit: u8) -> usize
+    requires { value ≤ 1000000 }
     ensures { result ≤ 1000000 }
 {
-    let mut value: usize = 0;
-    for digit in digits {
-        let longer = value * 10 + usize::from(digit.wrapping_sub(b'0'));
-        value = longer.min(1000000);
-    }
-    value
+    let longer = value * 10 + usize::from(digit.wrapping_sub(b'0'));
+    longer.min(1000000)
 }
 
 // A line's rest: a word, a number and the line's end.
 pub fn read_line<'a>(bytes: &'a [u8], word: &[u8]) -> Option<Numbered<'a>>
     ensures { Small result }
 {
-    let first = bytes.strip_prefix(word)?;
-    let length = first
-        .iter()
-        .take_while(|byte| byte.is_ascii_digit())
-        .count();
-    let (digits, last) = first.split_at(length);
-    if digits.is_empty() {
-        return None;
+    let digits = bytes.strip_prefix(word)?;
+    let mut number = 0;
+    for (length, byte) in digits.iter().enumerate() {
+        if byte.is_ascii_digit() {
+            number = with_digit(number, *byte);
+        } else if length > 0 && *byte == b'\n' {
+            let rest = &digits[length + 1..];
+            return Some(Numbered { number, rest });
+        } else {
+            return None;
+        }
     }
-    let rest = last.strip_prefix(b"\n")?;
-    let number = value_of(digits);
-    Some(Numbered { number, rest })
+    None
 }
 
 // The state of a line, which is its last word; the place and the byte stand before it.

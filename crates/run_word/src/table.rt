@@ -27,17 +27,14 @@ fn entry(image: &Image, k: usize, j: usize) -> u64
     word
 }
 
-// The words of depths 0 to d, zeros after.
-fn table(image: &Image) -> [u64; 81]
+// The words of depths 0 to d into their places.
+fn put_table(table: &mut [u64; 81], image: &Image)
     requires { Single image.now.sections (length image.now.words.now) }
-    ensures { Entered image.now.words.now image.now.sections.depth result }
+    ensures { Entered image.now.words.now image.now.sections.depth table.new }
 {
-    let depth = image.sections.depth;
-    let mut r = [0u64; 81];
-    for i in 0..9 * (depth + 1) {
-        r[i] = entry(image, i / 9, i % 9);
+    for i in 0..9 * (image.sections.depth + 1) {
+        table[i] = entry(image, i / 9, i % 9);
     }
-    r
 }
 
 // Whether some depth has a chain.
@@ -53,32 +50,34 @@ fn any_chain(table: &[u64; 81], depth: usize) -> bool
     false
 }
 
-// Source and target of the back edges of each depth below d, zeros after.
-fn backs(image: &Image) -> [u64; 16]
+// Source and target of the back edges of each depth below d into theirs.
+fn put_backs(backs: &mut [u64; 16], image: &Image)
     requires { Single image.now.sections (length image.now.words.now) }
-    ensures { Backs image.now.words.now image.now.sections.depth result }
+    ensures { Backs image.now.words.now image.now.sections.depth backs.new }
 {
     let at = image.sections.back;
     let count = 2 * image.sections.depth;
-    let mut r = [0u64; 16];
-    r[..count].copy_from_slice(&image.words[at..at + count]);
-    r
+    backs[..count].copy_from_slice(&image.words[at..at + count]);
 }
 
-// The masks of work of an image.
+// The masks of work of an image. Unfolded where it is called, and filled where they lie: copied on their way they would cost a short stretch a fifth of its
+// time. Chains are said to be there until that has been asked.
+#[inline(always)]
 pub fn work_of(image: &Image) -> Work
     requires { Single image.now.sections (length image.now.words.now) }
     ensures { WorkOf image.now.words.now image.now.sections result }
 {
-    let depth = image.sections.depth;
-    let table = table(image);
-    Work {
-        depth,
+    let mut r = Work {
+        depth: image.sections.depth,
         last: image.sections.states - 1,
-        any: any_chain(&table, depth),
-        table,
-        backs: backs(image),
-    }
+        any: true,
+        table: [0; 81],
+        backs: [0; 16],
+    };
+    put_table(&mut r.table, image);
+    put_backs(&mut r.backs, image);
+    r.any = any_chain(&r.table, r.depth);
+    r
 }
 
 // Whether some depth has a back edge.

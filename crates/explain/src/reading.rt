@@ -25,13 +25,15 @@ pub struct Unreadable {
 
 // What comes after the next blank of the line.
 fn past_blank(bytes: &[u8]) -> Option<&[u8]> {
-    let mut rest = bytes.iter();
-    let stop = rest.find(|byte| **byte == b' ' || **byte == b'\n')?;
-    if *stop == b' ' {
-        Some(rest.as_slice())
-    } else {
-        None
+    for (at, byte) in bytes.iter().enumerate() {
+        if *byte == b' ' {
+            return Some(&bytes[at + 1..]);
+        }
+        if *byte == b'\n' {
+            return None;
+        }
     }
+    None
 }
 
 // One digit more. A million stands for every larger number: no place and no state is as large.

@@ -25,7 +25,7 @@
  *    byte of a rule, text or writing 1. An area to be written must not overlap any other. A pointer must be aligned for its type and must not be
  *    null, also where the length is 0. Nothing may change an area during a call.
  *  - Stack, in bytes, and in brackets the most that the tests have measured on x86-64 (docs/SPEED.md, "Stack"): build 1,048,576 (353,800), since the
- *    readers nest as deep as the rule's brackets may; read back 16,384 (13,300); match, begin and step 65,536 (25,600); check 65,536 (17,400);
+ *    readers nest as deep as the rule's brackets may; read back 16,384 (13,300); match, begin and step 65,536 (26,400); check 65,536 (17,400);
  *    propose 131,072 (85,200). Build may be left to the desk: a panel that gets images needs match alone, or begin and step.
  *  - memcpy, memmove and memset, which the compiler may call. Nothing else is called.
  *

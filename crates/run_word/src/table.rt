@@ -60,8 +60,8 @@ fn put_backs(backs: &mut [u64; 16], image: &Image)
     backs[..count].copy_from_slice(&image.words[at..at + count]);
 }
 
-// The masks of work of an image. Unfolded where it is called, and filled where they lie: copied on their way they would cost a short stretch a fifth of its
-// time. Chains are said to be there until that has been asked.
+// The masks of work of an image. Unfolded where it is called, and filled where they lie: copied on their way they cost a call some 600 instructions more.
+// Chains are said to be there until that has been asked.
 #[inline(always)]
 pub fn work_of(image: &Image) -> Work
     requires { Single image.now.sections (length image.now.words.now) }
